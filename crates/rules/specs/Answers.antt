@@ -1,0 +1,76 @@
+-- What each case of each answer says in 01's terms: number, low, high and count (01, "Refused, by number").
+-- Every contract speaks of its answer through these definitions.
+use mathlib.Core.Option.{Option, none, some}
+use Prim.Native.Nat.{ℕ, zero, suc}
+use Rattle.rules.specs.Rounding.{S}
+use Rattle.rules.specs.declared.Verdict.{Verdict}
+use Rattle.rules.specs.declared.Figures.{Figures}
+use Rattle.rules.specs.declared.Head.{Head}
+use Rattle.rules.specs.declared.Entry.{Entry}
+use Rattle.rules.specs.declared.Answer.{Answer}
+use Rattle.rules.specs.declared.RunAnswer.{RunAnswer}
+use Rattle.rules.specs.declared.ReadAnswer.{ReadAnswer}
+use Rattle.rules.specs.declared.CueAnswer.{CueAnswer}
+use Rattle.rules.specs.declared.WriteAnswer.{WriteAnswer}
+
+-- What every call hands back: the number (0 if accepted), an interval, and a count.
+pub record Reply : Type 0 where
+  pub number : ℕ
+  pub low : ℕ
+  pub high : ℕ
+  pub count : ℕ
+
+-- A refused call: nought to the full billion, count 0 and the number.
+abbrev pub refused : ℕ → Reply
+refused n = record { number = n; low = 0; high = S; count = 0 }
+
+-- An accepted call on a tree.
+abbrev pub accepted : Figures → Reply
+accepted f = record { number = 0; low = f .low; high = f .high; count = f .count }
+
+-- An accepted call on a sheet, which has no interval to tell: nought to the full billion says nothing.
+abbrev pub counted : ℕ → Reply
+counted n = record { number = 0; low = 0; high = S; count = n }
+
+-- An opening or a hand refinement.
+abbrev pub answerReply : Answer → Reply
+answerReply (Answer.Accepted f) = accepted f
+answerReply (Answer.Refused n) = refused n
+
+-- A run.
+abbrev pub runReply : RunAnswer → Reply
+runReply (RunAnswer.Ended v f) = accepted f
+runReply (RunAnswer.Refused n) = refused n
+
+-- A run's verdict; a refused run has none.
+abbrev pub runVerdict : RunAnswer → Option Verdict
+runVerdict (RunAnswer.Ended v f) = some v
+runVerdict (RunAnswer.Refused n) = none
+
+-- Reading a whole sheet: accepted, the count is 0.
+abbrev pub readReply : ReadAnswer → Reply
+readReply (ReadAnswer.Sheet h) = counted 0
+readReply (ReadAnswer.Refused n) = refused n
+
+-- A reader's call: the number is 0 for a cue and past the last.
+abbrev pub cueReply : CueAnswer → Reply
+cueReply (CueAnswer.Cue e) = counted 0
+cueReply CueAnswer.Past = counted 0
+cueReply (CueAnswer.Refused n) = refused n
+
+-- The cue that a reader's call hands over: refused or past the last, cue 0 with 0 ways.
+abbrev pub handedOver : CueAnswer → Entry
+handedOver (CueAnswer.Cue e) = e
+handedOver CueAnswer.Past = record { cue = 0; ways = 0; start = 0 }
+handedOver (CueAnswer.Refused n) = record { cue = 0; ways = 0; start = 0 }
+
+-- The reader's place after a call at place i: one further for a cue, else kept.
+abbrev pub placeAfter : ℕ → CueAnswer → ℕ
+placeAfter i (CueAnswer.Cue e) = suc i
+placeAfter i CueAnswer.Past = i
+placeAfter i (CueAnswer.Refused n) = i
+
+-- The writer: the count is the bytes written.
+abbrev pub writeReply : WriteAnswer → Reply
+writeReply (WriteAnswer.Written n) = counted n
+writeReply (WriteAnswer.Refused n) = refused n

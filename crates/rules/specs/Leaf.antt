@@ -1,0 +1,106 @@
+-- A leaf: its remaining ways and its interval (01, "A leaf and its interval"; 003, Definition 2 for the ways behind the low end).
+-- 01 departs from 003: ways are kept in number order, the high end is a plain sum, and every product is rounded.
+use mathlib.Core.Bool.{Bool, true, false, not, _&&_, _||_}
+use mathlib.Core.List.{List, [], _∷_}
+use Prim.Native.Nat.{ℕ, zero, suc, _+_, _-_, _*_, _/_, min}
+use lib.ListN.{length}
+use lib.Dec.{eqb, ltb, leb}
+use lib.Bits.{bitAnd, bitOr}
+use Rattle.rules.specs.Rounding.{S, Dir, down, up, flip, over}
+use Rattle.rules.specs.Table.{odd, bit, Way, faults}
+
+-- A test that some way of a list passes.
+unfoldable pub any : (Way → Bool) → List Way → Bool
+any f [] = false
+any f (v ∷ vs) = f v || any f vs
+
+-- A fixed fault contradicts the way: fixed present and named absent, or fixed absent and named present.
+abbrev pub contradicted : ℕ → ℕ → Way → Bool
+contradicted present absent v = not (eqb (bitOr (bitAnd (v .present) absent) (bitAnd (v .absent) present)) 0)
+
+-- A word without the faults of another.
+abbrev pub without : ℕ → ℕ → ℕ
+without m w = w - bitAnd w m
+
+-- A way with some faults dropped.
+abbrev pub dropped : ℕ → Way → Way
+dropped m v = record { number = v .number; present = without m (v .present); absent = without m (v .absent) }
+
+-- The remaining ways of a set: those that no fixed fault contradicts, with the fixed faults dropped.
+unfoldable pub remaining : ℕ → ℕ → List Way → List Way
+remaining present absent [] = []
+remaining present absent (v ∷ vs) =
+    elim (contradicted present absent v) as (λ b. List Way)
+    [ true ↦ remaining present absent vs | false ↦ dropped (bitOr present absent) v ∷ remaining present absent vs ]
+
+-- One fault of weight w in a way's chance: named present it counts w, named absent S less w, not named it does not count.
+abbrev pub step : Dir → ℕ → Bool → Bool → ℕ → ℕ
+step d w true absent c = over d (c * w)
+step d w false true c = over d (c * (S - w))
+step d w false false c = c
+
+-- The faults from the lowest number on, each multiplied in and rounded.
+abbrev pub chanceFrom : Dir → List ℕ → ℕ → ℕ → ℕ → ℕ
+chanceFrom d [] p q c = c
+chanceFrom d (w ∷ ws) p q c = chanceFrom d ws (p / 2) (q / 2) (step d w (odd p) (odd q) c)
+
+-- A way's low chance (down) or high chance (up).
+abbrev pub chance : Dir → List ℕ → Way → ℕ
+chance d ws v = chanceFrom d ws (v .present) (v .absent) S
+
+-- Two ways name a common fault, each in either sense.
+abbrev pub shares : Way → Way → Bool
+shares v u = not (eqb (bitAnd (faults v) (faults u)) 0)
+
+-- A way shares a fault with one of a list.
+abbrev pub sharesAny : Way → List Way → Bool
+sharesAny v [] = false
+sharesAny v (u ∷ us) = shares v u || sharesAny v us
+
+-- The ways that are kept of a list, in number order, where `before` are the ways kept already.
+abbrev pub keep : List Way → List Way → List Way
+keep before [] = []
+keep before (v ∷ vs) = elim (sharesAny v before) as (λ b. List Way) [ true ↦ keep before vs | false ↦ v ∷ keep (v ∷ before) vs ]
+
+-- The kept ways: a maximal set of pairwise independent clauses (003, Definition 2), taken greedily in number order.
+abbrev pub kept : List Way → List Way
+kept vs = keep [] vs
+
+-- Either of two independent events: S less the product of what is left of S, which is rounded the other way.
+abbrev pub either : Dir → ℕ → ℕ → ℕ
+either d x y = S - over (flip d) ((S - x) * (S - y))
+
+-- The low chances of ways, taken one after the other as independent events.
+abbrev pub eitherAll : List ℕ → List Way → ℕ → ℕ
+eitherAll ws [] a = a
+eitherAll ws (v ∷ vs) a = eitherAll ws vs (either down a (chance down ws v))
+
+-- Leaf low: the kept ways as independent events, beginning with 0.
+abbrev pub leafLow : List ℕ → List Way → ℕ
+leafLow ws vs = eitherAll ws (kept vs) 0
+
+-- The sum of the high chances.
+abbrev pub chances : List ℕ → List Way → ℕ
+chances ws [] = 0
+chances ws (v ∷ vs) = chance up ws v + chances ws vs
+
+-- Leaf high: the sum of the high chances, or S if that is less.
+abbrev pub leafHigh : List ℕ → List Way → ℕ
+leafHigh ws vs = min S (chances ws vs)
+
+-- The low or the high end of a leaf's interval.
+abbrev pub leafEnd : Dir → List ℕ → List Way → ℕ
+leafEnd down ws vs = leafLow ws vs
+leafEnd up ws vs = leafHigh ws vs
+
+-- A leaf's own width.
+abbrev pub leafWidth : List ℕ → List Way → ℕ
+leafWidth ws vs = leafHigh ws vs - leafLow ws vs
+
+-- A way that names no fault.
+abbrev pub isEmpty : Way → Bool
+isEmpty v = eqb (faults v) 0
+
+-- A leaf is open: two or more remaining ways, none of them empty, and low below high. Otherwise it is closed.
+unfoldable pub isOpen : List ℕ → List Way → Bool
+isOpen ws vs = leb 2 (length vs) && (not (any isEmpty vs) && ltb (leafLow ws vs) (leafHigh ws vs))

@@ -1,0 +1,11 @@
+-- Document 01 as definitions, in its order. proofs/ has the theorems about them.
+pub mod Rounding
+pub mod Table
+pub mod Leaf
+pub mod Group
+pub mod Tree
+pub mod Run
+pub mod Refusals
+pub mod Answers
+pub mod Calls
+pub mod Sheet

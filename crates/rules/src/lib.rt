@@ -1,0 +1,75 @@
+//! The types that the rules and the code share: what a refinement does, a run's limits and verdict, the answer of each call.
+//! specs/ has document 01's definitions over these types, proofs/ the theorems about them. No code stands here.
+
+/// What a refinement does at a leaf, and so the kind of the inner node that it makes (003, Definition 6).
+/// `IndependentOr` is 01's "by independence"; `Shannon` is 01's "by a fault": the Shannon expansion on that fault.
+pub enum Kind {
+    IndependentOr,
+    Shannon(u32),
+}
+
+/// Why a run stopped, in the order in which the reasons are tried.
+pub enum Verdict {
+    Met,
+    Done,
+    Full,
+    Spent,
+}
+
+/// What a run is asked for: the allowance, an absolute error in billionths, and the most refinements it may make.
+pub struct Limits {
+    pub allowance: u32,
+    pub budget: u16,
+}
+
+/// What an accepted call on a tree hands back: the interval at the root and the refinements made.
+pub struct Figures {
+    pub low: u64,
+    pub high: u64,
+    pub count: u64,
+}
+
+/// The answer of an opening or a hand refinement.
+pub enum Answer {
+    Accepted(Figures),
+    Refused(u8),
+}
+
+/// The answer of a run.
+pub enum RunAnswer {
+    Ended(Verdict, Figures),
+    Refused(u8),
+}
+
+/// The head of a sheet: how many faults and cues it has, and the limits of its runs.
+pub struct Head {
+    pub faults: u16,
+    pub cues: u16,
+    pub limits: Limits,
+}
+
+/// The answer of reading a whole sheet.
+pub enum ReadAnswer {
+    Sheet(Head),
+    Refused(u8),
+}
+
+/// One cue as the contents list it: its number, its ways, and where its body starts.
+pub struct Entry {
+    pub cue: u16,
+    pub ways: u16,
+    pub start: u32,
+}
+
+/// The answer of a reader's call.
+pub enum CueAnswer {
+    Cue(Entry),
+    Past,
+    Refused(u8),
+}
+
+/// The answer of the writer: the bytes written.
+pub enum WriteAnswer {
+    Written(u64),
+    Refused(u8),
+}
