@@ -13,7 +13,7 @@ use lib.Bits.{bitAnd, bitOr, and-step, or-step, and-le-l}
 use borrow.Author.Tests.{eqb-true, eqb-false, eq-eqb, ne-eqb}
 use Rattle.rules.specs.Table.{odd, bit}
 use Rattle.rules.specs.Leaf.{without}
-use Rattle.rules.proofs.Booleans.{and-second, is-true, is-false}
+use Rattle.rules.proofs.Booleans.{and-second, or-left, or-right}
 
 -- ---- one digit
 
@@ -122,6 +122,13 @@ bits-ext = bin-ind (λ x. (y : ℕ) → ((i : ℕ) → bit i x ≡ bit i y) → 
   where
     step : (n : ℕ) → ((y : ℕ) → ((i : ℕ) → bit i (n / 2) ≡ bit i y) → n / 2 ≡ y) → (y : ℕ) → ((i : ℕ) → bit i n ≡ bit i y) → n ≡ y
     step n ih y h = omega (arith, ih (y / 2) (λ i. h (suc i)), digit-eq (n % 2) (y % 2) (omega arith) (omega arith) (h 0))
+
+-- Two words that together have no bit are both 0.
+pub or-zero : (x y : ℕ) → bitOr x y ≡ 0 → (x ≡ 0) × (y ≡ 0)
+or-zero x y e = (bits-zero x (λ i. or-left (bit i x) (bit i y) (off i)), bits-zero y (λ i. or-right (bit i x) (bit i y) (off i)))
+  where
+    off : (i : ℕ) → bit i x || bit i y ≡ false
+    off i = sym (bit-or i x y) ∙ ap (bit i) e ∙ bit-zero i
 
 -- ---- tests for zero, by the bits
 

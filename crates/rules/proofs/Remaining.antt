@@ -13,7 +13,7 @@ use Rattle.rules.specs.Table.{odd, bit, Way, faults, Assignment, fits, f
 use Rattle.rules.specs.Leaf.{any, contradicted, without, dropped, remaining}
 use Rattle.rules.specs.Tree.{occurs}
 use Rattle.rules.proofs.Booleans.{and-false, and-true, or-left, or-neither, is-true, is-false, any-head, any-tail, any-cons}
-use Rattle.rules.proofs.Bits.{bit-and, bit-or, bit-without, bit-pow, bit-zero, bit-nonzero, bits-zero, bits-ext, without-half, apart-bit}
+use Rattle.rules.proofs.Bits.{bit-and, bit-or, bit-without, bit-pow, bit-zero, bit-nonzero, bits-zero, bits-ext, or-zero, without-half, apart-bit}
 
 -- ---- tests that survive
 
@@ -162,8 +162,8 @@ fix-absent f =
 
 -- ---- fixing more faults
 
-either-zero : (x y : ℕ) → not (eqb (bitOr x y) 0) ≡ not (eqb x 0) || not (eqb y 0)
-either-zero x y = go (eqb x 0) refl (eqb y 0) refl
+meets-either : (x y : ℕ) → not (eqb (bitOr x y) 0) ≡ not (eqb x 0) || not (eqb y 0)
+meets-either x y = go (eqb x 0) refl (eqb y 0) refl
   where
     go : (b : Bool) → eqb x 0 ≡ b → (c : Bool) → eqb y 0 ≡ c → not (eqb (bitOr x y) 0) ≡ not b || not c
     go true e true d = ap (λ (k : ℕ). not (eqb k 0)) (ap₂ bitOr (eqb-true x 0 e) (eqb-true y 0 d))
@@ -175,9 +175,7 @@ either-zero x y = go (eqb x 0) refl (eqb y 0) refl
         zero-test false h = sym h
 
         none : not (eqb (bitOr x y) 0) ≡ false → x ≡ 0
-        none z =
-            bits-zero x
-            (λ i. or-left (bit i x) (bit i y) (sym (bit-or i x y) ∙ ap (bit i) (eqb-true (bitOr x y) 0 (zero-test (eqb (bitOr x y) 0) z)) ∙ bit-zero i))
+        none z = or-zero x y (eqb-true (bitOr x y) 0 (zero-test (eqb (bitOr x y) 0) z)) .0
 
 -- The faults by which fixed faults contradict a way.
 abbrev clash : ℕ → ℕ → Way → ℕ
@@ -185,7 +183,7 @@ clash P A v = bitOr (bitAnd (v .present) A) (bitAnd (v .absent) P)
 
 contradicted-join : (P A P′ A′ : ℕ) (v : Way) → contradicted (bitOr P P′) (bitOr A A′) v ≡ contradicted P A v || contradicted P′ A′ v
 contradicted-join P A P′ A′ v =
-    ap (λ (k : ℕ). not (eqb k 0)) (bits-ext (clash (bitOr P P′) (bitOr A A′) v) (bitOr (clash P A v) (clash P′ A′ v)) at) ∙ either-zero (clash P A v) (clash P′ A′ v)
+    ap (λ (k : ℕ). not (eqb k 0)) (bits-ext (clash (bitOr P P′) (bitOr A A′) v) (bitOr (clash P A v) (clash P′ A′ v)) at) ∙ meets-either (clash P A v) (clash P′ A′ v)
   where
     shuffle : (p q a a′ b b′ : Bool) → (p && (a || a′)) || (q && (b || b′)) ≡ ((p && a) || (q && b)) || ((p && a′) || (q && b′))
     shuffle true q true a′ b b′ = refl

@@ -7,6 +7,8 @@ use lib.ListN.{length}
 use lib.Dec.{eqb}
 use lib.Bits.{bitOr}
 use Rattle.rules.specs.Rounding.{S}
+-- A way: its number, and the words of the faults that it names present and absent.
+pub use Rattle.rules.specs.declared.Way.{Way}
 
 -- Bit 0 of a word is set.
 abbrev pub odd : ℕ → Bool
@@ -16,12 +18,6 @@ odd w = eqb (w % 2) 1
 abbrev pub bit : ℕ → ℕ → Bool
 bit zero w = odd w
 bit (suc i) w = bit i (w / 2)
-
--- A way, the standard term is clause: its number, the word of the faults that it names present, and that of those it names absent.
-pub record Way : Type 0 where
-  pub number : ℕ
-  pub present : ℕ
-  pub absent : ℕ
 
 -- A table as it is handed over: a weight for each fault, a present and an absent word for each way.
 pub record Table : Type 0 where

@@ -114,6 +114,30 @@ tree ns = grow leaf ns
 
 -- ---- what stands at a place
 
+-- The tree has this place.
+unfoldable pub hasAt : Place → DTree → Bool
+hasAt [] s = true
+hasAt (b ∷ p) leaf = false
+hasAt (left ∷ p) (inner k l r) = hasAt p l
+hasAt (right ∷ p) (inner k l r) = hasAt p r
+
+-- There is a leaf at this place.
+unfoldable pub leafAt : Place → DTree → Bool
+leafAt [] leaf = true
+leafAt [] (inner k l r) = false
+leafAt (b ∷ p) leaf = false
+leafAt (left ∷ p) (inner k l r) = leafAt p l
+leafAt (right ∷ p) (inner k l r) = leafAt p r
+
+-- The first place lies on the path to the second, or is the second.
+unfoldable pub onPath : Place → Place → Bool
+onPath [] p = true
+onPath (b ∷ q) [] = false
+onPath (left ∷ q) (left ∷ p) = onPath q p
+onPath (left ∷ q) (right ∷ p) = false
+onPath (right ∷ q) (left ∷ p) = false
+onPath (right ∷ q) (right ∷ p) = onPath q p
+
 -- What was done at a place, if it was refined.
 unfoldable pub kindAt : Place → DTree → Option Kind
 kindAt [] leaf = none

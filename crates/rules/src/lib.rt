@@ -1,6 +1,13 @@
 //! The types that the rules and the code share: what a refinement does, a run's limits and verdict, the answer of each call.
 //! specs/ has document 01's definitions over these types, proofs/ the theorems about them. No code stands here.
 
+/// A way, the standard term is clause: its number, the word of the faults that it names present and that of those it names absent.
+pub struct Way {
+    pub number: usize,
+    pub present: u64,
+    pub absent: u64,
+}
+
 /// What a refinement does at a leaf, and so the kind of the inner node that it makes (003, Definition 6).
 /// `IndependentOr` is 01's "by independence"; `Shannon` is 01's "by a fault": the Shannon expansion on that fault.
 pub enum Kind {

@@ -1,0 +1,151 @@
+-- ENCLOSURE: the interval at every place of every tree that a series of acceptable refinements grows encloses the exact sum of that place.
+-- By induction over the tree, from the leaf's bound and the laws of each kind (KindLaws.antt).
+use mathlib.Core.Path.{_≡_, refl, sym, ap, ap₂, _∙_, subst}
+use mathlib.Core.Bool.{Bool, true, false, not, _&&_, _||_, true≢false}
+use mathlib.Core.List.{List, [], _∷_}
+use mathlib.Core.Option.{Option, none, some, Option·some-injective, Option·none-ne-some}
+use Prim.Native.Nat.{ℕ, zero, suc, _+_, _-_, _*_, _^_, _≤_, _<_, min, max}
+use native.Mathlib.Nat.{le-trans, le-of-mul-le-mul-right}
+use native.Mathlib.Omega.{arith}
+use lib.ListN.{length}
+use lib.Dec.{eqb, leb}
+use lib.Bits.{bitAnd}
+use borrow.Author.Tests.{eqb-true, leb-false, lt-leb}
+use Rattle.rules.specs.Rounding.{S, Dir, down, up, Le}
+use Rattle.rules.specs.Table.{bit, Way, Table, ways, faults, Assignment, fitsAll, satisfies, happens, weigh, exact, Encloses}
+use Rattle.rules.specs.Leaf.{any, without, dropped, isEmpty, isOpen, leafEnd}
+use Rattle.rules.specs.Tree.{Side, left, right, Place, DTree, leaf, inner, possible, child, combine, overlap, end, low, high, Refinement, tree, Node, Subtree, childNode, descend, subtree, root, interval, intervalAt, series}
+use Rattle.rules.specs.Refusals.{namesBeyond, namesBoth, Accepted}
+use Rattle.rules.specs.declared.Kind.{Kind}
+use Rattle.rules.proofs.Booleans.{and-left, or-left, or-right, or-neither, or-first, or-second, or-cases}
+use Rattle.rules.proofs.Bits.{bit-without, or-zero, apart-bit, apart-test}
+use Rattle.rules.proofs.Sum.{expect, mass, Weights, total, mass-never, mass-weigh, mass-cong, pow-S-pos}
+use Rattle.rules.proofs.Rounding.{overlap-bound}
+use Rattle.rules.proofs.LeafEnds.{leaf-bound, leaf-le}
+use Rattle.rules.proofs.KindLaws.{Laws, laws, Stable}
+use Rattle.rules.proofs.Series.{Sound, series-sound}
+use Rattle.rules.proofs.Accepted.{inside, one-sense, weights-fit}
+
+-- ---- 12 and 13 hold at every place
+
+-- Dropping faults brings no fault beyond the table's.
+beyond-stable : (n : ℕ) → Stable (λ v. leb (2 ^ n) (v .present) || leb (2 ^ n) (v .absent))
+beyond-stable n m v h =
+    or-neither _ _ (less (v .present) (or-left (leb (2 ^ n) (v .present)) _ h)) (less (v .absent) (or-right (leb (2 ^ n) (v .present)) _ h))
+  where
+    less : (w : ℕ) → leb (2 ^ n) w ≡ false → leb (2 ^ n) (without m w) ≡ false
+    less w e = lt-leb (2 ^ n) (without m w) (omega (arith, leb-false (2 ^ n) w e))
+
+-- Nor one in both senses.
+both-stable : Stable (λ v. not (eqb (bitAnd (v .present) (v .absent)) 0))
+both-stable m v h =
+    apart-test (without m (v .present)) (without m (v .absent))
+    (λ i b. bit-without i m (v .absent) ∙ gone (bit i (v .absent)) (not (bit i m)) (apart-bit (v .present) (v .absent) i h (and-left (bit i (v .present)) (not (bit i m)) (sym (bit-without i m (v .present)) ∙ b))))
+  where
+    gone : (x y : Bool) → x ≡ false → x && y ≡ false
+    gone true y e = absurd (true≢false e)
+    gone false y e = refl
+
+pub child-inside : (k : Kind) (n : ℕ) (b : Side) (vs : List Way) → namesBeyond n vs ≡ false → namesBeyond n (child k b vs) ≡ false
+unfolding namesBeyond
+child-inside k n b vs h = laws k .keeps _ (beyond-stable n) b vs h
+
+pub child-one-sense : (k : Kind) (b : Side) (vs : List Way) → namesBoth vs ≡ false → namesBoth (child k b vs) ≡ false
+unfolding namesBoth
+child-one-sense k b vs h = laws k .keeps _ both-stable b vs h
+
+-- ---- one end, over all trees
+
+-- A low or a high end bounds the exact sum on its side, whatever the tree.
+pub end-bound : (d : Dir) (ws : List ℕ) → Weights ws → (vs : List Way) → namesBeyond (length ws) vs ≡ false → namesBoth vs ≡ false
+    → (s : DTree) → Sound ws vs s → Le d (end d ws vs s * S ^ length ws) (S * mass ws (happens vs))
+unfolding end Sound
+end-bound d ws k vs f c leaf o = leaf-bound d ws k vs c
+end-bound d ws k vs f c (inner j l r) o =
+    overlap-bound d (leafEnd d ws vs) _ (S ^ length ws) (S * mass ws (happens vs)) (leaf-bound d ws k vs c)
+    (laws j .bound d ws k vs f (o .1) (end d ws (child j left vs) l) (end d ws (child j right vs) r)
+    (end-bound d ws k (child j left vs) (child-inside j (length ws) left vs f) (child-one-sense j left vs c) l (o .2))
+    (end-bound d ws k (child j right vs) (child-inside j (length ws) right vs f) (child-one-sense j right vs c) r (o .3)))
+
+-- A high end is at most S.
+pub end-le : (ws : List ℕ) (vs : List Way) (s : DTree) → end up ws vs s ≤ S
+unfolding end
+end-le ws vs leaf = leaf-le up ws vs
+end-le ws vs (inner k l r) = least (leafEnd up ws vs) _ (leaf-le up ws vs)
+  where
+    least : (x y : ℕ) → x ≤ S → min x y ≤ S
+    least x y h = omega arith
+
+-- The two ends enclose, and stand in order.
+pub tree-encloses : (ws : List ℕ) → Weights ws → (vs : List Way) → namesBeyond (length ws) vs ≡ false → namesBoth vs ≡ false
+    → (s : DTree) → Sound ws vs s → Encloses ws vs (end down ws vs s) (end up ws vs s)
+tree-encloses ws k vs f c s o =
+    record
+    { below = rw (← mass-weigh ws (happens vs)) (end-bound down ws k vs f c s o)
+    ; above = rw (← mass-weigh ws (happens vs)) (end-bound up ws k vs f c s o) }
+
+-- Whatever encloses is in order.
+pub enclosing-order : (ws : List ℕ) (vs : List Way) (lo hi : ℕ) → Encloses ws vs lo hi → lo ≤ hi
+enclosing-order ws vs lo hi e = le-of-mul-le-mul-right (le-trans (e .below) (e .above)) (pow-S-pos (length ws))
+
+-- ---- at every place
+
+-- The interval of what stands somewhere: it encloses, low ≤ high, and high is at most S.
+pub record Certain (ws : List ℕ) (x : Subtree) : Type 0 where
+  pub encloses : Encloses ws (x .node .ways) (interval ws x .low) (interval ws x .high)
+  pub ordered : interval ws x .low ≤ interval ws x .high
+  pub bounded : interval ws x .high ≤ S
+
+certain : (ws : List ℕ) → Weights ws → (x : Subtree) → namesBeyond (length ws) (x .node .ways) ≡ false → namesBoth (x .node .ways) ≡ false
+    → Sound ws (x .node .ways) (x .below) → Certain ws x
+certain ws k x f c o =
+    let e = tree-encloses ws k (x .node .ways) f c (x .below) o in
+    record { encloses = e; ordered = enclosing-order ws (x .node .ways) _ _ e; bounded = end-le ws (x .node .ways) (x .below) }
+
+certain-below : (ws : List ℕ) → Weights ws → (p : Place) (x : Node) (s : DTree) (y : Subtree) → namesBeyond (length ws) (x .ways) ≡ false → namesBoth (x .ways) ≡ false
+    → Sound ws (x .ways) s → descend p x s ≡ some y → Certain ws y
+unfolding descend Sound
+certain-below ws k [] x s y f c o e = subst (Certain ws) (Option·some-injective _ y e) (certain ws k (record { node = x; below = s }) f c o)
+certain-below ws k (b ∷ p) x leaf y f c o e = absurd (Option·none-ne-some _ e)
+certain-below ws k (left ∷ p) x (inner j l r) y f c o e =
+    certain-below ws k p (childNode j left x) l y (child-inside j (length ws) left (x .ways) f) (child-one-sense j left (x .ways) c) (o .2) e
+certain-below ws k (right ∷ p) x (inner j l r) y f c o e =
+    certain-below ws k p (childNode j right x) r y (child-inside j (length ws) right (x .ways) f) (child-one-sense j right (x .ways) c) (o .3) e
+
+-- ENCLOSURE: an accepted table, a series of acceptable refinements, any place of the tree.
+pub enclosure : (t : Table) → Accepted t → (ns : List Refinement) → series t ns ≡ true → (p : Place) (x : Subtree) → subtree t p (tree ns) ≡ some x → Certain (t .weights) x
+unfolding subtree
+enclosure t ok ns h p x e =
+    certain-below (t .weights) (weights-fit t ok) p (root t) (tree ns) x (inside t ok) (one-sense t ok) (series-sound t ns h) e
+
+-- At the root, over the table's own ways.
+pub root-encloses : (t : Table) → Accepted t → (ns : List Refinement) → series t ns ≡ true → Encloses (t .weights) (ways t) (low t (tree ns)) (high t (tree ns))
+unfolding low high
+root-encloses t ok ns h = tree-encloses (t .weights) (weights-fit t ok) (ways t) (inside t ok) (one-sense t ok) (tree ns) (series-sound t ns h)
+
+-- ---- the two simplest sums
+
+-- Without ways the exact sum is 0.
+pub exact-never : (ws : List ℕ) → exact ws [] ≡ 0
+exact-never ws = sym (mass-weigh ws (happens [])) ∙ mass-never ws
+
+nothing-asked : (a : Assignment) → fitsAll 0 0 a ≡ true
+nothing-asked [] = refl
+nothing-asked (b ∷ a) = nothing-asked a
+
+-- An empty way always happens.
+empty-satisfied : (v : Way) (a : Assignment) → isEmpty v ≡ true → satisfies v a ≡ true
+empty-satisfied v a h =
+    let z = or-zero (v .present) (v .absent) (eqb-true (faults v) 0 h) in
+    ap₂ (λ (p q : ℕ). fitsAll p q a) (z .0) (z .1) ∙ nothing-asked a
+
+empty-happens : (vs : List Way) (a : Assignment) → any isEmpty vs ≡ true → happens vs a ≡ true
+unfolding any
+empty-happens [] a h = absurd (true≢false (sym h))
+empty-happens (v ∷ vs) a h =
+    or-cases (isEmpty v) (any isEmpty vs) (λ e. or-first (satisfies v a) (happens vs a) (empty-satisfied v a e))
+    (λ e. or-second (satisfies v a) (happens vs a) (empty-happens vs a e)) h
+
+-- With an empty way it is S ^ n.
+pub exact-always : (ws : List ℕ) → Weights ws → (vs : List Way) → any isEmpty vs ≡ true → exact ws vs ≡ S ^ length ws
+exact-always ws k vs h = sym (mass-weigh ws (happens vs)) ∙ mass-cong ws (happens vs) (λ a. true) (λ a e. empty-happens vs a h) ∙ total ws k

@@ -1,0 +1,163 @@
+-- Trees and their places: what one refinement changes, and what it leaves as it was.
+-- Nothing here knows of ways or intervals, but for what stands at a place. Rests on specs/Tree.antt alone.
+use mathlib.Core.Path.{_≡_, refl, sym, ap, ap₂, _∙_, subst}
+use mathlib.Core.Bool.{Bool, true, false, true≢false}
+use mathlib.Core.List.{List, [], _∷_, _++_}
+use mathlib.Core.Option.{Option, none, some, Option·some-injective, Option·none-ne-some}
+use mathlib.Core.Logic.{_⊎_, inl, inr}
+use Prim.Native.Nat.{ℕ, zero, suc, _+_, _≤_, _<_}
+use native.Mathlib.Omega.{arith}
+use lib.ListN.{length}
+use Rattle.rules.specs.Table.{Way}
+use Rattle.rules.specs.Tree.{Side, left, right, Place, DTree, leaf, inner, child, refineAt, inners, nodes, hasAt, leafAt, onPath, kindAt, leafWays, Node, Subtree, childNode, descend}
+use Rattle.rules.specs.declared.Kind.{Kind}
+
+-- ---- two trees with the same done at each place are one
+
+pub tree-ext : (s s′ : DTree) → ((p : Place) → kindAt p s ≡ kindAt p s′) → s ≡ s′
+unfolding kindAt
+tree-ext leaf leaf h = refl
+tree-ext leaf (inner k l r) h = absurd (Option·none-ne-some _ (h []))
+tree-ext (inner k l r) leaf h = absurd (Option·none-ne-some _ (sym (h [])))
+tree-ext (inner k l r) (inner j l′ r′) h =
+    ap (λ (i : Kind). inner i l r) (Option·some-injective k j (h []))
+    ∙ ap₂ (inner j) (tree-ext l l′ (λ p. h (left ∷ p))) (tree-ext r r′ (λ p. h (right ∷ p)))
+
+-- ---- where there is a leaf, nothing has been done, and its ways are known
+
+pub leaf-undone : (p : Place) (s : DTree) → leafAt p s ≡ true → kindAt p s ≡ none
+unfolding leafAt kindAt
+leaf-undone [] leaf h = refl
+leaf-undone [] (inner k l r) h = absurd (true≢false (sym h))
+leaf-undone (b ∷ p) leaf h = refl
+leaf-undone (left ∷ p) (inner k l r) h = leaf-undone p l h
+leaf-undone (right ∷ p) (inner k l r) h = leaf-undone p r h
+
+pub ways-leaf : (p : Place) (vs : List Way) (s : DTree) (us : List Way) → leafWays p vs s ≡ some us → leafAt p s ≡ true
+unfolding leafWays leafAt
+ways-leaf [] vs leaf us h = refl
+ways-leaf [] vs (inner k l r) us h = absurd (Option·none-ne-some _ h)
+ways-leaf (b ∷ p) vs leaf us h = absurd (Option·none-ne-some _ h)
+ways-leaf (left ∷ p) vs (inner k l r) us h = ways-leaf p (child k left vs) l us h
+ways-leaf (right ∷ p) vs (inner k l r) us h = ways-leaf p (child k right vs) r us h
+
+-- ---- what a refinement makes
+
+-- At its place stands an inner node of its kind.
+pub refined-kind : (p : Place) (k : Kind) (s : DTree) → leafAt p s ≡ true → kindAt p (refineAt p k s) ≡ some k
+unfolding kindAt refineAt leafAt
+refined-kind [] k leaf h = refl
+refined-kind [] k (inner j l r) h = absurd (true≢false (sym h))
+refined-kind (b ∷ p) k leaf h = absurd (true≢false (sym h))
+refined-kind (left ∷ p) k (inner j l r) h = refined-kind p k l h
+refined-kind (right ∷ p) k (inner j l r) h = refined-kind p k r h
+
+-- With its two leaves.
+pub refined-leaves : (p : Place) (b : Side) (k : Kind) (s : DTree) → leafAt p s ≡ true → leafAt (p ++ (b ∷ [])) (refineAt p k s) ≡ true
+unfolding refineAt leafAt
+refined-leaves [] left k leaf h = refl
+refined-leaves [] right k leaf h = refl
+refined-leaves [] b k (inner j l r) h = absurd (true≢false (sym h))
+refined-leaves (c ∷ p) b k leaf h = absurd (true≢false (sym h))
+refined-leaves (left ∷ p) b k (inner j l r) h = refined-leaves p b k l h
+refined-leaves (right ∷ p) b k (inner j l r) h = refined-leaves p b k r h
+
+-- The tree gains one inner node.
+pub refined-inners : (p : Place) (k : Kind) (s : DTree) → leafAt p s ≡ true → inners (refineAt p k s) ≡ suc (inners s)
+unfolding refineAt leafAt inners
+refined-inners [] k leaf h = refl
+refined-inners [] k (inner j l r) h = absurd (true≢false (sym h))
+refined-inners (b ∷ p) k leaf h = absurd (true≢false (sym h))
+refined-inners (left ∷ p) k (inner j l r) h = omega (arith, refined-inners p k l h)
+refined-inners (right ∷ p) k (inner j l r) h = omega (arith, refined-inners p k r h)
+
+-- A tree has one leaf more than it has inner nodes.
+pub nodes-inners : (s : DTree) → nodes s ≡ suc (inners s + inners s)
+unfolding nodes inners
+nodes-inners leaf = refl
+nodes-inners (inner k l r) = omega (arith, nodes-inners l, nodes-inners r)
+
+-- ---- what was done before stays, and only the one refinement is added
+
+pub done-stays : (q p : Place) (k j : Kind) (s : DTree) → kindAt q s ≡ some j → kindAt q (refineAt p k s) ≡ some j
+unfolding kindAt refineAt
+done-stays [] p k j leaf h = absurd (Option·none-ne-some _ h)
+done-stays (c ∷ q) p k j leaf h = absurd (Option·none-ne-some _ h)
+done-stays q [] k j (inner i l r) h = h
+done-stays [] (left ∷ p) k j (inner i l r) h = h
+done-stays [] (right ∷ p) k j (inner i l r) h = h
+done-stays (left ∷ q) (left ∷ p) k j (inner i l r) h = done-stays q p k j l h
+done-stays (right ∷ q) (left ∷ p) k j (inner i l r) h = h
+done-stays (left ∷ q) (right ∷ p) k j (inner i l r) h = h
+done-stays (right ∷ q) (right ∷ p) k j (inner i l r) h = done-stays q p k j r h
+
+-- The refinement at hand, seen from one level up.
+lift-here : (c : Side) (q p : Place) (k j : Kind) (o : Option Kind) → (o ≡ some j) ⊎ ((q ≡ p) × (j ≡ k)) → (o ≡ some j) ⊎ ((c ∷ q ≡ c ∷ p) × (j ≡ k))
+lift-here c q p k j o (inl e) = inl e
+lift-here c q p k j o (inr e) = inr (ap (λ (r : Place). c ∷ r) (e .0), e .1)
+
+bare-children : (c : Side) (q : Place) (k : Kind) → kindAt (c ∷ q) (inner k leaf leaf) ≡ none
+unfolding kindAt
+bare-children left [] k = refl
+bare-children left (b ∷ q) k = refl
+bare-children right [] k = refl
+bare-children right (b ∷ q) k = refl
+
+pub done-only : (q p : Place) (k j : Kind) (s : DTree) → kindAt q (refineAt p k s) ≡ some j → (kindAt q s ≡ some j) ⊎ ((q ≡ p) × (j ≡ k))
+unfolding kindAt refineAt
+done-only [] [] k j leaf h = inr (refl, Option·some-injective j k (sym h))
+done-only (c ∷ q) [] k j leaf h = absurd (Option·none-ne-some _ (sym (bare-children c q k) ∙ h))
+done-only [] (c ∷ p) k j leaf h = inl h
+done-only (d ∷ q) (c ∷ p) k j leaf h = inl h
+done-only q [] k j (inner i l r) h = inl h
+done-only [] (left ∷ p) k j (inner i l r) h = inl h
+done-only [] (right ∷ p) k j (inner i l r) h = inl h
+done-only (left ∷ q) (left ∷ p) k j (inner i l r) h = lift-here left q p k j (kindAt q l) (done-only q p k j l h)
+done-only (right ∷ q) (left ∷ p) k j (inner i l r) h = inl h
+done-only (left ∷ q) (right ∷ p) k j (inner i l r) h = inl h
+done-only (right ∷ q) (right ∷ p) k j (inner i l r) h = lift-here right q p k j (kindAt q r) (done-only q p k j r h)
+
+-- ---- what stands at a place
+
+-- A tree has a place exactly if something stands there.
+pub has-subtree : (p : Place) (x : Node) (s : DTree) → hasAt p s ≡ true → (y : Subtree) × (descend p x s ≡ some y)
+unfolding hasAt descend
+has-subtree [] x s h = (record { node = x; below = s }, refl)
+has-subtree (b ∷ p) x leaf h = absurd (true≢false (sym h))
+has-subtree (left ∷ p) x (inner k l r) h = has-subtree p (childNode k left x) l h
+has-subtree (right ∷ p) x (inner k l r) h = has-subtree p (childNode k right x) r h
+
+pub subtree-has : (p : Place) (x : Node) (s : DTree) (y : Subtree) → descend p x s ≡ some y → hasAt p s ≡ true
+unfolding hasAt descend
+subtree-has [] x s y h = refl
+subtree-has (b ∷ p) x leaf y h = absurd (Option·none-ne-some _ h)
+subtree-has (left ∷ p) x (inner k l r) y h = subtree-has p (childNode k left x) l y h
+subtree-has (right ∷ p) x (inner k l r) y h = subtree-has p (childNode k right x) r y h
+
+-- What was done at a place is what was done at the root of what stands there.
+pub subtree-kind : (p : Place) (x : Node) (s : DTree) (y : Subtree) → descend p x s ≡ some y → kindAt p s ≡ kindAt [] (y .below)
+unfolding kindAt descend
+subtree-kind [] x s y e = ap (λ (z : Subtree). kindAt [] (z .below)) (Option·some-injective _ y e)
+subtree-kind (b ∷ p) x leaf y e = absurd (Option·none-ne-some _ e)
+subtree-kind (left ∷ p) x (inner k l r) y e = subtree-kind p (childNode k left x) l y e
+subtree-kind (right ∷ p) x (inner k l r) y e = subtree-kind p (childNode k right x) r y e
+
+-- The ways of a leaf are those of what stands there.
+pub leaf-subtree : (p : Place) (x : Node) (s : DTree) (us : List Way) → leafWays p (x .ways) s ≡ some us → (y : Subtree) × (descend p x s ≡ some y) × (y .node .ways ≡ us) × (y .below ≡ leaf)
+unfolding leafWays descend
+leaf-subtree [] x leaf us e = (record { node = x; below = leaf }, refl, Option·some-injective (x .ways) us e, refl)
+leaf-subtree [] x (inner k l r) us e = absurd (Option·none-ne-some _ e)
+leaf-subtree (b ∷ p) x leaf us e = absurd (Option·none-ne-some _ e)
+leaf-subtree (left ∷ p) x (inner k l r) us e = leaf-subtree p (childNode k left x) l us e
+leaf-subtree (right ∷ p) x (inner k l r) us e = leaf-subtree p (childNode k right x) r us e
+
+-- Neither on the path nor below, everything stands as it stood: node, ways, kind and what hangs there.
+pub elsewhere : (q p : Place) (k : Kind) (x : Node) (s : DTree) → onPath q p ≡ false → onPath p q ≡ false → descend q x (refineAt p k s) ≡ descend q x s
+unfolding onPath descend refineAt
+elsewhere [] p k x s h g = absurd (true≢false h)
+elsewhere (c ∷ q) [] k x s h g = absurd (true≢false g)
+elsewhere (c ∷ q) (b ∷ p) k x leaf h g = refl
+elsewhere (left ∷ q) (left ∷ p) k x (inner j l r) h g = elsewhere q p k (childNode j left x) l h g
+elsewhere (right ∷ q) (left ∷ p) k x (inner j l r) h g = refl
+elsewhere (left ∷ q) (right ∷ p) k x (inner j l r) h g = refl
+elsewhere (right ∷ q) (right ∷ p) k x (inner j l r) h g = elsewhere q p k (childNode j right x) r h g
