@@ -42,6 +42,13 @@ pub or-neither : (x y : Bool) → x ≡ false → y ≡ false → x || y ≡ fal
 or-neither true y h k = h
 or-neither false y h k = k
 
+-- Both at once.
+pub or-split : (x y : Bool) → x || y ≡ false → (x ≡ false) × (y ≡ false)
+or-split x y h = (or-left x y h, or-right x y h)
+
+pub and-split : (x y : Bool) → x && y ≡ true → (x ≡ true) × (y ≡ true)
+and-split x y h = (and-left x y h, and-right x y h)
+
 pub or-first : (x y : Bool) → x ≡ true → x || y ≡ true
 or-first true y h = refl
 or-first false y h = absurd (true≢false (sym h))

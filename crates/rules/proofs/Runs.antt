@@ -1,0 +1,176 @@
+-- Runs: what a run makes is a series of acceptable refinements, two runs in a row are one run, and what each verdict says.
+-- Rests on Widest.antt for the leaf, on Levels.antt for the fault, on Series.antt for counting.
+use mathlib.Core.Path.{_≡_, refl, sym, ap, ap₂, _∙_, subst}
+use mathlib.Core.Bool.{Bool, true, false, not, _&&_, _||_, true≢false}
+use mathlib.Core.List.{List, [], _∷_, _++_}
+use mathlib.Core.Option.{Option, none, some, Option·some-injective, Option·none-ne-some}
+use mathlib.Core.Logic.{_⊎_, inl, inr}
+use Prim.Native.Nat.{ℕ, zero, suc, _+_, _-_, _≤_, _<_}
+use native.Mathlib.Nat.{suc-add, zero-add}
+use native.Mathlib.Omega.{arith}
+use lib.ListN.{length, length-append}
+use lib.Dec.{ltb, leb}
+use borrow.Author.Tests.{ltb-true, ltb-false, leb-true, leb-false, lt-ltb, le-ltb, le-leb, lt-leb}
+use Rattle.rules.specs.Table.{Way, Table, ways}
+use Rattle.rules.specs.Leaf.{isOpen}
+use Rattle.rules.specs.Group.{fallApart}
+use Rattle.rules.specs.Tree.{Side, left, right, Place, DTree, leaf, inner, possible, child, low, high, inners, Refinement, refine, grow, leafWays, roomy, acceptable, seriesFrom}
+use Rattle.rules.specs.Run.{Candidate, widest, mostNamed, choice, next, narrow, Turn, stop, go, turn, picks, verdict, ran}
+use Rattle.rules.specs.Refusals.{namesBeyond, Accepted}
+use Rattle.rules.specs.declared.Kind.{Kind}
+use Rattle.rules.specs.declared.Kind.the-variants.{IndependentOr, Shannon}
+use Rattle.rules.specs.declared.Verdict.{Verdict}
+use Rattle.rules.specs.declared.Verdict.the-variants.{Met, Done, Full, Spent}
+use Rattle.rules.proofs.Booleans.{and-both}
+use Rattle.rules.proofs.Enclosure.{child-inside}
+use Rattle.rules.proofs.Levels.{open-occurs}
+use Rattle.rules.proofs.Series.{grow-append, grown-inners}
+use Rattle.rules.proofs.Widest.{NoneOpen, Leftmost, Law, nothing, the, widest-law, widest-none, named-occurs, occurs-named, most-named}
+use Rattle.rules.proofs.Accepted.{inside}
+
+-- ---- what the rule picks can be made
+
+-- The chosen kind is possible at an open leaf.
+choice-possible : (ws : List ℕ) (vs : List Way) → namesBeyond (length ws) vs ≡ false → isOpen ws vs ≡ true → possible (choice ws vs) vs ≡ true
+unfolding choice possible
+choice-possible ws vs h o = by (fallApart vs) refl
+  where
+    by : (b : Bool) → fallApart vs ≡ b → possible (elim b as (λ b. Kind) [ true ↦ IndependentOr | false ↦ Shannon (mostNamed (length ws) vs) ]) vs ≡ true
+    by true e = e
+    by false e =
+        let r = open-occurs (length ws) ws vs h o in
+        named-occurs _ vs (omega (arith, occurs-named (r .0) vs (r .2), most-named (length ws) (r .0) vs (r .1)))
+
+-- The ways of a leaf name no fault beyond the table's.
+leaf-inside : (n : ℕ) (p : Place) (vs : List Way) (s : DTree) (us : List Way) → namesBeyond n vs ≡ false → leafWays p vs s ≡ some us → namesBeyond n us ≡ false
+unfolding leafWays
+leaf-inside n [] vs leaf us h e = subst (λ (x : List Way). namesBeyond n x ≡ false) (Option·some-injective vs us e) h
+leaf-inside n [] vs (inner k l r) us h e = absurd (Option·none-ne-some _ e)
+leaf-inside n (b ∷ p) vs leaf us h e = absurd (Option·none-ne-some _ e)
+leaf-inside n (left ∷ p) vs (inner k l r) us h e = leaf-inside n p (child k left vs) l us (child-inside k n left vs h) e
+leaf-inside n (right ∷ p) vs (inner k l r) us h e = leaf-inside n p (child k right vs) r us (child-inside k n right vs h) e
+
+next-acceptable : (t : Table) → Accepted t → (s : DTree) (n : Refinement) → inners s < 255 → next t s ≡ some n → acceptable t s n ≡ true
+unfolding next acceptable
+next-acceptable t ok s n room e = by (widest (t .weights) (ways t) s) (widest-law (t .weights) (ways t) s) e
+  where
+    by : (o : Option Candidate) → Law (t .weights) (ways t) s o
+        → (elim o as (λ o. Option Refinement) [ none ↦ none | some x ↦ some (record { place = x .place; kind = choice (t .weights) (x .ways) }) ]) ≡ some n
+        → acceptable t s n ≡ true
+    by none h e = absurd (Option·none-ne-some _ e)
+    by (some x) (the x₁ h) e =
+        subst (λ (m : Refinement). acceptable t s m ≡ true) (Option·some-injective _ n e)
+        (rw (h .there, acceptable)
+        (and-both (isOpen (t .weights) (x .ways)) _ (h .opened)
+        (and-both (roomy s) _ (lt-ltb (inners s) 255 room)
+        (choice-possible (t .weights) (x .ways) (leaf-inside (length (t .weights)) (x .place) (ways t) s (x .ways) (inside t ok) (h .there)) (h .opened)))))
+
+-- ---- a turn, read backwards
+
+-- What each turn says of the tree, in the order in which the reasons are tried.
+pub data Reason (t : Table) (allowance : ℕ) (s : DTree) : Turn → Type 0 where
+  met : high t s - low t s ≤ allowance → Reason t allowance s (stop Met)
+  done : allowance < high t s - low t s → next t s ≡ none → Reason t allowance s (stop Done)
+  full : allowance < high t s - low t s → (n : Refinement) → next t s ≡ some n → 255 ≤ inners s → Reason t allowance s (stop Full)
+  more : allowance < high t s - low t s → (n : Refinement) → next t s ≡ some n → inners s < 255 → Reason t allowance s (go n)
+
+pub reason : (t : Table) (allowance : ℕ) (s : DTree) → Reason t allowance s (turn t allowance s)
+unfolding turn narrow
+reason t a s = by (leb (high t s - low t s) a) refl (next t s) refl (roomy s) refl
+  where
+    by : (b : Bool) → leb (high t s - low t s) a ≡ b → (o : Option Refinement) → next t s ≡ o → (c : Bool) → roomy s ≡ c
+        → Reason t a s (elim b as (λ b. Turn) [ true ↦ stop Met | false ↦ elim o as (λ o. Turn) [ none ↦ stop Done | some n ↦ elim c as (λ b. Turn) [ true ↦ go n | false ↦ stop Full ] ] ])
+    by true e o q c r = met (leb-true (high t s - low t s) a e)
+    by false e none q c r = done (leb-false (high t s - low t s) a e) q
+    by false e (some n) q true r = more (leb-false (high t s - low t s) a e) n q (ltb-true (inners s) 255 r)
+    by false e (some n) q false r = full (leb-false (high t s - low t s) a e) n q (ltb-false (inners s) 255 r)
+
+turn-acceptable : (t : Table) → Accepted t → (a : ℕ) (s : DTree) (n : Refinement) → Reason t a s (go n) → acceptable t s n ≡ true
+turn-acceptable t ok a s n (more w n₁ e r) = next-acceptable t ok s n r e
+
+-- ---- what a run makes is a series of acceptable refinements
+
+pub picks-series : (t : Table) → Accepted t → (a b : ℕ) (s : DTree) → seriesFrom t s (picks t a b s) ≡ true
+unfolding picks seriesFrom
+picks-series t ok a zero s = refl
+picks-series t ok a (suc b) s = by (turn t a s) (reason t a s) (λ n. picks-series t ok a b (refine n s))
+  where
+    by : (x : Turn) → Reason t a s x → ((n : Refinement) → seriesFrom t (refine n s) (picks t a b (refine n s)) ≡ true)
+        → seriesFrom t s (elim x as (λ x. List Refinement) [ stop v ↦ [] | go n ↦ n ∷ picks t a b (refine n s) ]) ≡ true
+    by (stop v) e ih = refl
+    by (go n) e ih = and-both (acceptable t s n) _ (turn-acceptable t ok a s n e) (ih n)
+
+-- A run makes at most as many as its budget.
+pub picks-budget : (t : Table) (a b : ℕ) (s : DTree) → length (picks t a b s) ≤ b
+unfolding picks
+picks-budget t a zero s = omega arith
+picks-budget t a (suc b) s = by (turn t a s) (λ n. picks-budget t a b (refine n s))
+  where
+    by : (x : Turn) → ((n : Refinement) → length (picks t a b (refine n s)) ≤ b)
+        → length {A = Refinement} (elim x as (λ x. List Refinement) [ stop v ↦ [] | go n ↦ n ∷ picks t a b (refine n s) ]) ≤ suc b
+    by (stop v) ih = omega arith
+    by (go n) ih = omega (arith, ih n)
+
+-- A RUN REPORTS the inner nodes after it less those before.
+pub report-inners : (t : Table) → Accepted t → (a b : ℕ) (s : DTree) → inners (ran t a b s) ≡ inners s + length (picks t a b s)
+report-inners t ok a b s = grown-inners t (picks t a b s) s (picks-series t ok a b s)
+
+-- ---- two runs in a row
+
+-- A run that has stopped makes nothing more.
+stopped : (t : Table) (a c : ℕ) (s : DTree) (v : Verdict) → turn t a s ≡ stop v → [] ≡ picks t a c s
+unfolding picks
+stopped t a zero s v e = refl
+stopped t a (suc c) s v e = rw (e, picks)
+
+stays-stopped : (t : Table) (a c : ℕ) (s : DTree) (v : Verdict) → turn t a s ≡ stop v → v ≡ verdict t a c s
+unfolding verdict
+stays-stopped t a zero s v e = rw (e, verdict)
+stays-stopped t a (suc c) s v e = rw (e, verdict)
+
+-- A run with b + c makes what one with b makes and then what one with c makes.
+pub picks-add : (t : Table) (a b c : ℕ) (s : DTree) → picks t a (b + c) s ≡ picks t a b s ++ picks t a c (ran t a b s)
+unfolding picks grow
+picks-add t a zero c s = rw zero-add
+picks-add t a (suc b) c s = rw suc-add (by (turn t a s) refl (λ n. picks-add t a b c (refine n s)))
+  where
+    by : (x : Turn) → turn t a s ≡ x → ((n : Refinement) → picks t a (b + c) (refine n s) ≡ picks t a b (refine n s) ++ picks t a c (ran t a b (refine n s)))
+        → (elim x as (λ x. List Refinement) [ stop v ↦ [] | go n ↦ n ∷ picks t a (b + c) (refine n s) ])
+        ≡ (elim x as (λ x. List Refinement) [ stop v ↦ [] | go n ↦ n ∷ picks t a b (refine n s) ])
+        ++ picks t a c (grow s (elim x as (λ x. List Refinement) [ stop v ↦ [] | go n ↦ n ∷ picks t a b (refine n s) ]))
+    by (stop v) e ih = stopped t a c s v e
+    by (go n) e ih = ap (λ (z : List Refinement). n ∷ z) (ih n)
+
+verdict-add : (t : Table) (a b c : ℕ) (s : DTree) → verdict t a (b + c) s ≡ verdict t a c (ran t a b s)
+unfolding picks grow verdict
+verdict-add t a zero c s = rw zero-add
+verdict-add t a (suc b) c s = rw suc-add (by (turn t a s) refl (λ n. verdict-add t a b c (refine n s)))
+  where
+    by : (x : Turn) → turn t a s ≡ x → ((n : Refinement) → verdict t a (b + c) (refine n s) ≡ verdict t a c (ran t a b (refine n s)))
+        → (elim x as (λ x. Verdict) [ stop v ↦ v | go n ↦ verdict t a (b + c) (refine n s) ])
+        ≡ verdict t a c (grow s (elim x as (λ x. List Refinement) [ stop v ↦ [] | go n ↦ n ∷ picks t a b (refine n s) ]))
+    by (stop v) e ih = stays-stopped t a c s v e
+    by (go n) e ih = ih n
+
+-- TWO RUNS with the same allowance and budgets b then c leave the tree and verdict of one run with b + c, and their reports add up to its report.
+pub record OneRun (t : Table) (a b c : ℕ) (s : DTree) : Type 0 where
+  pub tree : ran t a c (ran t a b s) ≡ ran t a (b + c) s
+  pub verdicts : verdict t a c (ran t a b s) ≡ verdict t a (b + c) s
+  pub report : length (picks t a b s) + length (picks t a c (ran t a b s)) ≡ length (picks t a (b + c) s)
+
+pub two-runs : (t : Table) (a b c : ℕ) (s : DTree) → OneRun t a b c s
+two-runs t a b c s =
+    let e = picks-add t a b c s in
+    record
+    { tree = sym (ap (grow s) e ∙ grow-append (picks t a b s) (picks t a c (ran t a b s)) s)
+    ; verdicts = sym (verdict-add t a b c s)
+    ; report = sym (ap length e ∙ length-append (picks t a b s) (picks t a c (ran t a b s))) }
+
+-- ---- the verdict
+
+-- What a verdict says of the tree that the run leaves.
+pub data Says (t : Table) (allowance budget : ℕ) (made : List Refinement) (s : DTree) : Verdict → Type 0 where
+  met : high t s - low t s ≤ allowance → Says t allowance budget made s Met
+  done : allowance < high t s - low t s → NoneOpen (t .weights) (ways t) s → Says t allowance budget made s Done
+  full : allowance < high t s - low t s → (n : Refinement) → next t s ≡ some n → 255 ≤ inners s → Says t allowance budget made s Full
+  spent : allowance < high t s - low t s → (n : Refinement) → next t s ≡ some n → inners s < 255 → length made ≡ budget → Says t allowance budget made s Spent
