@@ -65,3 +65,8 @@ first-before (x ∷ xs) ys n h = split (x .applies) refl (first-before xs ys n)
     split : (b : Bool) → x .applies ≡ b → (first xs ≡ suc n → first (xs ++ ys) ≡ suc n) → first (x ∷ xs ++ ys) ≡ suc n
     split true e rest = first-here x (xs ++ ys) e ∙ sym (first-here x xs e) ∙ h
     split false e rest = first-later x (xs ++ ys) e ∙ rest (sym (first-later x xs e) ∙ h)
+
+-- What refuses nothing at the end of a list changes nothing.
+pub first-end : (xs ys : List Refusal) → first ys ≡ 0 → first (xs ++ ys) ≡ first xs
+first-end [] ys h = h ∙ sym first-none
+first-end (x ∷ xs) ys h = first-same x (xs ++ ys) xs (λ e. first-end xs ys h)

@@ -20,6 +20,8 @@ pub mod Narrowing
 pub mod Levels
 pub mod Widest
 pub mod Runs
+pub mod Demand3
+pub mod Paper
 pub mod Bytes
 pub mod Laid
 pub mod WriterLists

@@ -4,7 +4,7 @@ use mathlib.Core.Path.{_≡_, refl, sym, ap, ap₂, _∙_, subst}
 use mathlib.Core.Bool.{Bool, true, false, not, _&&_, _||_, true≢false}
 use mathlib.Core.List.{List, [], _∷_, _++_}
 use mathlib.Core.Option.{Option, none, some, Option·some-injective, Option·none-ne-some}
-use mathlib.Core.Logic.{_⊎_, inl, inr}
+use mathlib.Core.Logic.{_⊎_, inl, inr, _↔_}
 use Prim.Native.Nat.{ℕ, zero, suc, _+_, _-_, _≤_, _<_}
 use native.Mathlib.Nat.{suc-add, zero-add}
 use native.Mathlib.Omega.{arith}
@@ -168,9 +168,142 @@ two-runs t a b c s =
 
 -- ---- the verdict
 
--- What a verdict says of the tree that the run leaves.
-pub data Says (t : Table) (allowance budget : ℕ) (made : List Refinement) (s : DTree) : Verdict → Type 0 where
-  met : high t s - low t s ≤ allowance → Says t allowance budget made s Met
-  done : allowance < high t s - low t s → NoneOpen (t .weights) (ways t) s → Says t allowance budget made s Done
-  full : allowance < high t s - low t s → (n : Refinement) → next t s ≡ some n → 255 ≤ inners s → Says t allowance budget made s Full
-  spent : allowance < high t s - low t s → (n : Refinement) → next t s ≡ some n → inners s < 255 → length made ≡ budget → Says t allowance budget made s Spent
+-- Where the rule picks nothing no leaf is open.
+next-none : (t : Table) (s : DTree) → next t s ≡ none → NoneOpen (t .weights) (ways t) s
+unfolding next
+next-none t s e = by (widest (t .weights) (ways t) s) (widest-law (t .weights) (ways t) s) e
+  where
+    by : (o : Option Candidate) → Law (t .weights) (ways t) s o
+        → _≡_ {A = Option Refinement} (elim o as (λ o. Option Refinement) [ none ↦ none | some x ↦ some (record { place = x .place; kind = choice (t .weights) (x .ways) }) ]) none
+        → NoneOpen (t .weights) (ways t) s
+    by none (nothing f) e = f
+    by (some x) h e = absurd (Option·none-ne-some _ (sym e))
+
+-- Where no leaf is open it picks nothing.
+none-next : (t : Table) (s : DTree) → NoneOpen (t .weights) (ways t) s → next t s ≡ none
+unfolding next
+none-next t s f = rw (widest-none (t .weights) (ways t) s f, next)
+
+-- The interval at the root is wider than the allowance.
+abbrev pub TooWide : Table → ℕ → DTree → Type 0
+TooWide t allowance s = allowance < high t s - low t s
+
+-- Some leaf is open: the rule picks a refinement.
+abbrev pub SomeOpen : Table → DTree → Type 0
+SomeOpen t s = (n : Refinement) × (next t s ≡ some n)
+
+-- What a verdict says of the tree that a run leaves, with the refinements it made.
+pub data Says (t : Table) (allowance budget made : ℕ) (s : DTree) : Verdict → Type 0 where
+  is-met : high t s - low t s ≤ allowance → Says t allowance budget made s Met
+  is-done : TooWide t allowance s → NoneOpen (t .weights) (ways t) s → Says t allowance budget made s Done
+  is-full : TooWide t allowance s → SomeOpen t s → 255 ≤ inners s → Says t allowance budget made s Full
+  is-spent : TooWide t allowance s → SomeOpen t s → inners s < 255 → made ≡ budget → Says t allowance budget made s Spent
+
+-- A reason to stop says what its verdict says, whatever was made.
+stop-says : (t : Table) (a b m : ℕ) (s : DTree) (v : Verdict) → Reason t a s (stop v) → Says t a b m s v
+stop-says t a b m s v (met w) = is-met w
+stop-says t a b m s v (done w e) = is-done w (next-none t s e)
+stop-says t a b m s v (full w n e r) = is-full w (n, e) r
+
+-- One refinement more, made of one budget more.
+one-more : (t : Table) (a b m : ℕ) (s : DTree) (v : Verdict) → Says t a b m s v → Says t a (suc b) (suc m) s v
+one-more t a b m s v (is-met w) = is-met w
+one-more t a b m s v (is-done w f) = is-done w f
+one-more t a b m s v (is-full w o r) = is-full w o r
+one-more t a b m s v (is-spent w o r e) = is-spent w o r (ap suc e)
+
+-- THE VERDICT of every run says this.
+pub verdict-says : (t : Table) (a b : ℕ) (s : DTree) → Says t a b (length (picks t a b s)) (ran t a b s) (verdict t a b s)
+unfolding picks verdict grow
+verdict-says t a zero s = by (turn t a s) (reason t a s)
+  where
+    by : (x : Turn) → Reason t a s x → Says t a zero zero s (elim x as (λ x. Verdict) [ stop v ↦ v | go n ↦ Spent ])
+    by (stop v) r = stop-says t a zero zero s v r
+    by (go n) (more w n₁ e r) = is-spent w (n, e) r refl
+verdict-says t a (suc b) s = by (turn t a s) (reason t a s) (λ n. verdict-says t a b (refine n s))
+  where
+    by : (x : Turn) → Reason t a s x → ((n : Refinement) → Says t a b (length (picks t a b (refine n s))) (ran t a b (refine n s)) (verdict t a b (refine n s)))
+        → Says t a (suc b) (length {A = Refinement} (elim x as (λ x. List Refinement) [ stop v ↦ [] | go n ↦ n ∷ picks t a b (refine n s) ]))
+          (grow s (elim x as (λ x. List Refinement) [ stop v ↦ [] | go n ↦ n ∷ picks t a b (refine n s) ]))
+          (elim x as (λ x. Verdict) [ stop v ↦ v | go n ↦ verdict t a b (refine n s) ])
+    by (stop v) r ih = stop-says t a (suc b) zero s v r
+    by (go n) r ih = one-more t a b _ _ _ (ih n)
+
+-- What the verdict is, exactly, of a tree s that a run leaves: met before done before full before spent.
+pub record Exactly (t : Table) (allowance : ℕ) (s : DTree) (v : Verdict) : Type 0 where
+  pub met : (v ≡ Met) ↔ (high t s - low t s ≤ allowance)
+  pub done : (v ≡ Done) ↔ (TooWide t allowance s × NoneOpen (t .weights) (ways t) s)
+  pub full : (v ≡ Full) ↔ (TooWide t allowance s × SomeOpen t s × (255 ≤ inners s))
+  pub spent : (v ≡ Spent) ↔ (TooWide t allowance s × SomeOpen t s × (inners s < 255))
+
+-- A leaf that is open is not nothing.
+not-both : (t : Table) (s : DTree) → NoneOpen (t .weights) (ways t) s → SomeOpen t s → ⊥
+not-both t s f o = Option·none-ne-some _ (sym (none-next t s f) ∙ o .1)
+
+-- The verdicts differ: they are tried one after the other.
+abbrev rank : Verdict → ℕ
+rank Met = 0
+rank Done = 1
+rank Full = 2
+rank Spent = 3
+
+other : {P : Type 0} (u v : Verdict) → (rank u ≡ rank v → ⊥) → u ≡ v → P
+other u v f e = absurd (f (ap rank e))
+
+exactly : (t : Table) (a b m : ℕ) (s : DTree) (v : Verdict) → Says t a b m s v → Exactly t a s v
+exactly t a b m s v (is-met w) =
+    record
+    { met = (λ e. w, λ h. refl)
+    ; done = (other Met Done (omega arith), λ h. absurd (omega (arith, w, h .0)))
+    ; full = (other Met Full (omega arith), λ h. absurd (omega (arith, w, h .0)))
+    ; spent = (other Met Spent (omega arith), λ h. absurd (omega (arith, w, h .0))) }
+exactly t a b m s v (is-done w f) =
+    record
+    { met = (other Done Met (omega arith), λ h. absurd (omega (arith, w, h)))
+    ; done = (λ e. (w, f), λ h. refl)
+    ; full = (other Done Full (omega arith), λ h. absurd (not-both t s f (h .1)))
+    ; spent = (other Done Spent (omega arith), λ h. absurd (not-both t s f (h .1))) }
+exactly t a b m s v (is-full w o r) =
+    record
+    { met = (other Full Met (omega arith), λ h. absurd (omega (arith, w, h)))
+    ; done = (other Full Done (omega arith), λ h. absurd (not-both t s (h .1) o))
+    ; full = (λ e. (w, o, r), λ h. refl)
+    ; spent = (other Full Spent (omega arith), λ h. absurd (omega (arith, r, h .2))) }
+exactly t a b m s v (is-spent w o r q) =
+    record
+    { met = (other Spent Met (omega arith), λ h. absurd (omega (arith, w, h)))
+    ; done = (other Spent Done (omega arith), λ h. absurd (not-both t s (h .1) o))
+    ; full = (other Spent Full (omega arith), λ h. absurd (omega (arith, r, h .2)))
+    ; spent = (λ e. (w, o, r), λ h. refl) }
+
+-- THE VERDICT: met exactly if the width is at most the allowance; done exactly if not met and no leaf is open; full exactly if neither and 255; else spent.
+pub verdict-exactly : (t : Table) (a b : ℕ) (s : DTree) → Exactly t a (ran t a b s) (verdict t a b s)
+verdict-exactly t a b s = exactly t a b (length (picks t a b s)) (ran t a b s) (verdict t a b s) (verdict-says t a b s)
+
+-- A spent run has used its whole budget.
+pub spent-all : (t : Table) (a b : ℕ) (s : DTree) → verdict t a b s ≡ Spent → length (picks t a b s) ≡ b
+spent-all t a b s e = by (verdict t a b s) (verdict-says t a b s) e
+  where
+    by : (v : Verdict) → Says t a b (length (picks t a b s)) (ran t a b s) v → v ≡ Spent → length (picks t a b s) ≡ b
+    by v (is-met w) e = other Met Spent (omega arith) e
+    by v (is-done w f) e = other Done Spent (omega arith) e
+    by v (is-full w o r) e = other Full Spent (omega arith) e
+    by v (is-spent w o r q) e = q
+
+turn-go : (t : Table) (a : ℕ) (s : DTree) (n : Refinement) → TooWide t a s → next t s ≡ some n → inners s < 255 → turn t a s ≡ go n
+turn-go t a s n w e r = by (turn t a s) (reason t a s)
+  where
+    by : (x : Turn) → Reason t a s x → x ≡ go n
+    by x (met h) = absurd (omega (arith, w, h))
+    by x (done h q) = absurd (Option·none-ne-some _ (sym q ∙ e))
+    by x (full h m q k) = absurd (omega (arith, r, k))
+    by x (more h m q k) = ap go (Option·some-injective m n (sym q ∙ e))
+
+-- A RUN OF BUDGET 1 that does not start out met, done or full makes the one refinement that the rule picks, and no more.
+pub one-step : (t : Table) (a : ℕ) (s : DTree) (n : Refinement) → TooWide t a s → next t s ≡ some n → inners s < 255 → picks t a 1 s ≡ n ∷ []
+unfolding picks
+one-step t a s n w e r = rw (turn-go t a s n w e r, picks)
+
+-- So it adds one inner node.
+pub one-step-inners : (t : Table) → Accepted t → (a : ℕ) (s : DTree) (n : Refinement) → TooWide t a s → next t s ≡ some n → inners s < 255 → inners (ran t a 1 s) ≡ suc (inners s)
+one-step-inners t ok a s n w e r = omega (arith, report-inners t ok a 1 s, ap length (one-step t a s n w e r))

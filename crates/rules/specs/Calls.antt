@@ -33,6 +33,16 @@ placeOf (b ∷ bs) =
     elim (eqb b 0) as (λ x. Option Place)
     [ true ↦ stepTo left (placeOf bs) | false ↦ elim (eqb b 1) as (λ x. Option Place) [ true ↦ stepTo right (placeOf bs) | false ↦ none ] ]
 
+-- The byte of a step.
+abbrev pub sideByte : Side → ℕ
+sideByte left = 0
+sideByte right = 1
+
+-- A place as bytes.
+unfoldable pub placeBytes : Place → List ℕ
+placeBytes [] = []
+placeBytes (b ∷ p) = sideByte b ∷ placeBytes p
+
 -- The remaining ways of the leaf that the bytes name, if they name one.
 unfoldable pub leafNamed : Table → DTree → List ℕ → Option (List Way)
 leafNamed t s bs = elim (placeOf bs) as (λ o. Option (List Way)) [ none ↦ none | some p ↦ leafWays p (ways t) s ]
@@ -60,11 +70,11 @@ leafRefusals t s bs k o =
 
 -- Refining by hand: 9 to 13, then 16 to 20. `bad` says that the tree is not one that this table and some series give (16).
 unfoldable pub handRefusals : Table → Bool → DTree → List ℕ → Kind → List Refusal
-handRefusals t bad s bs k = tableRefusals t ++ refusal 16 bad ∷ leafRefusals t s bs k (leafNamed t s bs)
+handRefusals t bad s bs k = tableRefusals t ++ (refusal 16 bad ∷ leafRefusals t s bs k (leafNamed t s bs))
 
 -- A run: 9 to 16.
 unfoldable pub runRefusals : Table → Bool → Limits → List Refusal
-runRefusals t bad m = tableRefusals t ++ limitRefusals m ++ refusal 16 bad ∷ []
+runRefusals t bad m = tableRefusals t ++ (limitRefusals m ++ refusal 16 bad ∷ [])
 
 unfoldable pub handNumber : Table → Bool → DTree → List ℕ → Kind → ℕ
 handNumber t bad s bs k = first (handRefusals t bad s bs k)

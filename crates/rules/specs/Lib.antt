@@ -9,3 +9,4 @@ pub mod Refusals
 pub mod Answers
 pub mod Calls
 pub mod Sheet
+pub mod Text

@@ -1,0 +1,107 @@
+-- The cases on paper, P1 to P9, as one list with one claim about the list, and the whole sheet that 01 prints (01, "On paper first").
+-- The checker computes both from the definitions.
+use mathlib.Core.Path.{_≡_, refl}
+use mathlib.Core.Bool.{Bool, true, false, not, _&&_, _||_, Bool·beq}
+use mathlib.Core.List.{List, [], _∷_, _++_}
+use Prim.Native.Nat.{ℕ}
+use lib.ListN.{length}
+use lib.Dec.{eqb}
+use Rattle.rules.specs.Rounding.{S}
+use Rattle.rules.specs.Table.{Table, ways, rows, absentRows}
+use Rattle.rules.specs.Leaf.{any, remaining, isOpen}
+use Rattle.rules.specs.Group.{nonempty, fallApart}
+use Rattle.rules.specs.Tree.{left, right, leaf, occurs, possible, child, combine, end, low, high, refineAt, inners, Refinement, grow, tree, leafWays, acceptable, seriesFrom, series}
+use Rattle.rules.specs.Run
+use Rattle.rules.specs.Refusals
+use Rattle.rules.specs.Refusals.{tableNumber}
+use Rattle.rules.specs.Sheet
+use Rattle.rules.specs.Sheet.{Cue, Sheet, encode}
+use Rattle.rules.specs.Text
+use Rattle.rules.specs.Text.{bytes, text}
+use Rattle.rules.specs.declared.Kind.{Kind}
+use Rattle.rules.specs.declared.Kind.the-variants.{IndependentOr, Shannon}
+
+-- ---- P1 to P9
+
+-- A case: a table, its root leaf's interval and whether it is open, and the root's interval after some refinements.
+record Case : Type 0 where
+  table : Table
+  leafLow : ℕ
+  leafHigh : ℕ
+  opened : Bool
+  made : List Refinement
+  afterLow : ℕ
+  afterHigh : ℕ
+
+abbrev table : List ℕ → List ℕ → List ℕ → Table
+table ws ps qs = record { weights = ws; present = ps; absent = qs }
+
+-- A case without refinements.
+abbrev plain : Table → ℕ → ℕ → Bool → Case
+plain t l h o = record { table = t; leafLow = l; leafHigh = h; opened = o; made = []; afterLow = l; afterHigh = h }
+
+-- A case of an open root leaf with refinements.
+abbrev refined : Table → ℕ → ℕ → List Refinement → ℕ → ℕ → Case
+refined t l h ns l′ h′ = record { table = t; leafLow = l; leafHigh = h; opened = true; made = ns; afterLow = l′; afterHigh = h′ }
+
+abbrev atRoot : Kind → Refinement
+atRoot k = record { place = []; kind = k }
+
+abbrev p4 : Table
+p4 = table (500000000 ∷ 500000000 ∷ 200000000 ∷ []) (3 ∷ 5 ∷ []) (0 ∷ 0 ∷ [])
+
+abbrev cases : List Case
+cases =
+    plain (table (500000000 ∷ []) [] []) 0 0 false
+    ∷ plain (table (500000000 ∷ []) (0 ∷ []) (0 ∷ [])) S S false
+    ∷ plain (table (333333333 ∷ 333333333 ∷ []) (3 ∷ []) (0 ∷ [])) 111111110 111111111 false
+    ∷ refined p4 250000000 350000000 (atRoot (Shannon 0) ∷ []) 300000000 350000000
+    ∷ refined p4 250000000 350000000 (atRoot (Shannon 0) ∷ record { place = left ∷ []; kind = IndependentOr } ∷ []) 300000000 300000000
+    ∷ refined (table (500000000 ∷ []) (1 ∷ 0 ∷ []) (0 ∷ 1 ∷ [])) 500000000 S (atRoot (Shannon 0) ∷ []) S S
+    ∷ refined (table (600000000 ∷ 600000000 ∷ []) (1 ∷ 2 ∷ []) (0 ∷ 0 ∷ [])) 840000000 S (atRoot IndependentOr ∷ []) 840000000 840000000
+    ∷ refined (table (333333333 ∷ 333333333 ∷ []) (1 ∷ 2 ∷ []) (0 ∷ 0 ∷ [])) 555555555 666666666 (atRoot IndependentOr ∷ []) 555555555 555555556
+    ∷ plain (table (0 ∷ S ∷ []) (1 ∷ 2 ∷ []) (0 ∷ 0 ∷ [])) S S false
+    ∷ []
+
+-- A case holds: the table is accepted, the root leaf is as stated, each refinement is acceptable when made, and the root is as stated then.
+abbrev holds : Case → Bool
+holds c =
+    eqb (tableNumber (c .table)) 0
+    && (eqb (low (c .table) leaf) (c .leafLow)
+    && (eqb (high (c .table) leaf) (c .leafHigh)
+    && (Bool·beq (isOpen (c .table .weights) (ways (c .table))) (c .opened)
+    && (series (c .table) (c .made)
+    && (eqb (low (c .table) (tree (c .made))) (c .afterLow) && eqb (high (c .table) (tree (c .made))) (c .afterHigh))))))
+
+abbrev allHold : List Case → Bool
+allHold [] = true
+allHold (c ∷ cs) = holds c && allHold cs
+
+-- P1 TO P9 HOLD.
+pub on-paper : allHold cases ≡ true
+unfolding ways rows absentRows any remaining isOpen nonempty fallApart occurs possible child combine end low high refineAt inners grow leafWays acceptable seriesFrom tableNumber Refusals.tableRefusals Refusals.wayRefusals Refusals.first Refusals.faultsOutside Refusals.someAbove Refusals.overweight Refusals.wordsAmiss Refusals.namesBeyond Refusals.namesBoth
+on-paper = refl
+
+-- ---- the whole sheet
+
+-- 3 faults, 2 cues, allowance 10000000; cue 7 with the ways of P4, cue 9 with none.
+abbrev show : ℕ → Sheet
+show budget =
+    record
+    { limits = record { allowance = 10000000; budget = budget }
+    ; weights = 500000000 ∷ 500000000 ∷ 200000000 ∷ []
+    ; cues = record { number = 7; present = 3 ∷ 5 ∷ []; absent = 0 ∷ 0 ∷ [] } ∷ record { number = 9; present = []; absent = [] } ∷ [] }
+
+-- Its 72 bytes.
+pub sheet-bytes : length (encode (show 40)) ≡ 72
+unfolding encode Sheet.headBytes Sheet.contentsBytes Sheet.weightsBytes Sheet.bodyBytes Sheet.bodiesBytes Sheet.bodiesStart Sheet.weightsStart Sheet.little
+sheet-bytes = refl
+
+-- WHAT THE PROGRAM PRINTS for them, with budget 40 and with budget 1.
+pub sheet-text : text (encode (show 40)) ≡ bytes "cue low high steps verdict\n7 300000000 300000000 2 met\n9 0 0 0 met\n"
+unfolding absentRows rows ways any remaining isOpen nonempty fallApart occurs possible child combine end low high refineAt inners grow leafWays Run.from Run.wider Run.widest Run.named Run.mostNamed Run.choice Run.next Run.narrow Run.turn Run.picks Run.verdict Refusals.first Refusals.faultsOutside Refusals.cuesOutside Refusals.someAbove Refusals.rising Refusals.notRising Refusals.crowded Refusals.overweight Refusals.namesBeyond Refusals.namesBoth Refusals.allowanceAbove Refusals.budgetAbove Refusals.wayRefusals Refusals.limitRefusals Sheet.little Sheet.value Sheet.field Sheet.column Sheet.total Sheet.deal Sheet.sheetOf Sheet.weightsStart Sheet.bodiesStart Sheet.starts Sheet.headBytes Sheet.contentsBytes Sheet.weightsBytes Sheet.bodyBytes Sheet.bodiesBytes encode Sheet.listsIn Sheet.decode Sheet.sameNumbers Sheet.readRefusals Sheet.readNumber bytes Text.digits Text.decimal Text.word Text.line Text.lines Text.sheetText Text.textBy text
+sheet-text = refl
+
+pub sheet-text-1 : text (encode (show 1)) ≡ bytes "cue low high steps verdict\n7 300000000 350000000 1 spent\n9 0 0 0 met\n"
+unfolding absentRows rows ways any remaining isOpen nonempty fallApart occurs possible child combine end low high refineAt inners grow leafWays Run.from Run.wider Run.widest Run.named Run.mostNamed Run.choice Run.next Run.narrow Run.turn Run.picks Run.verdict Refusals.first Refusals.faultsOutside Refusals.cuesOutside Refusals.someAbove Refusals.rising Refusals.notRising Refusals.crowded Refusals.overweight Refusals.namesBeyond Refusals.namesBoth Refusals.allowanceAbove Refusals.budgetAbove Refusals.wayRefusals Refusals.limitRefusals Sheet.little Sheet.value Sheet.field Sheet.column Sheet.total Sheet.deal Sheet.sheetOf Sheet.weightsStart Sheet.bodiesStart Sheet.starts Sheet.headBytes Sheet.contentsBytes Sheet.weightsBytes Sheet.bodyBytes Sheet.bodiesBytes encode Sheet.listsIn Sheet.decode Sheet.sameNumbers Sheet.readRefusals Sheet.readNumber bytes Text.digits Text.decimal Text.word Text.line Text.lines Text.sheetText Text.textBy text
+sheet-text-1 = refl
