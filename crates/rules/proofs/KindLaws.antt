@@ -10,21 +10,22 @@ use native.Mathlib.Omega.{arith}
 use lib.ListN.{length, set, getD}
 use lib.Dec.{eqb, leb}
 use lib.Bits.{bitAnd, bitOr, or-zero-l, or-zero-r}
-use borrow.Author.Tests.{leb-false, eqb-false, eq-eqb}
+use borrow.Author.Tests.{leb-false, eqb-false, eq-eqb, ne-eqb}
 use Rattle.rules.specs.Rounding.{S, Dir, down, up, Le}
 use Rattle.rules.specs.Table.{bit, Way, faults, Assignment, happens}
-use Rattle.rules.specs.Leaf.{any, dropped, remaining, isEmpty}
+use Rattle.rules.specs.Leaf.{any, hasNumber, ofSet, dropped, remaining, isEmpty}
 use Rattle.rules.specs.Group.{groupFaults, part, group, others, nonempty, fallApart}
-use Rattle.rules.specs.Tree.{Side, left, right, occurs, possible, child, combine}
+use Rattle.rules.specs.Tree.{Side, left, right, occurs, possible, child, combine, Node, childSet, childFixed, childNode}
 use Rattle.rules.specs.Refusals.{namesBeyond}
 use Rattle.rules.specs.declared.Kind.{Kind}
 use Rattle.rules.specs.declared.Kind.the-variants.{IndependentOr, Shannon}
 use Rattle.rules.proofs.Booleans.{or-left, or-right, or-neither, or-first, is-true, is-false, any-head, any-tail}
-use Rattle.rules.proofs.Bits.{bit-or, bit-high, bit-pow, some-bit}
+use Rattle.rules.proofs.Bits.{bit-or, bit-high, bit-pow, apart-test, some-bit}
 use Rattle.rules.proofs.Sum.{mass, Weights, mass-not, mass-neither, mass-split, mass-cong, pow-S-pos}
 use Rattle.rules.proofs.Rounding.{either-bound, mean-bound, either-mono, mean-mono}
 use Rattle.rules.proofs.Ways.{independent}
-use Rattle.rules.proofs.Remaining.{remaining-any, fixed-gone, fix-present, fix-absent}
+use Rattle.rules.proofs.Remaining.{remaining-any, fixed-gone, fix-present, fix-absent, fix-again}
+use Rattle.rules.proofs.Sets.{Rising, part-set}
 use Rattle.rules.proofs.Groups.{group-off, others-off, part-happens, part-any, first-faults}
 
 -- ---- faults that occur
@@ -70,6 +71,10 @@ some-occurs n (v ∷ vs) h e o =
 
 -- ---- the laws of a kind
 
+-- A node's ways are the remaining ways of its set, as 01 words them: those of the table's ways in the set that no fixed fault contradicts, with the fixed faults dropped.
+abbrev pub Handed : List Way → Node → Type 0
+Handed all x = x .ways ≡ remaining (x .present) (x .absent) (ofSet (x .set) all)
+
 -- A test that dropping faults from a way does not bring about.
 abbrev pub Stable : (Way → Bool) → Type 0
 Stable h = (m : ℕ) (v : Way) → h v ≡ false → h (dropped m v) ≡ false
@@ -86,6 +91,8 @@ pub record Laws (k : Kind) : Type 0 where
   -- Some fault that occurs in the node does not occur in a child.
   pub removes : (n : ℕ) (b : Side) (vs : List Way) → namesBeyond n vs ≡ false → any isEmpty vs ≡ false → nonempty vs ≡ true → possible k vs ≡ true
       → (g : ℕ) × (g < n) × (occurs g vs ≡ true) × (occurs g (child k b vs) ≡ false)
+  -- The ways handed down to a child are the remaining ways of its set.
+  pub handed : (all : List Way) → Rising 0 all → (b : Side) (x : Node) → Handed all x → possible k (x .ways) ≡ true → Handed all (childNode k b x)
 
 -- ---- independent-or
 
@@ -139,14 +146,19 @@ others-removes n (v ∷ vs) h e o =
     (r .0, r .1, or-first (bit (r .0) (faults v)) _ (r .2), others-off (groupFaults (v ∷ vs)) (r .0) (v ∷ vs) (first-faults v vs (r .0) (r .2)))
 
 independent-or-laws : Laws IndependentOr
-unfolding child combine possible
+unfolding child childSet childFixed combine possible
 independent-or-laws =
     record
     { bound = λ d ws k vs f p x y. group-bound d ws k vs x y
     ; monotone = λ d ws x x′ y y′. either-mono d x x′ y y′
     ; keeps = keeps
-    ; removes = removes }
+    ; removes = removes
+    ; handed = handed }
   where
+    handed : (all : List Way) → Rising 0 all → (b : Side) (x : Node) → Handed all x → possible IndependentOr (x .ways) ≡ true → Handed all (childNode IndependentOr b x)
+    handed all r left x e p = sym (part-set all r (hasNumber (x .set)) (x .present) (x .absent) (x .ways) e true (groupFaults (x .ways)))
+    handed all r right x e p = sym (part-set all r (hasNumber (x .set)) (x .present) (x .absent) (x .ways) e false (groupFaults (x .ways)))
+
     keeps : (h : Way → Bool) → Stable h → (b : Side) (vs : List Way) → any h vs ≡ false → any h (child IndependentOr b vs) ≡ false
     keeps h s left vs e = part-any h true (groupFaults vs) vs e
     keeps h s right vs e = part-any h false (groupFaults vs) vs e
@@ -170,15 +182,36 @@ fault-bound d ws k vs f l x y p q =
       (sym (mass-cong ws (happens (remaining 0 (2 ^ f) vs)) (λ a. happens vs (set a f false)) (λ a e. fix-absent f vs a (omega (arith, l, e))))))
     p q
 
+-- A fault that occurs is not fixed yet.
+not-fixed : (f P A : ℕ) (us : List Way) → occurs f (remaining P A us) ≡ true → bit f (bitOr P A) ≡ false
+not-fixed f P A us o = is-false _ (λ b. true≢false (sym o ∙ fixed-gone f P A us b))
+
+-- So fixing it is fixing one fault more.
+fix-more : (all : List Way) (x : Node) (f P′ A′ : ℕ) → Handed all x → occurs f (x .ways) ≡ true → bitOr P′ A′ ≡ 2 ^ f
+    → remaining P′ A′ (x .ways) ≡ remaining (bitOr (x .present) P′) (bitOr (x .absent) A′) (ofSet (x .set) all)
+fix-more all x f P′ A′ e o q =
+    ap (remaining P′ A′) e ∙ fix-again (x .present) (x .absent) P′ A′ (rw q (apart-test (bitOr (x .present) (x .absent)) (2 ^ f) elsewhere)) (ofSet (x .set) all)
+  where
+    free : bit f (bitOr (x .present) (x .absent)) ≡ false
+    free = not-fixed f (x .present) (x .absent) (ofSet (x .set) all) (ap (occurs f) (sym e) ∙ o)
+
+    elsewhere : (i : ℕ) → bit i (bitOr (x .present) (x .absent)) ≡ true → bit i (2 ^ f) ≡ false
+    elsewhere i b = bit-pow i f ∙ ne-eqb i f (λ z. true≢false (sym b ∙ ap (λ (j : ℕ). bit j (bitOr (x .present) (x .absent))) z ∙ free))
+
 shannon-laws : (f : ℕ) → Laws (Shannon f)
-unfolding child combine possible
+unfolding child childSet childFixed combine possible
 shannon-laws f =
     record
     { bound = λ d ws k vs h p x y. fault-bound d ws k vs f (occurs-below (length ws) f vs h p) x y
     ; monotone = λ d ws x x′ y y′. mean-mono d (getD ws f 0) x x′ y y′
     ; keeps = keeps
-    ; removes = removes }
+    ; removes = removes
+    ; handed = handed }
   where
+    handed : (all : List Way) → Rising 0 all → (b : Side) (x : Node) → Handed all x → possible (Shannon f) (x .ways) ≡ true → Handed all (childNode (Shannon f) b x)
+    handed all r left x e p = fix-more all x f (2 ^ f) 0 e p (or-zero-r (2 ^ f)) ∙ ap (λ (m : ℕ). remaining (bitOr (x .present) (2 ^ f)) m (ofSet (x .set) all)) (or-zero-r (x .absent))
+    handed all r right x e p = fix-more all x f 0 (2 ^ f) e p (or-zero-l (2 ^ f)) ∙ ap (λ (m : ℕ). remaining m (bitOr (x .absent) (2 ^ f)) (ofSet (x .set) all)) (or-zero-r (x .present))
+
     itself : bit f (2 ^ f) ≡ true
     itself = bit-pow f f ∙ eq-eqb f f refl
 

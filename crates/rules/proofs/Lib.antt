@@ -8,12 +8,14 @@ pub mod Rounding
 pub mod Chance
 pub mod Ways
 pub mod Remaining
+pub mod Sets
 pub mod Groups
 pub mod Kept
 pub mod LeafEnds
 pub mod KindLaws
 pub mod Places
 pub mod Series
+pub mod HandedDown
 pub mod Accepted
 pub mod Enclosure
 pub mod Narrowing

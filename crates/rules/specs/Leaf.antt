@@ -14,6 +14,20 @@ unfoldable pub any : (Way → Bool) → List Way → Bool
 any f [] = false
 any f (v ∷ vs) = f v || any f vs
 
+-- The ways of a list whose numbers pass a test.
+unfoldable pub select : (ℕ → Bool) → List Way → List Way
+select P [] = []
+select P (v ∷ vs) = elim (P (v .number)) as (λ b. List Way) [ true ↦ v ∷ select P vs | false ↦ select P vs ]
+
+-- The number is that of one of the ways.
+unfoldable pub hasNumber : List Way → ℕ → Bool
+hasNumber [] i = false
+hasNumber (v ∷ vs) i = eqb (v .number) i || hasNumber vs i
+
+-- The ways of a list whose numbers are those of a set.
+abbrev pub ofSet : List Way → List Way → List Way
+ofSet us vs = select (hasNumber us) vs
+
 -- A fixed fault contradicts the way: fixed present and named absent, or fixed absent and named present.
 abbrev pub contradicted : ℕ → ℕ → Way → Bool
 contradicted present absent v = not (eqb (bitOr (bitAnd (v .present) absent) (bitAnd (v .absent) present)) 0)
