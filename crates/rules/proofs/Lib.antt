@@ -24,7 +24,9 @@ pub mod Widest
 pub mod Runs
 pub mod Demand3
 pub mod Paper
+pub mod Refused
 pub mod Bytes
 pub mod Laid
 pub mod WriterLists
 pub mod Sheets
+pub mod Demands

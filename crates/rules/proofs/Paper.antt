@@ -85,7 +85,7 @@ on-paper = refl
 -- ---- the whole sheet
 
 -- 3 faults, 2 cues, allowance 10000000; cue 7 with the ways of P4, cue 9 with none.
-abbrev show : ℕ → Sheet
+abbrev pub show : ℕ → Sheet
 show budget =
     record
     { limits = record { allowance = 10000000; budget = budget }

@@ -1,0 +1,145 @@
+-- WHERE TO LOOK FIRST: what is shown of the rules, each claim under the words of the document that it settles.
+-- Every claim here is about the definitions in specs/; the contracts of the code say that its results equal those definitions.
+use mathlib.Core.Path.{_≡_, refl, sym, ap, _∙_}
+use mathlib.Core.Bool.{Bool, true, false}
+use mathlib.Core.List.{List, [], _∷_, _++_}
+use mathlib.Core.Option.{Option, none, some}
+use mathlib.Core.Logic.{_↔_}
+use Prim.Native.Nat.{ℕ, suc, _+_, _-_, _*_, _≤_, _<_}
+use native.Mathlib.Omega.{arith}
+use lib.ListN.{length, take}
+use Rattle.rules.specs.Rounding.{S}
+use Rattle.rules.specs.Table.{Table, ways, Encloses}
+use Rattle.rules.specs.Tree.{Side, Place, DTree, leaf, low, high, inners, nodes, Refinement, refine, grow, tree, hasAt, leafAt, onPath, kindAt, Subtree, subtree, root, intervalAt, Interval, interval, acceptable, series}
+use Rattle.rules.specs.Run.{next, picks, verdict, ran}
+use Rattle.rules.specs.Refusals.{Accepted}
+use Rattle.rules.specs.Calls.{Call, noted, outcomes, reports, openAnswer}
+use Rattle.rules.specs.Sheet.{Sheet, Within, AllBelow, encode, decode, readNumber}
+use Rattle.rules.proofs.KindLaws.{Handed}
+use Rattle.rules.proofs.Places.{refined-kind, refined-leaves, refined-inners, nodes-inners, has-subtree, subtree-has, subtree-kind, elsewhere}
+use Rattle.rules.proofs.Series.{In, Same, acceptable-leaf, grown-inners, places-differ}
+use Rattle.rules.proofs.HandedDown.{handed-down}
+use Rattle.rules.proofs.Enclosure.{Certain, enclosure}
+use Rattle.rules.proofs.Narrowing as narrowing
+use Rattle.rules.proofs.Narrowing.{Narrower, no-place-widens, refined-within}
+use Rattle.rules.proofs.Levels.{levels, few-nodes}
+use Rattle.rules.proofs.Runs.{TooWide, Exactly, verdict-exactly, OneRun, two-runs, picks-series, picks-budget, report-inners, spent-all, one-step}
+use Rattle.rules.proofs.Demand3.{Share, same-share, never-wider, noted-series}
+use Rattle.rules.proofs.Sheets.{IsSheet, accepted-exactly, unique, longest, first-bytes}
+
+-- ---- "The interval at each point of the tree .. always contains the exact weighted sum over all combinations of faults that satisfy some way of that point."
+
+-- What holds at a place of a tree that a series of acceptable refinements grew.
+pub record AtPlace (t : Table) (p : Place) (x : Subtree) : Type 0 where
+  -- Its interval encloses the exact sum over its remaining ways, low ≤ high, and high is at most S.
+  pub interval-certain : Certain (t .weights) x
+  -- Its remaining ways are those of its set that no fixed fault contradicts, with the fixed faults dropped.
+  pub ways-remaining : Handed (ways t) (x .node)
+  -- "Each refinement removes a fault from both sides, so there are at most 64 levels."
+  pub level : length p ≤ 64
+
+pub at-place : (t : Table) → Accepted t → (ns : List Refinement) → series t ns ≡ true → (p : Place) (x : Subtree) → subtree t p (tree ns) ≡ some x → AtPlace t p x
+unfolding subtree
+at-place t ok ns h p x e =
+    record
+    { interval-certain = enclosure t ok ns h p x e
+    ; ways-remaining = handed-down t ns h p x e
+    ; level = levels t ok ns h p (subtree-has p (root t) (tree ns) x e) }
+
+-- "At most 255 refinements, so at most 511 nodes."
+pub at-most-511 : (t : Table) (ns : List Refinement) → series t ns ≡ true → nodes (tree ns) ≤ 511
+at-most-511 = few-nodes
+
+-- ---- "It makes that one refinement at that leaf and no other, count 1: the tree gains one inner node with its two leaves, and every place that is
+-- ---- neither on the path to it nor below it keeps what it had." "No refinement .. widens the interval at the root."
+
+-- What one acceptable refinement n changes in the tree s.
+pub record OneRefinement (t : Table) (s : DTree) (n : Refinement) : Type 0 where
+  pub one-inner-more : inners (refine n s) ≡ suc (inners s)
+  pub two-nodes-more : nodes (refine n s) ≡ nodes s + 2
+  pub of-its-kind : kindAt (n .place) (refine n s) ≡ some (n .kind)
+  pub with-two-leaves : (b : Side) → leafAt (n .place ++ (b ∷ [])) (refine n s) ≡ true
+  -- Elsewhere everything stands as it stood: ways, what hangs there, kind and interval.
+  pub ways-stay : (q : Place) → onPath q (n .place) ≡ false → onPath (n .place) q ≡ false → subtree t q (refine n s) ≡ subtree t q s
+  pub intervals-stay : (q : Place) → onPath q (n .place) ≡ false → onPath (n .place) q ≡ false → intervalAt t q (refine n s) ≡ intervalAt t q s
+  -- Neither the root nor any other place has a wider interval than before.
+  pub root-within : narrowing.Within t s (refine n s)
+  pub no-wider : (q : Place) (y : Subtree) → subtree t q s ≡ some y → (z : Subtree) × (subtree t q (refine n s) ≡ some z) × Narrower (t .weights) y z
+
+pub one-refinement : (t : Table) (s : DTree) (n : Refinement) → acceptable t s n ≡ true → OneRefinement t s n
+unfolding subtree intervalAt
+one-refinement t s n a =
+    record
+    { one-inner-more = more
+    ; two-nodes-more = omega (arith, nodes-inners s, nodes-inners (refine n s), more)
+    ; of-its-kind = refined-kind (n .place) (n .kind) s l
+    ; with-two-leaves = λ b. refined-leaves (n .place) b (n .kind) s l
+    ; ways-stay = stays
+    ; intervals-stay = λ q g h. ap (λ (o : Option Subtree). elim o as (λ o. Option Interval) [ none ↦ none | some x ↦ some (interval (t .weights) x) ]) (stays q g h)
+    ; root-within = refined-within t n s
+    ; no-wider = no-place-widens t n s }
+  where
+    l : leafAt (n .place) s ≡ true
+    l = acceptable-leaf t s n a
+
+    more : inners (refine n s) ≡ suc (inners s)
+    more = refined-inners (n .place) (n .kind) s l
+
+    stays : (q : Place) → onPath q (n .place) ≡ false → onPath (n .place) q ≡ false → subtree t q (refine n s) ≡ subtree t q s
+    stays q g h = elsewhere q (n .place) (n .kind) (root t) s g h
+
+-- ---- "A run just those its rule picks, and each reports their number; 'met' is said only if the root is as narrow as the allowance asks."
+
+-- What a run with this allowance and budget does to the tree s.
+pub record OneRunOf (t : Table) (allowance budget : ℕ) (s : DTree) : Type 0 where
+  -- "A run reports the refinements it made, which is the number of inner nodes after it less the number before."
+  pub report : length (picks t allowance budget s) ≡ inners (ran t allowance budget s) - inners s
+  pub in-budget : length (picks t allowance budget s) ≤ budget
+  -- "It stops with the first that applies": met, done, full, spent.
+  pub stops : Exactly t allowance (ran t allowance budget s) (verdict t allowance budget s)
+  -- "Two runs with the same allowance and budgets a then b .. leave the tree and verdict of one run with a + b."
+  pub cut : (more : ℕ) → OneRun t allowance budget more s
+  -- Budget 1, on a tree that does not start out met, done or full: one inner node and no more.
+  pub single : (n : Refinement) → TooWide t allowance s → next t s ≡ some n → inners s < 255 → picks t allowance 1 s ≡ n ∷ []
+
+pub one-run : (t : Table) → Accepted t → (allowance budget : ℕ) (s : DTree) → OneRunOf t allowance budget s
+one-run t ok a b s =
+    record
+    { report = omega (arith, report-inners t ok a b s)
+    ; in-budget = picks-budget t a b s
+    ; stops = verdict-exactly t a b s
+    ; cut = λ c. two-runs t a b c s
+    ; single = one-step t a s }
+
+-- ---- DEMAND 3. "Two operators work from one accepted table, each from its fresh opening. For every two lists of hand refinements and runs, refused ones
+-- ---- included, in whatever orders: if both end with the same places refined and the same thing done at each, they share the interval at every place, the
+-- ---- count of refinements .., and the outcome of every further run on equal allowance and budget. Along every such list no refinement, by hand or within a
+-- ---- run, widens the interval at the root: its low end never falls, its high end never rises."
+
+pub record Demand-3 (t : Table) : Type 0 where
+  pub share : (cs cs′ : List Call) → Same (noted t cs) (noted t cs′) → Share t cs cs′
+  pub no-widening : (cs : List Call) (before after : List Refinement) (n : Refinement) → noted t cs ≡ before ++ n ∷ after
+      → narrowing.Within t (tree before) (tree (before ++ n ∷ []))
+  -- No place is noted twice, so the length of the list is the number of its places.
+  pub once : (cs : List Call) (a b : List Refinement) (n m : Refinement) → noted t cs ≡ a ++ n ∷ b → In m a → m .place ≡ n .place → ⊥
+
+pub demand-3 : (t : Table) → Accepted t → Demand-3 t
+demand-3 t ok =
+    record
+    { share = same-share t ok
+    ; no-widening = never-wider t
+    ; once = λ cs a b n m e i q. places-differ t (noted t cs) a b n m (noted-series t ok cs) e i q }
+
+-- ---- "A sheet written and read is the same sheet, from either end." "The longest sheet has 49,612 bytes."
+
+pub record SheetBytes (bs : List ℕ) : Type 0 where
+  -- Reading accepts a list of bytes exactly if it is the encoding of a sheet within the limits.
+  pub exactly : (readNumber bs ≡ 0) ↔ IsSheet bs
+  -- Which is the only one.
+  pub only : (s s′ : Sheet) → Within s → Within s′ → encode s ≡ bs → encode s′ ≡ bs → s ≡ s′
+  -- The number depends on the first 49,613 bytes alone.
+  pub front : readNumber bs ≡ readNumber (take 49613 bs)
+
+pub sheet-bytes : (bs : List ℕ) → AllBelow 256 bs → SheetBytes bs
+sheet-bytes bs h =
+    record { exactly = accepted-exactly bs h; only = λ s s′ w w′ e e′. unique s s′ w w′ (e ∙ sym e′); front = first-bytes bs }

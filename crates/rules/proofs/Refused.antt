@@ -1,0 +1,121 @@
+-- Which refusals concern which call, in 01's order, and what each says of an input that it is for: worked examples as one list with one claim.
+-- The checker computes both from the definitions (01, "Refused, by number").
+use mathlib.Core.Path.{_≡_, refl}
+use mathlib.Core.Bool.{Bool, true, false, not, _&&_, _||_}
+use mathlib.Core.List.{List, [], _∷_, _++_}
+use mathlib.Core.Option.{Option}
+use Prim.Native.Nat.{ℕ}
+use lib.ListN.{length, take, drop, replicate}
+use lib.Dec.{eqb}
+use Rattle.rules.specs.Rounding.{S}
+use Rattle.rules.specs.Table.{Way, Table, ways, rows, absentRows}
+use Rattle.rules.specs.Leaf
+use Rattle.rules.specs.Tree.{DTree}
+use Rattle.rules.specs.Refusals
+use Rattle.rules.specs.Refusals.{Refusal, first, tableRefusals, tableNumber}
+use Rattle.rules.specs.Calls.{leafRefusals, handRefusals, runRefusals}
+use Rattle.rules.specs.Sheet
+use Rattle.rules.specs.Sheet.{Lists, little, encode, readRefusals, readNumber, listsRefusals, writeRefusals, writeNumber}
+use Rattle.rules.specs.declared.Kind.{Kind}
+use Rattle.rules.specs.declared.Limits.{Limits}
+use Rattle.rules.proofs.Paper.{show}
+
+-- ---- "Reading a sheet concerns 1 to 8, 10, 12 to 15; opening a table 9 to 13; refining by hand 9 to 13 and 16 to 20; a run 9 to 16;
+-- ---- writing a sheet 2, 5, 6, 10, 12 to 15, 21, 22."
+
+abbrev numbers : List Refusal → List ℕ
+numbers [] = []
+numbers (x ∷ xs) = x .number ∷ numbers xs
+
+pub reading-concerns : (bs : List ℕ) → numbers (readRefusals bs) ≡ 1 ∷ 2 ∷ 3 ∷ 4 ∷ 5 ∷ 6 ∷ 7 ∷ 8 ∷ 10 ∷ 12 ∷ 13 ∷ 14 ∷ 15 ∷ []
+unfolding readRefusals Refusals.wayRefusals Refusals.limitRefusals
+reading-concerns bs = refl
+
+pub opening-concerns : (t : Table) → numbers (tableRefusals t) ≡ 9 ∷ 10 ∷ 11 ∷ 12 ∷ 13 ∷ []
+unfolding tableRefusals Refusals.wayRefusals
+opening-concerns t = refl
+
+pub hand-concerns : (t : Table) (bad : Bool) (s : DTree) (bs : List ℕ) (k : Kind)
+    → numbers (handRefusals t bad s bs k) ≡ 9 ∷ 10 ∷ 11 ∷ 12 ∷ 13 ∷ 16 ∷ 17 ∷ 18 ∷ 19 ∷ 20 ∷ []
+unfolding handRefusals leafRefusals tableRefusals Refusals.wayRefusals
+hand-concerns t bad s bs k = refl
+
+pub run-concerns : (t : Table) (bad : Bool) (m : Limits) → numbers (runRefusals t bad m) ≡ 9 ∷ 10 ∷ 11 ∷ 12 ∷ 13 ∷ 14 ∷ 15 ∷ 16 ∷ []
+unfolding runRefusals tableRefusals Refusals.wayRefusals Refusals.limitRefusals
+run-concerns t bad m = refl
+
+pub writing-concerns : (x : Lists) (space : ℕ) → numbers (writeRefusals x space) ≡ 2 ∷ 5 ∷ 6 ∷ 10 ∷ 12 ∷ 13 ∷ 14 ∷ 15 ∷ 21 ∷ 22 ∷ []
+unfolding writeRefusals listsRefusals Refusals.wayRefusals Refusals.limitRefusals
+writing-concerns x space = refl
+
+-- ---- worked examples
+
+-- An input with the number that it is to get.
+pub data Example : Type 0 where
+  opening : List ℕ → List ℕ → List ℕ → ℕ → Example
+  reading : List ℕ → ℕ → Example
+  writing : Lists → ℕ → ℕ → Example
+
+abbrev right : Example → Bool
+right (opening ws ps qs n) = eqb (tableNumber (record { weights = ws; present = ps; absent = qs })) n
+right (reading bs n) = eqb (readNumber bs) n
+right (writing x space n) = eqb (writeNumber x space) n
+
+abbrev allRight : List Example → Bool
+allRight [] = true
+allRight (x ∷ xs) = right x && allRight xs
+
+-- The sheet that 01 prints, with the bytes at position i replaced.
+abbrev changed : ℕ → List ℕ → List ℕ
+changed i new = take i (encode (show 40)) ++ (new ++ drop (length new) (drop i (encode (show 40))))
+
+-- The lists of that sheet.
+abbrev given : Limits → List ℕ → List ℕ → List ℕ → Lists
+given m ns ks ps = record { limits = m; weights = 500000000 ∷ 500000000 ∷ 200000000 ∷ []; numbers = ns; counts = ks; present = ps; absent = 0 ∷ 0 ∷ [] }
+
+abbrev usual : Limits
+usual = record { allowance = 10000000; budget = 40 }
+
+abbrev examples : List Example
+examples =
+    -- A weight of S, 64 faults and 128 ways are inside the limits; one more is not.
+    opening (S ∷ []) (1 ∷ []) (0 ∷ []) 0
+    ∷ opening (1000000001 ∷ []) (1 ∷ []) (0 ∷ []) 10
+    ∷ opening (replicate 64 1) (9223372036854775808 ∷ []) (0 ∷ []) 0
+    ∷ opening (replicate 65 1) [] [] 9
+    ∷ opening [] [] [] 9
+    ∷ opening (1 ∷ []) (replicate 128 1) (replicate 128 0) 0
+    ∷ opening (1 ∷ []) (replicate 129 1) (replicate 129 0) 11
+    ∷ opening (1 ∷ []) (1 ∷ []) [] 11
+    -- The first listed number wins, each test over the whole input before the next.
+    ∷ opening (1000000001 ∷ []) (replicate 129 1) (replicate 129 0) 10
+    ∷ opening (1 ∷ 1 ∷ []) (1 ∷ 4 ∷ []) (1 ∷ 0 ∷ []) 12
+    ∷ opening (1 ∷ 1 ∷ []) (1 ∷ 2 ∷ []) (0 ∷ 2 ∷ []) 13
+    -- The sheet that 01 prints, whole, cut short and with single fields changed.
+    ∷ reading (encode (show 40)) 0
+    ∷ reading (take 11 (encode (show 40))) 1
+    ∷ reading (changed 0 (65 ∷ [])) 2
+    ∷ reading (changed 2 (25 ∷ [])) 2
+    ∷ reading (changed 10 (1 ∷ [])) 3
+    ∷ reading (take 39 (encode (show 40))) 4
+    ∷ reading (changed 20 (7 ∷ [])) 5
+    ∷ reading (changed 14 (129 ∷ [])) 6
+    ∷ reading (changed 24 (71 ∷ [])) 7
+    ∷ reading (take 71 (encode (show 40))) 8
+    ∷ reading (changed 28 (little 4 1000000001)) 10
+    ∷ reading (changed 40 (8 ∷ [])) 12
+    ∷ reading (changed 48 (1 ∷ [])) 13
+    ∷ reading (changed 4 (little 4 1000000001)) 14
+    ∷ reading (encode (show 256)) 15
+    -- The writer's own numbers, and a space that is just large enough.
+    ∷ writing (given usual (7 ∷ 9 ∷ []) (2 ∷ 0 ∷ []) (3 ∷ 5 ∷ [])) 72 0
+    ∷ writing (given usual (7 ∷ 9 ∷ []) (2 ∷ 0 ∷ []) (3 ∷ 5 ∷ [])) 71 22
+    ∷ writing (given usual (7 ∷ 9 ∷ []) (1 ∷ 0 ∷ []) (3 ∷ 5 ∷ [])) 72 21
+    ∷ writing (given usual (7 ∷ 9 ∷ []) (2 ∷ 0 ∷ []) (3 ∷ 5 ∷ 8 ∷ [])) 72 12
+    ∷ writing (given usual [] (2 ∷ []) (3 ∷ [])) 0 2
+    ∷ []
+
+-- EVERY EXAMPLE GETS ITS NUMBER.
+pub refused-by-number : allRight examples ≡ true
+unfolding ways rows absentRows Leaf.any first Refusals.faultsOutside Refusals.cuesOutside Refusals.someAbove Refusals.rising Refusals.notRising Refusals.crowded Refusals.overweight Refusals.wordsAmiss Refusals.namesBeyond Refusals.namesBoth Refusals.allowanceAbove Refusals.budgetAbove Refusals.wayRefusals Refusals.limitRefusals tableRefusals tableNumber little Sheet.value Sheet.field Sheet.column Sheet.total Sheet.deal Sheet.sheetOf Sheet.weightsStart Sheet.bodiesStart Sheet.starts Sheet.headBytes Sheet.contentsBytes Sheet.weightsBytes Sheet.bodyBytes Sheet.bodiesBytes encode Sheet.sameNumbers readRefusals readNumber Sheet.disagree listsRefusals writeRefusals writeNumber
+refused-by-number = refl
