@@ -162,16 +162,17 @@ pub record Share (t : Table) (cs cs′ : List Call) : Type 0 where
 -- DEMAND 3, B: if both lists end with the same places refined and the same thing done at each, they share all of this.
 pub same-share : (t : Table) → Accepted t → (cs cs′ : List Call) → Same (noted t cs) (noted t cs′) → Share t cs cs′
 same-share t ok cs cs′ e =
-    record
-    { intervals = λ p. ap (intervalAt t p) q
-    ; kinds = λ p. ap (kindAt p) q
-    ; count = ap inners q
-    ; places = size cs
-    ; reported = size cs ∙ sym (reports-noted t ok cs)
-    ; reported′ = ap inners q ∙ size cs′ ∙ sym (reports-noted t ok cs′)
-    ; answers = λ m. ap (λ (s : DTree). outcome t s (byRun m)) q
-    ; then-kinds = λ m p. ap (λ (s : DTree). kindAt p (afterRun t s m)) q
-    ; then-intervals = λ m p. ap (λ (s : DTree). intervalAt t p (afterRun t s m)) q }
+    record {
+      intervals = λ p. ap (intervalAt t p) q;
+      kinds = λ p. ap (kindAt p) q;
+      count = ap inners q;
+      places = size cs;
+      reported = size cs ∙ sym (reports-noted t ok cs);
+      reported′ = ap inners q ∙ size cs′ ∙ sym (reports-noted t ok cs′);
+      answers = λ m. ap (λ (s : DTree). outcome t s (byRun m)) q;
+      then-kinds = λ m p. ap (λ (s : DTree). kindAt p (afterRun t s m)) q;
+      then-intervals = λ m p. ap (λ (s : DTree). intervalAt t p (afterRun t s m)) q;
+    }
   where
     q : tree (noted t cs) ≡ tree (noted t cs′)
     q = same-tree t (noted t cs) (noted t cs′) (noted-series t ok cs) (noted-series t ok cs′) e

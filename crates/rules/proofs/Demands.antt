@@ -41,10 +41,11 @@ pub record AtPlace (t : Table) (p : Place) (x : Subtree) : Type 0 where
 pub at-place : (t : Table) → Accepted t → (ns : List Refinement) → series t ns ≡ true → (p : Place) (x : Subtree) → subtree t p (tree ns) ≡ some x → AtPlace t p x
 unfolding subtree
 at-place t ok ns h p x e =
-    record
-    { interval-certain = enclosure t ok ns h p x e
-    ; ways-remaining = handed-down t ns h p x e
-    ; level = levels t ok ns h p (subtree-has p (root t) (tree ns) x e) }
+    record {
+      interval-certain = enclosure t ok ns h p x e;
+      ways-remaining = handed-down t ns h p x e;
+      level = levels t ok ns h p (subtree-has p (root t) (tree ns) x e);
+    }
 
 -- "At most 255 refinements, so at most 511 nodes."
 pub at-most-511 : (t : Table) (ns : List Refinement) → series t ns ≡ true → nodes (tree ns) ≤ 511
@@ -69,15 +70,16 @@ pub record OneRefinement (t : Table) (s : DTree) (n : Refinement) : Type 0 where
 pub one-refinement : (t : Table) (s : DTree) (n : Refinement) → acceptable t s n ≡ true → OneRefinement t s n
 unfolding subtree intervalAt
 one-refinement t s n a =
-    record
-    { one-inner-more = more
-    ; two-nodes-more = omega (arith, nodes-inners s, nodes-inners (refine n s), more)
-    ; of-its-kind = refined-kind (n .place) (n .kind) s l
-    ; with-two-leaves = λ b. refined-leaves (n .place) b (n .kind) s l
-    ; ways-stay = stays
-    ; intervals-stay = λ q g h. ap (λ (o : Option Subtree). elim o as (λ o. Option Interval) [ none ↦ none | some x ↦ some (interval (t .weights) x) ]) (stays q g h)
-    ; root-within = refined-within t n s
-    ; no-wider = no-place-widens t n s }
+    record {
+      one-inner-more = more;
+      two-nodes-more = omega (arith, nodes-inners s, nodes-inners (refine n s), more);
+      of-its-kind = refined-kind (n .place) (n .kind) s l;
+      with-two-leaves = λ b. refined-leaves (n .place) b (n .kind) s l;
+      ways-stay = stays;
+      intervals-stay = λ q g h. ap (λ (o : Option Subtree). elim o as (λ o. Option Interval) [ none ↦ none | some x ↦ some (interval (t .weights) x) ]) (stays q g h);
+      root-within = refined-within t n s;
+      no-wider = no-place-widens t n s;
+    }
   where
     l : leafAt (n .place) s ≡ true
     l = acceptable-leaf t s n a
@@ -104,12 +106,13 @@ pub record OneRunOf (t : Table) (allowance budget : ℕ) (s : DTree) : Type 0 wh
 
 pub one-run : (t : Table) → Accepted t → (allowance budget : ℕ) (s : DTree) → OneRunOf t allowance budget s
 one-run t ok a b s =
-    record
-    { report = omega (arith, report-inners t ok a b s)
-    ; in-budget = picks-budget t a b s
-    ; stops = verdict-exactly t a b s
-    ; cut = λ c. two-runs t a b c s
-    ; single = one-step t a s }
+    record {
+      report = omega (arith, report-inners t ok a b s);
+      in-budget = picks-budget t a b s;
+      stops = verdict-exactly t a b s;
+      cut = λ c. two-runs t a b c s;
+      single = one-step t a s;
+    }
 
 -- ---- DEMAND 3. "Two operators work from one accepted table, each from its fresh opening. For every two lists of hand refinements and runs, refused ones
 -- ---- included, in whatever orders: if both end with the same places refined and the same thing done at each, they share the interval at every place, the
@@ -125,10 +128,11 @@ pub record Demand-3 (t : Table) : Type 0 where
 
 pub demand-3 : (t : Table) → Accepted t → Demand-3 t
 demand-3 t ok =
-    record
-    { share = same-share t ok
-    ; no-widening = never-wider t
-    ; once = λ cs a b n m e i q. places-differ t (noted t cs) a b n m (noted-series t ok cs) e i q }
+    record {
+      share = same-share t ok;
+      no-widening = never-wider t;
+      once = λ cs a b n m e i q. places-differ t (noted t cs) a b n m (noted-series t ok cs) e i q;
+    }
 
 -- ---- "A sheet written and read is the same sheet, from either end." "The longest sheet has 49,612 bytes."
 

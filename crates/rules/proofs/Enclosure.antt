@@ -80,9 +80,10 @@ end-le ws vs (inner k l r) = least (leafEnd up ws vs) _ (leaf-le up ws vs)
 pub tree-encloses : (ws : List ℕ) → Weights ws → (vs : List Way) → namesBeyond (length ws) vs ≡ false → namesBoth vs ≡ false
     → (s : DTree) → Sound ws vs s → Encloses ws vs (end down ws vs s) (end up ws vs s)
 tree-encloses ws k vs f c s o =
-    record
-    { below = rw (← mass-weigh ws (happens vs)) (end-bound down ws k vs f c s o)
-    ; above = rw (← mass-weigh ws (happens vs)) (end-bound up ws k vs f c s o) }
+    record {
+      below = rw (← mass-weigh ws (happens vs)) (end-bound down ws k vs f c s o);
+      above = rw (← mass-weigh ws (happens vs)) (end-bound up ws k vs f c s o);
+    }
 
 -- Whatever encloses is in order.
 pub enclosing-order : (ws : List ℕ) (vs : List Way) (lo hi : ℕ) → Encloses ws vs lo hi → lo ≤ hi

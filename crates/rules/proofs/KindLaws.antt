@@ -37,7 +37,7 @@ beyond-off n i v vs h l =
     let e = any-head _ v vs h in
     bit-or i (v .present) (v .absent)
     ∙ or-neither _ _ (bit-high n i (v .present) l (leb-false (2 ^ n) (v .present) (or-left (leb (2 ^ n) (v .present)) _ e)))
-      (bit-high n i (v .absent) l (leb-false (2 ^ n) (v .absent) (or-right (leb (2 ^ n) (v .present)) _ e)))
+    (bit-high n i (v .absent) l (leb-false (2 ^ n) (v .absent) (or-right (leb (2 ^ n) (v .present)) _ e)))
 
 beyond-tail : (n : ℕ) (v : Way) (vs : List Way) → namesBeyond n (v ∷ vs) ≡ false → namesBeyond n vs ≡ false
 unfolding namesBeyond
@@ -148,12 +148,13 @@ others-removes n (v ∷ vs) h e o =
 independent-or-laws : Laws IndependentOr
 unfolding child childSet childFixed combine possible
 independent-or-laws =
-    record
-    { bound = λ d ws k vs f p x y. group-bound d ws k vs x y
-    ; monotone = λ d ws x x′ y y′. either-mono d x x′ y y′
-    ; keeps = keeps
-    ; removes = removes
-    ; handed = handed }
+    record {
+      bound = λ d ws k vs f p x y. group-bound d ws k vs x y;
+      monotone = λ d ws x x′ y y′. either-mono d x x′ y y′;
+      keeps = keeps;
+      removes = removes;
+      handed = handed;
+    }
   where
     handed : (all : List Way) → Rising 0 all → (b : Side) (x : Node) → Handed all x → possible IndependentOr (x .ways) ≡ true → Handed all (childNode IndependentOr b x)
     handed all r left x e p = sym (part-set all r (hasNumber (x .set)) (x .present) (x .absent) (x .ways) e true (groupFaults (x .ways)))
@@ -178,8 +179,8 @@ fault-bound d ws k vs f l x y p q =
     mean-bound d (getD ws f 0) x y (S ^ length ws) (mass ws (happens (remaining (2 ^ f) 0 vs))) (mass ws (happens (remaining 0 (2 ^ f) vs))) (mass ws (happens vs))
     (mass-split ws k f l (happens vs)
     ∙ ap₂ (λ (m n : ℕ). getD ws f 0 * m + (S - getD ws f 0) * n)
-      (sym (mass-cong ws (happens (remaining (2 ^ f) 0 vs)) (λ a. happens vs (set a f true)) (λ a e. fix-present f vs a (omega (arith, l, e)))))
-      (sym (mass-cong ws (happens (remaining 0 (2 ^ f) vs)) (λ a. happens vs (set a f false)) (λ a e. fix-absent f vs a (omega (arith, l, e))))))
+    (sym (mass-cong ws (happens (remaining (2 ^ f) 0 vs)) (λ a. happens vs (set a f true)) (λ a e. fix-present f vs a (omega (arith, l, e)))))
+    (sym (mass-cong ws (happens (remaining 0 (2 ^ f) vs)) (λ a. happens vs (set a f false)) (λ a e. fix-absent f vs a (omega (arith, l, e))))))
     p q
 
 -- A fault that occurs is not fixed yet.
@@ -201,12 +202,13 @@ fix-more all x f P′ A′ e o q =
 shannon-laws : (f : ℕ) → Laws (Shannon f)
 unfolding child childSet childFixed combine possible
 shannon-laws f =
-    record
-    { bound = λ d ws k vs h p x y. fault-bound d ws k vs f (occurs-below (length ws) f vs h p) x y
-    ; monotone = λ d ws x x′ y y′. mean-mono d (getD ws f 0) x x′ y y′
-    ; keeps = keeps
-    ; removes = removes
-    ; handed = handed }
+    record {
+      bound = λ d ws k vs h p x y. fault-bound d ws k vs f (occurs-below (length ws) f vs h p) x y;
+      monotone = λ d ws x x′ y y′. mean-mono d (getD ws f 0) x x′ y y′;
+      keeps = keeps;
+      removes = removes;
+      handed = handed;
+    }
   where
     handed : (all : List Way) → Rising 0 all → (b : Side) (x : Node) → Handed all x → possible (Shannon f) (x .ways) ≡ true → Handed all (childNode (Shannon f) b x)
     handed all r left x e p = fix-more all x f (2 ^ f) 0 e p (or-zero-r (2 ^ f)) ∙ ap (λ (m : ℕ). remaining (bitOr (x .present) (2 ^ f)) m (ofSet (x .set) all)) (or-zero-r (x .absent))

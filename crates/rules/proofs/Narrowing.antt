@@ -54,10 +54,12 @@ pub record Narrower (ws : List ℕ) (x y : Subtree) : Type 0 where
 -- What stands at a place of a tree still stands there when the tree has grown, with no wider interval.
 pub grown-at : (ws : List ℕ) (p : Place) (x : Node) {s s′ : DTree} → Grows s s′ → (y : Subtree) → descend p x s ≡ some y → (z : Subtree) × (descend p x s′ ≡ some z) × Narrower ws y z
 unfolding descend
-grown-at ws [] x {s} {s′} g y e =
-    (record { node = x; below = s′ }, refl,
-    subst (λ (w : Subtree). Narrower ws w (record { node = x; below = s′ })) (Option·some-injective _ y e)
-    (record { same-node = refl; low-rises = narrows down ws (x .ways) g; high-falls = narrows up ws (x .ways) g }))
+grown-at ws [] x {s} {s′} g y e = (
+  record { node = x; below = s′ },
+  refl,
+  subst (λ (w : Subtree). Narrower ws w (record { node = x; below = s′ })) (Option·some-injective _ y e)
+      (record { same-node = refl; low-rises = narrows down ws (x .ways) g; high-falls = narrows up ws (x .ways) g }),
+)
 grown-at ws (b ∷ p) x (from-leaf s) y e = absurd (Option·none-ne-some _ e)
 grown-at ws (left ∷ p) x (inside k g h) y e = grown-at ws p (childNode k left x) g y e
 grown-at ws (right ∷ p) x (inside k g h) y e = grown-at ws p (childNode k right x) h y e

@@ -87,10 +87,11 @@ on-paper = refl
 -- 3 faults, 2 cues, allowance 10000000; cue 7 with the ways of P4, cue 9 with none.
 abbrev pub show : ℕ → Sheet
 show budget =
-    record
-    { limits = record { allowance = 10000000; budget = budget }
-    ; weights = 500000000 ∷ 500000000 ∷ 200000000 ∷ []
-    ; cues = record { number = 7; present = 3 ∷ 5 ∷ []; absent = 0 ∷ 0 ∷ [] } ∷ record { number = 9; present = []; absent = [] } ∷ [] }
+    record {
+      limits = record { allowance = 10000000; budget = budget };
+      weights = 500000000 ∷ 500000000 ∷ 200000000 ∷ [];
+      cues = record { number = 7; present = 3 ∷ 5 ∷ []; absent = 0 ∷ 0 ∷ [] } ∷ record { number = 9; present = []; absent = [] } ∷ [];
+    }
 
 -- Its 72 bytes.
 pub sheet-bytes : length (encode (show 40)) ≡ 72

@@ -148,17 +148,19 @@ meets-pow w f = go (bit f w) refl
 pub fix-present : (f : ℕ) (vs : List Way) (a : Assignment) → f < length a → happens (remaining (2 ^ f) 0 vs) a ≡ happens vs (set a f true)
 fix-present f =
     fixing (2 ^ f) 0 f true
-    (record
-    { only = or-zero-r (2 ^ f)
-    ; test = λ v. ap (λ (k : ℕ). not (eqb k 0)) (ap (λ (x : ℕ). bitOr x (bitAnd (v .absent) (2 ^ f))) (and-zero-r (v .present)) ∙ or-zero-l (bitAnd (v .absent) (2 ^ f))) ∙ meets-pow (v .absent) f })
+    (record {
+      only = or-zero-r (2 ^ f);
+      test = λ v. ap (λ (k : ℕ). not (eqb k 0)) (ap (λ (x : ℕ). bitOr x (bitAnd (v .absent) (2 ^ f))) (and-zero-r (v .present)) ∙ or-zero-l (bitAnd (v .absent) (2 ^ f))) ∙ meets-pow (v .absent) f;
+    })
 
 -- The same for a fault fixed absent.
 pub fix-absent : (f : ℕ) (vs : List Way) (a : Assignment) → f < length a → happens (remaining 0 (2 ^ f) vs) a ≡ happens vs (set a f false)
 fix-absent f =
     fixing 0 (2 ^ f) f false
-    (record
-    { only = or-zero-l (2 ^ f)
-    ; test = λ v. ap (λ (k : ℕ). not (eqb k 0)) (ap (bitOr (bitAnd (v .present) (2 ^ f))) (and-zero-r (v .absent)) ∙ or-zero-r (bitAnd (v .present) (2 ^ f))) ∙ meets-pow (v .present) f })
+    (record {
+      only = or-zero-l (2 ^ f);
+      test = λ v. ap (λ (k : ℕ). not (eqb k 0)) (ap (bitOr (bitAnd (v .present) (2 ^ f))) (and-zero-r (v .absent)) ∙ or-zero-r (bitAnd (v .present) (2 ^ f))) ∙ meets-pow (v .present) f;
+    })
 
 -- ---- fixing more faults
 

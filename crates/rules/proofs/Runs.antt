@@ -161,10 +161,11 @@ pub record OneRun (t : Table) (a b c : ℕ) (s : DTree) : Type 0 where
 pub two-runs : (t : Table) (a b c : ℕ) (s : DTree) → OneRun t a b c s
 two-runs t a b c s =
     let e = picks-add t a b c s in
-    record
-    { tree = sym (ap (grow s) e ∙ grow-append (picks t a b s) (picks t a c (ran t a b s)) s)
-    ; verdicts = sym (verdict-add t a b c s)
-    ; report = sym (ap length e ∙ length-append (picks t a b s) (picks t a c (ran t a b s))) }
+    record {
+      tree = sym (ap (grow s) e ∙ grow-append (picks t a b s) (picks t a c (ran t a b s)) s);
+      verdicts = sym (verdict-add t a b c s);
+      report = sym (ap length e ∙ length-append (picks t a b s) (picks t a c (ran t a b s)));
+    }
 
 -- ---- the verdict
 
@@ -224,8 +225,8 @@ verdict-says t a (suc b) s = by (turn t a s) (reason t a s) (λ n. verdict-says 
   where
     by : (x : Turn) → Reason t a s x → ((n : Refinement) → Says t a b (length (picks t a b (refine n s))) (ran t a b (refine n s)) (verdict t a b (refine n s)))
         → Says t a (suc b) (length {A = Refinement} (elim x as (λ x. List Refinement) [ stop v ↦ [] | go n ↦ n ∷ picks t a b (refine n s) ]))
-          (grow s (elim x as (λ x. List Refinement) [ stop v ↦ [] | go n ↦ n ∷ picks t a b (refine n s) ]))
-          (elim x as (λ x. Verdict) [ stop v ↦ v | go n ↦ verdict t a b (refine n s) ])
+        (grow s (elim x as (λ x. List Refinement) [ stop v ↦ [] | go n ↦ n ∷ picks t a b (refine n s) ]))
+        (elim x as (λ x. Verdict) [ stop v ↦ v | go n ↦ verdict t a b (refine n s) ])
     by (stop v) r ih = stop-says t a (suc b) zero s v r
     by (go n) r ih = one-more t a b _ _ _ (ih n)
 
@@ -252,29 +253,33 @@ other u v f e = absurd (f (ap rank e))
 
 exactly : (t : Table) (a b m : ℕ) (s : DTree) (v : Verdict) → Says t a b m s v → Exactly t a s v
 exactly t a b m s v (is-met w) =
-    record
-    { met = (λ e. w, λ h. refl)
-    ; done = (other Met Done (omega arith), λ h. absurd (omega (arith, w, h .0)))
-    ; full = (other Met Full (omega arith), λ h. absurd (omega (arith, w, h .0)))
-    ; spent = (other Met Spent (omega arith), λ h. absurd (omega (arith, w, h .0))) }
+    record {
+      met = (λ e. w, λ h. refl);
+      done = (other Met Done (omega arith), λ h. absurd (omega (arith, w, h .0)));
+      full = (other Met Full (omega arith), λ h. absurd (omega (arith, w, h .0)));
+      spent = (other Met Spent (omega arith), λ h. absurd (omega (arith, w, h .0)));
+    }
 exactly t a b m s v (is-done w f) =
-    record
-    { met = (other Done Met (omega arith), λ h. absurd (omega (arith, w, h)))
-    ; done = (λ e. (w, f), λ h. refl)
-    ; full = (other Done Full (omega arith), λ h. absurd (not-both t s f (h .1)))
-    ; spent = (other Done Spent (omega arith), λ h. absurd (not-both t s f (h .1))) }
+    record {
+      met = (other Done Met (omega arith), λ h. absurd (omega (arith, w, h)));
+      done = (λ e. (w, f), λ h. refl);
+      full = (other Done Full (omega arith), λ h. absurd (not-both t s f (h .1)));
+      spent = (other Done Spent (omega arith), λ h. absurd (not-both t s f (h .1)));
+    }
 exactly t a b m s v (is-full w o r) =
-    record
-    { met = (other Full Met (omega arith), λ h. absurd (omega (arith, w, h)))
-    ; done = (other Full Done (omega arith), λ h. absurd (not-both t s (h .1) o))
-    ; full = (λ e. (w, o, r), λ h. refl)
-    ; spent = (other Full Spent (omega arith), λ h. absurd (omega (arith, r, h .2))) }
+    record {
+      met = (other Full Met (omega arith), λ h. absurd (omega (arith, w, h)));
+      done = (other Full Done (omega arith), λ h. absurd (not-both t s (h .1) o));
+      full = (λ e. (w, o, r), λ h. refl);
+      spent = (other Full Spent (omega arith), λ h. absurd (omega (arith, r, h .2)));
+    }
 exactly t a b m s v (is-spent w o r q) =
-    record
-    { met = (other Spent Met (omega arith), λ h. absurd (omega (arith, w, h)))
-    ; done = (other Spent Done (omega arith), λ h. absurd (not-both t s (h .1) o))
-    ; full = (other Spent Full (omega arith), λ h. absurd (omega (arith, r, h .2)))
-    ; spent = (λ e. (w, o, r), λ h. refl) }
+    record {
+      met = (other Spent Met (omega arith), λ h. absurd (omega (arith, w, h)));
+      done = (other Spent Done (omega arith), λ h. absurd (not-both t s (h .1) o));
+      full = (other Spent Full (omega arith), λ h. absurd (omega (arith, r, h .2)));
+      spent = (λ e. (w, o, r), λ h. refl);
+    }
 
 -- THE VERDICT: met exactly if the width is at most the allowance; done exactly if not met and no leaf is open; full exactly if neither and 255; else spent.
 pub verdict-exactly : (t : Table) (a b : ℕ) (s : DTree) → Exactly t a (ran t a b s) (verdict t a b s)

@@ -36,12 +36,13 @@ acceptable-found t s n h = go (leafWays (n .place) (ways t) s) refl h
     go none e h = absurd (true≢false (sym h))
     go (some vs) e h =
         let k = and-right (isOpen (t .weights) vs) _ h in
-        record
-        { found = vs
-        ; there = e
-        ; opened = and-left (isOpen (t .weights) vs) _ h
-        ; room = ltb-true (inners s) 255 (and-left (roomy s) _ k)
-        ; fitting = and-right (roomy s) _ k }
+        record {
+          found = vs;
+          there = e;
+          opened = and-left (isOpen (t .weights) vs) _ h;
+          room = ltb-true (inners s) 255 (and-left (roomy s) _ k);
+          fitting = and-right (roomy s) _ k;
+        }
 
 pub acceptable-leaf : (t : Table) (s : DTree) (n : Refinement) → acceptable t s n ≡ true → leafAt (n .place) s ≡ true
 acceptable-leaf t s n h = let k = acceptable-found t s n h in ways-leaf (n .place) (ways t) s (k .found) (k .there)

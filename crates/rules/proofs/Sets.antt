@@ -70,7 +70,7 @@ part-sift b m (v ∷ vs) = by (Bool·beq b (touches m v)) (part-sift b m vs)
   where
     by : (x : Bool) → part b m vs ≡ sift (λ v. Bool·beq b (touches m v)) vs
         → _≡_ {A = List Way} (elim x as (λ c. List Way) [ true ↦ v ∷ part b m vs | false ↦ part b m vs ])
-          (elim x as (λ c. List Way) [ true ↦ v ∷ sift (λ v. Bool·beq b (touches m v)) vs | false ↦ sift (λ v. Bool·beq b (touches m v)) vs ])
+        (elim x as (λ c. List Way) [ true ↦ v ∷ sift (λ v. Bool·beq b (touches m v)) vs | false ↦ sift (λ v. Bool·beq b (touches m v)) vs ])
     by true ih = ap (λ (r : List Way). v ∷ r) ih
     by false ih = ih
 

@@ -11,7 +11,6 @@ use lib.ListN.{length, set, getD}
 use Rattle.rules.specs.Rounding.{S}
 use Rattle.rules.specs.Table.{Assignment, indicator, product, assignments, sum, weigh}
 
-
 unfoldable pub expect : List ℕ → (Assignment → ℕ) → ℕ
 expect [] g = g []
 expect (w ∷ ws) g = w * expect ws (λ (a : Assignment). g (true ∷ a)) + (S - w) * expect ws (λ (a : Assignment). g (false ∷ a))

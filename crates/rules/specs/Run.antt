@@ -78,9 +78,10 @@ pub data Turn : Type 0 where
 -- Met, done and full, in this order; otherwise the refinement that the rule picks. Spent is the run's own.
 unfoldable pub turn : Table → ℕ → DTree → Turn
 turn t allowance s =
-    elim (narrow allowance (low t s) (high t s)) as (λ b. Turn)
-    [ true ↦ stop Met
-    | false ↦ elim (next t s) as (λ o. Turn) [ none ↦ stop Done | some n ↦ elim (roomy s) as (λ b. Turn) [ true ↦ go n | false ↦ stop Full ] ] ]
+    elim (narrow allowance (low t s) (high t s)) as (λ b. Turn) [
+      | true ↦ stop Met
+      | false ↦ elim (next t s) as (λ o. Turn) [ none ↦ stop Done | some n ↦ elim (roomy s) as (λ b. Turn) [ true ↦ go n | false ↦ stop Full ] ]
+    ]
 
 -- The refinements that a run with this allowance and budget makes on a tree, one after the other.
 unfoldable pub picks : Table → ℕ → ℕ → DTree → List Refinement

@@ -98,13 +98,14 @@ absentOf (c ∷ cs) = c .absent ++ absentOf cs
 -- The lists of a sheet.
 unfoldable pub listsOf : Sheet → Lists
 listsOf s =
-    record
-    { limits = s .limits
-    ; weights = s .weights
-    ; numbers = numbersOf (s .cues)
-    ; counts = countsOf (s .cues)
-    ; present = presentOf (s .cues)
-    ; absent = absentOf (s .cues) }
+    record {
+      limits = s .limits;
+      weights = s .weights;
+      numbers = numbersOf (s .cues);
+      counts = countsOf (s .cues);
+      present = presentOf (s .cues);
+      absent = absentOf (s .cues);
+    }
 
 -- ---- its bytes
 
@@ -194,13 +195,14 @@ absentIn bs = column 8 16 (bodiesIn bs + 8) (total (countsIn bs)) bs
 -- The lists of a sheet's bytes.
 unfoldable pub listsIn : List ℕ → Lists
 listsIn bs =
-    record
-    { limits = limitsIn bs
-    ; weights = weightsIn bs
-    ; numbers = numbersIn bs
-    ; counts = countsIn bs
-    ; present = presentIn bs
-    ; absent = absentIn bs }
+    record {
+      limits = limitsIn bs;
+      weights = weightsIn bs;
+      numbers = numbersIn bs;
+      counts = countsIn bs;
+      present = presentIn bs;
+      absent = absentIn bs;
+    }
 
 -- The sheet that bytes give.
 unfoldable pub decode : List ℕ → Sheet

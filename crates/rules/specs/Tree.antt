@@ -177,11 +177,12 @@ childFixed right (Shannon f) right m = bitOr m (2 ^ f)
 -- A child of a node of kind k.
 abbrev pub childNode : Kind → Side → Node → Node
 childNode k b x =
-    record
-    { set = childSet k b (x .set) (x .ways)
-    ; present = childFixed left k b (x .present)
-    ; absent = childFixed right k b (x .absent)
-    ; ways = child k b (x .ways) }
+    record {
+      set = childSet k b (x .set) (x .ways);
+      present = childFixed left k b (x .present);
+      absent = childFixed right k b (x .absent);
+      ways = child k b (x .ways);
+    }
 
 -- A node with the tree that hangs there.
 pub record Subtree : Type 0 where
