@@ -1,0 +1,3 @@
+-- The records of a tree, and the library's calls on them.
+pub mod Records
+pub mod Library
