@@ -1,0 +1,2 @@
+-- The theorems about records.
+pub mod Positions
