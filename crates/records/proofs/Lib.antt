@@ -1,2 +1,3 @@
 -- The theorems about records.
 pub mod Positions
+pub mod InPlace
