@@ -1,0 +1,7 @@
+-- Laws on plain lists and numbers that the functions' proofs rest on.
+-- Those marked pub are for the proofs of callers too.
+mod KeptWords
+mod Lowest
+pub mod Walk
+pub mod Weights
+mod Words

@@ -1,0 +1,42 @@
+-- A loop over the ways of a Clauses: what is left of the list at index i.
+-- Rests on the kit's laws of `take` and `drop`.
+use mathlib.Core.Path.{_≡_, sym, ap, _∙_}
+use mathlib.Core.List.{List, [], _∷_, map}
+use Prim.Native.Nat.{ℕ, _+_, _≤_, _<_}
+use native.Mathlib.Numerals.{add-one}
+use native.Mathlib.Omega.{arith}
+use lib.ListN.{length, getD, drop, length-take, length-map, drop-of-length-le}
+use lib.Seq.{drop-cons, getD-take}
+use Rattle.rules.specs.declared.Way.{Way}
+use Rattle.formula.specs.declared.Clauses.{Clauses}
+use Rattle.formula.specs.Clauses.{waysOf}
+
+-- An array's list is as long as its image.
+pub length-unmap : (X Y : Type 0) (f : X → Y) (l : List X) (n : ℕ) → length (map f l) ≡ n → length l ≡ n
+length-unmap X Y f l n p = sym (length-map l f) ∙ p
+
+-- The way at i; past the array's end, where no code reads, one of zeros.
+abbrev pub way : Clauses → ℕ → Way
+way c i = getD (c .list) i (record { number = 0; present = 0; absent = 0 })
+
+-- The ways from i on.
+abbrev pub waysFrom : Clauses → ℕ → List Way
+waysFrom c i = drop i (waysOf c)
+
+-- There are as many as the length says.
+pub count : (c : Clauses) → length (c .list) ≡ 128 → c .len ≤ 128 → length (waysOf c) ≡ c .len
+count c long fits = simp length-take (omega arith)
+
+module _ {A : Type 0} (f : List Way → A) (c : Clauses) (i : ℕ) where
+  -- One turn of a loop whose answer is f of the ways from i on: the way at i comes first.
+  pub forward : {R : A} → length (c .list) ≡ 128 → c .len ≤ 128 → i < c .len → f (waysFrom c i) ≡ R → f (way c i ∷ waysFrom c (i + 1)) ≡ R
+  forward long fits h inv =
+      let l : i < length (waysOf c) = omega (arith, count c long fits) in
+      let e : waysFrom c i ≡ way c i ∷ waysFrom c (i + 1) = rw (add-one, ← (getD-take (c .len) (c .list) i _ h)) (drop-cons (waysOf c) i _ l) in
+      sym (ap f e) ∙ inv
+
+  -- At the end no way is left.
+  pub ended : {R : A} → c .len ≤ i → f (waysFrom c i) ≡ R → f [] ≡ R
+  ended h inv =
+      let l : length (waysOf c) ≤ i = simp length-take (omega arith) in
+      sym (ap f (drop-of-length-le (waysOf c) l)) ∙ inv

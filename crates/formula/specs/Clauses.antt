@@ -1,0 +1,30 @@
+-- How the code's values stand for those of the definitions of `rules`: a bool for a direction, a list with a length for a leaf's ways.
+-- Rests on `rules`, Rounding, Table and Leaf.
+use mathlib.Core.Bool.{Bool, true, false, not, _&&_}
+use mathlib.Core.List.{List}
+use Prim.Native.Nat.{ℕ}
+use lib.ListN.{length, take}
+use lib.Dec.{leb, ltb}
+use Rattle.rules.specs.Rounding.{Dir, down, up}
+use Rattle.rules.specs.Table.{indicator}
+use Rattle.rules.specs.Leaf.{any, isEmpty, leafLow, leafHigh, isOpen}
+use Rattle.rules.specs.declared.Way.{Way}
+use Rattle.formula.specs.declared.Clauses.{Clauses}
+use Rattle.formula.specs.declared.Ends.{Ends}
+
+-- The direction that a bool says: true is up.
+abbrev pub dirOf : Bool → Dir
+dirOf true = up
+dirOf false = down
+
+-- The ways that a Clauses holds.
+abbrev pub waysOf : Clauses → List Way
+waysOf c = take (c .len) (c .list)
+
+-- 1 if a leaf with these ways and ends is open, 0 if it is closed.
+unfoldable pub liveOf : List Way → ℕ → ℕ → ℕ
+liveOf vs low high = indicator (leb 2 (length vs) && (not (any isEmpty vs) && ltb low high))
+
+-- A leaf's ends, and whether it is open.
+unfoldable pub endsOf : List ℕ → List Way → Ends
+endsOf ws vs = record { low = leafLow ws vs; high = leafHigh ws vs; live = indicator (isOpen ws vs) }
