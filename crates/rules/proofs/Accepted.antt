@@ -1,7 +1,7 @@
 -- What holds of a table that none of 9 to 13 refuses.
 -- Rests on First.antt.
 use mathlib.Core.Path.{_≡_, refl}
-use mathlib.Core.Bool.{Bool, true, false, not, _||_}
+use mathlib.Core.Bool.{false}
 use mathlib.Core.List.{List, [], _∷_}
 use Prim.Native.Nat.{ℕ, zero, suc, _≤_, _<_}
 use native.Mathlib.Omega.{arith}
@@ -12,7 +12,7 @@ use Rattle.rules.specs.Rounding.{S}
 use Rattle.rules.specs.Table.{Table, ways}
 use Rattle.rules.specs.Refusals.{faultsOutside, someAbove, overweight, wordsAmiss, namesBeyond, namesBoth, wayRefusals, tableRefusals, tableNumber, Accepted}
 use Rattle.rules.proofs.Booleans.{or-left, or-right}
-use Rattle.rules.proofs.First.{NoneApplies, none-applies}
+use Rattle.rules.proofs.First.{none-applies}
 use Rattle.rules.proofs.Sum.{Weights}
 
 -- What 10 lets through: every weight is at most S.

@@ -1,8 +1,7 @@
 -- Words as sets of bits: what `&`, `|`, dropping bits and a power of two do to bit i, and that equal bits make equal words.
 -- Rests on the kit's laws of bitAnd and bitOr.
-use mathlib.Core.Path.{_≡_, refl, sym, ap, ap₂, _∙_, subst}
+use mathlib.Core.Path.{_≡_, refl, sym, ap, _∙_}
 use mathlib.Core.Bool.{Bool, true, false, not, _&&_, _||_, true≢false}
-use mathlib.Core.List.{List, [], _∷_}
 use Prim.Native.Nat.{ℕ, zero, suc, _+_, _-_, _*_, _/_, _%_, _^_, _≤_, _<_, min, max}
 use native.Mathlib.Nat.{div-div-eq-div-mul, pow-succ', div-one}
 use native.Mathlib.Decide.{decLt}
@@ -10,7 +9,7 @@ use native.Mathlib.Omega.{arith}
 use lib.Arith.{bin-ind}
 use lib.Dec.{eqb, eqb·zero-suc, eqb·suc-zero, eqb·suc-suc}
 use lib.Bits.{bitAnd, bitOr, and-step, or-step, and-le-l}
-use borrow.Author.Tests.{eqb-true, eqb-false, eq-eqb, ne-eqb}
+use borrow.Author.Tests.{eqb-true, ne-eqb}
 use Rattle.rules.specs.Table.{odd, bit}
 use Rattle.rules.specs.Leaf.{without}
 use Rattle.rules.proofs.Booleans.{and-second, or-left, or-right}

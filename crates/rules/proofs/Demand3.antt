@@ -1,27 +1,24 @@
 -- DEMAND 3, by the rules: two lists of calls that note the same refinements agree on everything, and no refinement along a list widens the root.
 -- A list starts from an accepted opening. Rests on Series.antt, Runs.antt and Narrowing.antt.
-use mathlib.Core.Path.{_≡_, refl, sym, ap, ap₂, _∙_, subst}
-use mathlib.Core.Bool.{Bool, true, false, not, _&&_, _||_, true≢false}
-use mathlib.Core.List.{List, [], _∷_, _++_, append-assoc, List·Memᴰ·append-cases, Memᴰ·append-left, Memᴰ·append-right}
-use mathlib.Core.Option.{Option, none, some, Option·some-injective, Option·none-ne-some}
-use mathlib.Core.Logic.{_⊎_, inl, inr}
-use Prim.Native.Nat.{ℕ, zero, suc, _+_, _-_, _≤_, _<_}
+use mathlib.Core.Path.{_≡_, refl, sym, ap, _∙_}
+use mathlib.Core.Bool.{Bool, true, false, not, _&&_, true≢false}
+use mathlib.Core.List.{List, [], _∷_, _++_}
+use mathlib.Core.Option.{Option, none, some}
+use Prim.Native.Nat.{ℕ, zero, suc, _+_, _-_, _≤_}
 use native.Mathlib.Omega.{arith}
 use lib.ListN.{length, length-append}
-use lib.Dec.{ltb}
 use borrow.Author.Tests.{not-false, le-ltb, lt-ltb}
 use Rattle.rules.specs.Table.{Way, Table, ways}
 use Rattle.rules.specs.Leaf.{isOpen}
-use Rattle.rules.specs.Tree.{Side, left, right, Place, DTree, leaf, possible, low, high, inners, Refinement, refine, grow, tree, kindAt, leafWays, roomy, intervalAt, acceptable, seriesFrom, series}
+use Rattle.rules.specs.Tree.{left, right, Place, DTree, leaf, possible, low, high, inners, Refinement, grow, tree, kindAt, leafWays, roomy, intervalAt, acceptable, seriesFrom, series}
 use Rattle.rules.specs.Run.{picks, verdict}
 use Rattle.rules.specs.Refusals.{Refusal, refusal, first, tableRefusals, tableNumber, wayRefusals, limitRefusals, Accepted}
-use Rattle.rules.specs.Answers.{Reply}
-use Rattle.rules.specs.Calls.{stepTo, placeOf, placeBytes, leafNamed, noLeaf, ofLeaf, leafRefusals, handRefusals, runRefusals, handNumber, runNumber, handMakes, runMakes, figures, answerBy, runAnswerBy, handAnswer, runAnswer, makesBy, Call, byHand, byRun, Outcome, handed, ran, reply, callNumber, outcome, wouldMake, makes, notedFrom, noted, outcomesFrom, outcomes, reports}
+use Rattle.rules.specs.Calls.{stepTo, placeOf, placeBytes, leafNamed, noLeaf, ofLeaf, leafRefusals, handRefusals, runRefusals, handNumber, runNumber, handMakes, runMakes, figures, answerBy, runAnswerBy, handAnswer, runAnswer, makesBy, Call, byHand, byRun, handed, ran, reply, callNumber, outcome, wouldMake, makes, notedFrom, noted, outcomesFrom, outcomes, reports}
 use Rattle.rules.specs.declared.Kind.{Kind}
 use Rattle.rules.specs.declared.Limits.{Limits}
 use Rattle.rules.proofs.Booleans.{and-both}
-use Rattle.rules.proofs.First.{NoneApplies, none-applies, first-after, first-later, first-end, first-none}
-use Rattle.rules.proofs.Series.{In, Same, acceptable-found, grow-append, series-append, same-tree, series-inners}
+use Rattle.rules.proofs.First.{none-applies, first-after, first-later, first-end}
+use Rattle.rules.proofs.Series.{Same, acceptable-found, grow-append, series-append, same-tree, series-inners}
 use Rattle.rules.proofs.Levels.{refined-above}
 use Rattle.rules.proofs.Runs.{picks-series}
 use Rattle.rules.proofs.Narrowing.{Within, refined-within, grown-within}

@@ -1,29 +1,29 @@
 -- WHERE TO LOOK FIRST: what is shown of the rules, each claim under the words of the document that it settles.
 -- Every claim here is about the definitions in specs/; the contracts of the code say that its results equal those definitions.
-use mathlib.Core.Path.{_≡_, refl, sym, ap, _∙_}
-use mathlib.Core.Bool.{Bool, true, false}
+use mathlib.Core.Path.{_≡_, sym, ap, _∙_}
+use mathlib.Core.Bool.{true, false}
 use mathlib.Core.List.{List, [], _∷_, _++_}
 use mathlib.Core.Option.{Option, none, some}
 use mathlib.Core.Logic.{_↔_}
-use Prim.Native.Nat.{ℕ, suc, _+_, _-_, _*_, _≤_, _<_}
+use Prim.Native.Nat.{ℕ, suc, _+_, _-_, _≤_, _<_}
 use native.Mathlib.Omega.{arith}
 use lib.ListN.{length, take}
 use Rattle.rules.specs.Rounding.{S}
-use Rattle.rules.specs.Table.{Table, ways, Encloses}
-use Rattle.rules.specs.Tree.{Side, Place, DTree, leaf, low, high, inners, nodes, Refinement, refine, grow, tree, hasAt, leafAt, onPath, kindAt, Subtree, subtree, root, intervalAt, Interval, interval, acceptable, series}
+use Rattle.rules.specs.Table.{Table, ways}
+use Rattle.rules.specs.Tree.{Side, Place, DTree, leaf, low, high, inners, nodes, Refinement, refine, tree, leafAt, onPath, kindAt, Subtree, subtree, root, intervalAt, Interval, interval, acceptable, series}
 use Rattle.rules.specs.Run.{next, picks, verdict, ran}
 use Rattle.rules.specs.Refusals.{Accepted}
-use Rattle.rules.specs.Calls.{Call, noted, outcomes, reports, openAnswer}
-use Rattle.rules.specs.Sheet.{Sheet, Within, AllBelow, encode, decode, readNumber}
+use Rattle.rules.specs.Calls.{Call, noted, reports}
+use Rattle.rules.specs.Sheet.{Sheet, Within, AllBelow, encode, readNumber}
 use Rattle.rules.proofs.KindLaws.{Handed}
-use Rattle.rules.proofs.Places.{refined-kind, refined-leaves, refined-inners, nodes-inners, has-subtree, subtree-has, subtree-kind, elsewhere}
-use Rattle.rules.proofs.Series.{In, Same, acceptable-leaf, grown-inners, places-differ}
+use Rattle.rules.proofs.Places.{refined-kind, refined-leaves, refined-inners, nodes-inners, subtree-has, elsewhere}
+use Rattle.rules.proofs.Series.{In, Same, acceptable-leaf, places-differ}
 use Rattle.rules.proofs.HandedDown.{handed-down}
 use Rattle.rules.proofs.Enclosure.{Certain, enclosure}
 use Rattle.rules.proofs.Narrowing as narrowing
 use Rattle.rules.proofs.Narrowing.{Narrower, no-place-widens, refined-within}
 use Rattle.rules.proofs.Levels.{levels, few-nodes}
-use Rattle.rules.proofs.Runs.{TooWide, Exactly, verdict-exactly, OneRun, two-runs, picks-series, picks-budget, report-inners, spent-all, one-step}
+use Rattle.rules.proofs.Runs.{TooWide, Exactly, verdict-exactly, OneRun, two-runs, picks-budget, report-inners, one-step}
 use Rattle.rules.proofs.Demand3.{Share, same-share, never-wider, noted-series}
 use Rattle.rules.proofs.Sheets.{IsSheet, accepted-exactly, unique, longest, first-bytes}
 

@@ -1,10 +1,10 @@
 -- ENCLOSURE: the interval at every place of every tree that a series of acceptable refinements grows encloses the exact sum of that place.
 -- By induction over the tree, from the leaf's bound and the laws of each kind (KindLaws.antt).
-use mathlib.Core.Path.{_≡_, refl, sym, ap, ap₂, _∙_, subst}
+use mathlib.Core.Path.{_≡_, refl, sym, ap₂, _∙_, subst}
 use mathlib.Core.Bool.{Bool, true, false, not, _&&_, _||_, true≢false}
 use mathlib.Core.List.{List, [], _∷_}
-use mathlib.Core.Option.{Option, none, some, Option·some-injective, Option·none-ne-some}
-use Prim.Native.Nat.{ℕ, zero, suc, _+_, _-_, _*_, _^_, _≤_, _<_, min, max}
+use mathlib.Core.Option.{some, Option·some-injective, Option·none-ne-some}
+use Prim.Native.Nat.{ℕ, _-_, _*_, _^_, _≤_, min}
 use native.Mathlib.Nat.{le-trans, le-of-mul-le-mul-right}
 use native.Mathlib.Omega.{arith}
 use lib.ListN.{length}
@@ -12,17 +12,17 @@ use lib.Dec.{eqb, leb}
 use lib.Bits.{bitAnd}
 use borrow.Author.Tests.{eqb-true, leb-false, lt-leb}
 use Rattle.rules.specs.Rounding.{S, Dir, down, up, Le}
-use Rattle.rules.specs.Table.{bit, Way, Table, ways, faults, Assignment, fitsAll, satisfies, happens, weigh, exact, Encloses}
-use Rattle.rules.specs.Leaf.{any, without, dropped, isEmpty, isOpen, leafEnd}
-use Rattle.rules.specs.Tree.{Side, left, right, Place, DTree, leaf, inner, possible, child, combine, overlap, end, low, high, Refinement, tree, Node, Subtree, childNode, descend, subtree, root, interval, intervalAt, series}
+use Rattle.rules.specs.Table.{bit, Way, Table, ways, faults, Assignment, fitsAll, satisfies, happens, exact, Encloses}
+use Rattle.rules.specs.Leaf.{any, without, isEmpty, leafEnd}
+use Rattle.rules.specs.Tree.{Side, left, right, Place, DTree, leaf, inner, child, end, low, high, Refinement, tree, Node, Subtree, childNode, descend, subtree, root, interval, series}
 use Rattle.rules.specs.Refusals.{namesBeyond, namesBoth, Accepted}
 use Rattle.rules.specs.declared.Kind.{Kind}
 use Rattle.rules.proofs.Booleans.{and-left, or-left, or-right, or-neither, or-first, or-second, or-cases}
 use Rattle.rules.proofs.Bits.{bit-without, or-zero, apart-bit, apart-test}
-use Rattle.rules.proofs.Sum.{expect, mass, Weights, total, mass-never, mass-weigh, mass-cong, pow-S-pos}
+use Rattle.rules.proofs.Sum.{mass, Weights, total, mass-never, mass-weigh, mass-cong, pow-S-pos}
 use Rattle.rules.proofs.Rounding.{overlap-bound}
 use Rattle.rules.proofs.LeafEnds.{leaf-bound, leaf-le}
-use Rattle.rules.proofs.KindLaws.{Laws, laws, Stable}
+use Rattle.rules.proofs.KindLaws.{laws, Stable}
 use Rattle.rules.proofs.Series.{Sound, series-sound}
 use Rattle.rules.proofs.Accepted.{inside, one-sense, weights-fit}
 

@@ -1,9 +1,9 @@
 -- THE WAYS THAT A TREE HANDS DOWN are the remaining ways as 01 words them: by the node's set of ways and its fixed faults.
 -- By induction over the path, from the law of each kind (KindLaws.antt).
-use mathlib.Core.Path.{_≡_, refl, sym, ap, _∙_, subst}
+use mathlib.Core.Path.{_≡_, sym, ap, _∙_, subst}
 use mathlib.Core.Bool.{true}
 use mathlib.Core.List.{List, [], _∷_}
-use mathlib.Core.Option.{Option, none, some, Option·some-injective, Option·none-ne-some}
+use mathlib.Core.Option.{some, Option·some-injective, Option·none-ne-some}
 use Prim.Native.Nat.{ℕ}
 use Rattle.rules.specs.Table.{Way, Table, ways}
 use Rattle.rules.specs.Leaf.{hasNumber, ofSet, remaining}

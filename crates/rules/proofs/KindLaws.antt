@@ -1,17 +1,17 @@
 -- What the theorems about trees need of each kind of inner node: one record of laws, and its proof for each kind.
 -- Everything about whole trees (enclosure, no widening, levels, demand 3) uses these laws only, so that a further kind brings its laws and no more.
 use mathlib.Core.Path.{_≡_, refl, sym, ap, ap₂, _∙_}
-use mathlib.Core.Bool.{Bool, true, false, not, _&&_, _||_, true≢false}
+use mathlib.Core.Bool.{Bool, true, false, not, _||_, true≢false}
 use mathlib.Core.List.{List, [], _∷_}
 use mathlib.Core.Logic.{_⊎_, inl, inr}
-use Prim.Native.Nat.{ℕ, zero, suc, _+_, _-_, _*_, _^_, _≤_, _<_}
+use Prim.Native.Nat.{ℕ, _+_, _-_, _*_, _^_, _≤_, _<_}
 use native.Mathlib.Decide.{decLt}
 use native.Mathlib.Omega.{arith}
 use lib.ListN.{length, set, getD}
-use lib.Dec.{eqb, leb}
-use lib.Bits.{bitAnd, bitOr, or-zero-l, or-zero-r}
+use lib.Dec.{leb}
+use lib.Bits.{bitOr, or-zero-l, or-zero-r}
 use borrow.Author.Tests.{leb-false, eqb-false, eq-eqb, ne-eqb}
-use Rattle.rules.specs.Rounding.{S, Dir, down, up, Le}
+use Rattle.rules.specs.Rounding.{S, Dir, down, Le}
 use Rattle.rules.specs.Table.{bit, Way, faults, Assignment, happens}
 use Rattle.rules.specs.Leaf.{any, hasNumber, ofSet, dropped, remaining, isEmpty}
 use Rattle.rules.specs.Group.{groupFaults, part, group, others, nonempty, fallApart}

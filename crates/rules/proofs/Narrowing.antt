@@ -1,14 +1,14 @@
 -- NO WIDENING: a tree that only grew has no wider interval at any place that it had before.
 -- By induction over the tree, from the monotone law of each kind (KindLaws.antt).
-use mathlib.Core.Path.{_≡_, refl, sym, ap, _∙_, subst}
+use mathlib.Core.Path.{_≡_, refl, subst}
 use mathlib.Core.List.{List, [], _∷_}
-use mathlib.Core.Option.{Option, none, some, Option·some-injective, Option·none-ne-some}
+use mathlib.Core.Option.{some, Option·some-injective, Option·none-ne-some}
 use Prim.Native.Nat.{ℕ, _≤_}
 use native.Mathlib.Omega.{arith}
 use Rattle.rules.specs.Rounding.{Dir, down, up, Le}
 use Rattle.rules.specs.Table.{Way, Table, ways}
 use Rattle.rules.specs.Leaf.{leafEnd}
-use Rattle.rules.specs.Tree.{Side, left, right, Place, DTree, leaf, inner, child, end, low, high, refineAt, Refinement, refine, grow, Node, Subtree, childNode, descend, subtree, root, interval}
+use Rattle.rules.specs.Tree.{left, right, Place, DTree, leaf, inner, child, end, low, high, refineAt, Refinement, refine, grow, Node, Subtree, childNode, descend, subtree, root, interval}
 use Rattle.rules.specs.declared.Kind.{Kind}
 use Rattle.rules.proofs.Rounding.{le-self, overlap-left, overlap-mono}
 use Rattle.rules.proofs.KindLaws.{laws}

@@ -1,8 +1,8 @@
 -- The cases on paper, P1 to P9, as one list with one claim about the list, and the whole sheet that 01 prints (01, "On paper first").
 -- The checker computes both from the definitions.
 use mathlib.Core.Path.{_≡_, refl}
-use mathlib.Core.Bool.{Bool, true, false, not, _&&_, _||_, Bool·beq}
-use mathlib.Core.List.{List, [], _∷_, _++_}
+use mathlib.Core.Bool.{Bool, true, false, _&&_, Bool·beq}
+use mathlib.Core.List.{List, [], _∷_}
 use Prim.Native.Nat.{ℕ}
 use lib.ListN.{length}
 use lib.Dec.{eqb}
@@ -10,12 +10,12 @@ use Rattle.rules.specs.Rounding.{S}
 use Rattle.rules.specs.Table.{Table, ways, rows, absentRows}
 use Rattle.rules.specs.Leaf.{any, remaining, isOpen}
 use Rattle.rules.specs.Group.{nonempty, fallApart}
-use Rattle.rules.specs.Tree.{left, right, leaf, occurs, possible, child, combine, end, low, high, refineAt, inners, Refinement, grow, tree, leafWays, acceptable, seriesFrom, series}
+use Rattle.rules.specs.Tree.{left, leaf, occurs, possible, child, combine, end, low, high, refineAt, inners, Refinement, grow, tree, leafWays, acceptable, seriesFrom, series}
 use Rattle.rules.specs.Run
 use Rattle.rules.specs.Refusals
 use Rattle.rules.specs.Refusals.{tableNumber}
 use Rattle.rules.specs.Sheet
-use Rattle.rules.specs.Sheet.{Cue, Sheet, encode}
+use Rattle.rules.specs.Sheet.{Sheet, encode}
 use Rattle.rules.specs.Text
 use Rattle.rules.specs.Text.{bytes, text}
 use Rattle.rules.specs.declared.Kind.{Kind}

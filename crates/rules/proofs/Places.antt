@@ -1,13 +1,12 @@
 -- Trees and their places: what one refinement changes, and what it leaves as it was.
 -- Nothing here knows of ways or intervals, but for what stands at a place. Rests on specs/Tree.antt alone.
-use mathlib.Core.Path.{_≡_, refl, sym, ap, ap₂, _∙_, subst}
+use mathlib.Core.Path.{_≡_, refl, sym, ap, ap₂, _∙_}
 use mathlib.Core.Bool.{Bool, true, false, true≢false}
 use mathlib.Core.List.{List, [], _∷_, _++_}
 use mathlib.Core.Option.{Option, none, some, Option·some-injective, Option·none-ne-some}
 use mathlib.Core.Logic.{_⊎_, inl, inr}
-use Prim.Native.Nat.{ℕ, zero, suc, _+_, _≤_, _<_}
+use Prim.Native.Nat.{suc, _+_}
 use native.Mathlib.Omega.{arith}
-use lib.ListN.{length}
 use Rattle.rules.specs.Table.{Way}
 use Rattle.rules.specs.Tree.{Side, left, right, Place, DTree, leaf, inner, child, refineAt, inners, nodes, hasAt, leafAt, onPath, kindAt, leafWays, Node, Subtree, childNode, descend}
 use Rattle.rules.specs.declared.Kind.{Kind}

@@ -1,14 +1,13 @@
 -- Which refusals concern which call, in 01's order, and what each says of an input that it is for: worked examples as one list with one claim.
 -- The checker computes both from the definitions (01, "Refused, by number").
 use mathlib.Core.Path.{_≡_, refl}
-use mathlib.Core.Bool.{Bool, true, false, not, _&&_, _||_}
+use mathlib.Core.Bool.{Bool, true, not, _&&_}
 use mathlib.Core.List.{List, [], _∷_, _++_}
-use mathlib.Core.Option.{Option}
 use Prim.Native.Nat.{ℕ}
 use lib.ListN.{length, take, drop, replicate}
 use lib.Dec.{eqb}
 use Rattle.rules.specs.Rounding.{S}
-use Rattle.rules.specs.Table.{Way, Table, ways, rows, absentRows}
+use Rattle.rules.specs.Table.{Table, ways, rows, absentRows}
 use Rattle.rules.specs.Leaf
 use Rattle.rules.specs.Tree.{DTree}
 use Rattle.rules.specs.Refusals

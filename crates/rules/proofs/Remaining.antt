@@ -3,17 +3,17 @@
 use mathlib.Core.Path.{_≡_, refl, sym, ap, ap₂, _∙_}
 use mathlib.Core.Bool.{Bool, true, false, not, _&&_, _||_, true≢false}
 use mathlib.Core.List.{List, [], _∷_}
-use Prim.Native.Nat.{ℕ, zero, suc, _+_, _-_, _*_, _/_, _%_, _^_, _≤_, _<_}
+use Prim.Native.Nat.{ℕ, zero, suc, _-_, _/_, _^_, _<_}
 use native.Mathlib.Omega.{arith}
 use lib.ListN.{length, set}
 use lib.Dec.{eqb, eqb·zero-suc}
 use lib.Bits.{bitAnd, bitOr, and-zero-r, or-zero-l, or-zero-r}
-use borrow.Author.Tests.{eqb-true, eq-eqb, ne-eqb}
+use borrow.Author.Tests.{eqb-true, eq-eqb}
 use Rattle.rules.specs.Table.{odd, bit, Way, faults, Assignment, fits, fitsAll, satisfies, happens}
 use Rattle.rules.specs.Leaf.{any, contradicted, without, dropped, remaining}
 use Rattle.rules.specs.Tree.{occurs}
-use Rattle.rules.proofs.Booleans.{and-false, and-true, or-left, or-neither, is-true, is-false, any-head, any-tail, any-cons}
-use Rattle.rules.proofs.Bits.{bit-and, bit-or, bit-without, bit-pow, bit-zero, bit-nonzero, bits-zero, bits-ext, or-zero, without-half, apart-bit}
+use Rattle.rules.proofs.Booleans.{and-false, and-true, or-neither, is-true, any-head, any-tail, any-cons}
+use Rattle.rules.proofs.Bits.{bit-and, bit-or, bit-without, bit-pow, bit-nonzero, bits-zero, bits-ext, or-zero, without-half, apart-bit}
 
 -- ---- tests that survive
 

@@ -1,6 +1,6 @@
 -- Rounding: each rounded number bounds the exact one on its side, and none moves outwards when what it is made of moves inwards.
 -- Every fact is stated once for both directions; leaf, independent-or and Shannon nodes all use these. Rests on specs/ alone.
-use mathlib.Core.Path.{_≡_, refl, sym, ap, _∙_}
+use mathlib.Core.Path.{_≡_, ap}
 use Prim.Native.Nat.{ℕ, _+_, _-_, _*_, _≤_, _<_, min, max}
 use native.Mathlib.Nat.{mul-le-mul, mul-le-mul-left, mul-le-mul-right, mul-sub, sub-le-sub-left, le-of-mul-le-mul-right}
 use native.Mathlib.Decide.{decLe}
@@ -11,13 +11,10 @@ use Rattle.rules.specs.Tree.{mean, overlap}
 
 -- ---- bounds and their order
 
+-- Equal numbers bound each other.
 pub le-self : (d : Dir) {a b : ℕ} → a ≡ b → Le d a b
 le-self down e = omega arith
 le-self up e = omega arith
-
-pub le-then : (d : Dir) (x y z : ℕ) → Le d x y → Le d y z → Le d x z
-le-then down x y z h k = omega arith
-le-then up x y z h k = omega arith
 
 -- ---- one division
 
@@ -26,6 +23,7 @@ pub over-bound : (d : Dir) (x : ℕ) → Le d (S * over d x) x
 over-bound down x = omega arith
 over-bound up x = omega arith
 
+-- And does not move outwards.
 pub over-mono : (d : Dir) (x y : ℕ) → Le d x y → Le d (over d x) (over d y)
 over-mono down x y h = omega arith
 over-mono up x y h = omega arith
@@ -33,31 +31,35 @@ over-mono up x y h = omega arith
 -- ---- the two combinations and the overlap keep a bound
 
 -- What x says of E, S less x says of the rest of N.
-comp : (d : Dir) (x N E M : ℕ) → E + M ≡ N → Le d (x * N) (S * E) → Le (flip d) ((S - x) * N) (S * M)
-comp down x N E M e h = omega (arith, mul-sub N S x, ap (λ (k : ℕ). S * k) e)
-comp up x N E M e h = omega (arith, mul-sub N S x, ap (λ (k : ℕ). S * k) e)
+rest-bound : (d : Dir) (x N E M : ℕ) → E + M ≡ N → Le d (x * N) (S * E) → Le (flip d) ((S - x) * N) (S * M)
+rest-bound down x N E M e h = omega (arith, mul-sub N S x, ap (λ (k : ℕ). S * k) e)
+rest-bound up x N E M e h = omega (arith, mul-sub N S x, ap (λ (k : ℕ). S * k) e)
 
+-- Turned twice, a direction is itself.
 unflip : (d : Dir) (a b : ℕ) → Le (flip (flip d)) a b → Le d a b
 unflip down a b h = h
 unflip up a b h = h
 
-core : (e : Dir) (X Y N M₁ M₂ M : ℕ) → 0 < N → M * N ≡ M₁ * M₂ → Le e (X * N) (S * M₁) → Le e (Y * N) (S * M₂) → Le e (over e (X * Y) * N) (S * M)
-core down X Y N M₁ M₂ M pos e p q =
+-- A rounded product of bounds on two independent parts bounds their joint part.
+product-bound : (e : Dir) (X Y N M₁ M₂ M : ℕ) → 0 < N → M * N ≡ M₁ * M₂ → Le e (X * N) (S * M₁) → Le e (Y * N) (S * M₂) → Le e (over e (X * Y) * N) (S * M)
+product-bound down X Y N M₁ M₂ M pos e p q =
     let k : X * Y * N * N ≤ S * (S * M) * N = omega (arith, mul-le-mul p q, e) in
     let c : X * Y * N ≤ S * (S * M) = le-of-mul-le-mul-right k pos in
     omega (arith, mul-le-mul-right N (over-bound down (X * Y)))
-core up X Y N M₁ M₂ M pos e p q =
+product-bound up X Y N M₁ M₂ M pos e p q =
     let k : S * (S * M) * N ≤ X * Y * N * N = omega (arith, mul-le-mul p q, e) in
     let c : S * (S * M) ≤ X * Y * N = le-of-mul-le-mul-right k pos in
     omega (arith, mul-le-mul-right N (over-bound up (X * Y)))
 
+-- INDEPENDENCE: bounds on two independent events give one on either of them. M₁, M₂ and M are what the events do not reach.
 pub either-bound : (d : Dir) (x y N E₁ E₂ E M₁ M₂ M : ℕ) → 0 < N → E₁ + M₁ ≡ N → E₂ + M₂ ≡ N → E + M ≡ N → M * N ≡ M₁ * M₂
     → Le d (x * N) (S * E₁) → Le d (y * N) (S * E₂) → Le d (either d x y * N) (S * E)
 either-bound d x y N E₁ E₂ E M₁ M₂ M pos c₁ c₂ c e p q =
     unflip d _ _
-    (comp (flip d) (over (flip d) ((S - x) * (S - y))) N M E (omega (arith, c))
-    (core (flip d) (S - x) (S - y) N M₁ M₂ M pos e (comp d x N E₁ M₁ c₁ p) (comp d y N E₂ M₂ c₂ q)))
+    (rest-bound (flip d) (over (flip d) ((S - x) * (S - y))) N M E (omega (arith, c))
+    (product-bound (flip d) (S - x) (S - y) N M₁ M₂ M pos e (rest-bound d x N E₁ M₁ c₁ p) (rest-bound d y N E₂ M₂ c₂ q)))
 
+-- A FAULT: bounds on both sides of a split give one on the whole.
 pub mean-bound : (d : Dir) (w x y N E₁ E₂ E : ℕ) → S * E ≡ w * E₁ + (S - w) * E₂
     → Le d (x * N) (S * E₁) → Le d (y * N) (S * E₂) → Le d (mean d w x y * N) (S * E)
 mean-bound down w x y N E₁ E₂ E e p q =
@@ -65,7 +67,7 @@ mean-bound down w x y N E₁ E₂ E e p q =
 mean-bound up w x y N E₁ E₂ E e p q =
     omega (arith, e, mul-le-mul-left w p, mul-le-mul-left (S - w) q, mul-le-mul-right N (over-bound up (w * x + (S - w) * y)))
 
--- the overlap encloses what either enclose
+-- THE OVERLAP bounds what both intervals bound.
 pub overlap-bound : (d : Dir) (x y N Z : ℕ) → Le d (x * N) Z → Le d (y * N) Z → Le d (overlap d x y * N) Z
 overlap-bound down x y N Z p q = pick (decLe x y)
   where
@@ -80,10 +82,12 @@ overlap-bound up x y N Z p q = pick (decLe x y)
 
 -- ---- none moves outwards: `Le d x x′` says that x′ is no looser than x
 
+-- The overlap is no looser than the first interval.
 pub overlap-left : (d : Dir) (x y : ℕ) → Le d x (overlap d x y)
 overlap-left down x y = omega arith
 overlap-left up x y = omega arith
 
+-- The overlap, independence and a fault: none is looser when what it is made of is not.
 pub overlap-mono : (d : Dir) (x x′ y y′ : ℕ) → Le d x x′ → Le d y y′ → Le d (overlap d x y) (overlap d x′ y′)
 overlap-mono down x x′ y y′ p q = omega arith
 overlap-mono up x x′ y y′ p q = omega arith

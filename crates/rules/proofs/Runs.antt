@@ -1,20 +1,20 @@
 -- Runs: what a run makes is a series of acceptable refinements, two runs in a row are one run, and what each verdict says.
 -- Rests on Widest.antt for the leaf, on Levels.antt for the fault, on Series.antt for counting.
-use mathlib.Core.Path.{_≡_, refl, sym, ap, ap₂, _∙_, subst}
-use mathlib.Core.Bool.{Bool, true, false, not, _&&_, _||_, true≢false}
+use mathlib.Core.Path.{_≡_, refl, sym, ap, _∙_, subst}
+use mathlib.Core.Bool.{Bool, true, false, not}
 use mathlib.Core.List.{List, [], _∷_, _++_}
 use mathlib.Core.Option.{Option, none, some, Option·some-injective, Option·none-ne-some}
-use mathlib.Core.Logic.{_⊎_, inl, inr, _↔_}
+use mathlib.Core.Logic.{_↔_}
 use Prim.Native.Nat.{ℕ, zero, suc, _+_, _-_, _≤_, _<_}
 use native.Mathlib.Nat.{suc-add, zero-add}
 use native.Mathlib.Omega.{arith}
 use lib.ListN.{length, length-append}
-use lib.Dec.{ltb, leb}
-use borrow.Author.Tests.{ltb-true, ltb-false, leb-true, leb-false, lt-ltb, le-ltb, le-leb, lt-leb}
+use lib.Dec.{leb}
+use borrow.Author.Tests.{ltb-true, ltb-false, leb-true, leb-false, lt-ltb}
 use Rattle.rules.specs.Table.{Way, Table, ways}
 use Rattle.rules.specs.Leaf.{isOpen}
 use Rattle.rules.specs.Group.{fallApart}
-use Rattle.rules.specs.Tree.{Side, left, right, Place, DTree, leaf, inner, possible, child, low, high, inners, Refinement, refine, grow, leafWays, roomy, acceptable, seriesFrom}
+use Rattle.rules.specs.Tree.{left, right, Place, DTree, leaf, inner, possible, child, low, high, inners, Refinement, refine, grow, leafWays, roomy, acceptable, seriesFrom}
 use Rattle.rules.specs.Run.{Candidate, widest, mostNamed, choice, next, narrow, Turn, stop, go, turn, picks, verdict, ran}
 use Rattle.rules.specs.Refusals.{namesBeyond, Accepted}
 use Rattle.rules.specs.declared.Kind.{Kind}
@@ -25,7 +25,7 @@ use Rattle.rules.proofs.Booleans.{and-both}
 use Rattle.rules.proofs.Enclosure.{child-inside}
 use Rattle.rules.proofs.Levels.{open-occurs}
 use Rattle.rules.proofs.Series.{grow-append, grown-inners}
-use Rattle.rules.proofs.Widest.{NoneOpen, Leftmost, Law, nothing, the, widest-law, widest-none, named-occurs, occurs-named, most-named}
+use Rattle.rules.proofs.Widest.{NoneOpen, Law, nothing, the, widest-law, widest-none, named-occurs, occurs-named, most-named}
 use Rattle.rules.proofs.Accepted.{inside}
 
 -- ---- what the rule picks can be made

@@ -1,18 +1,17 @@
 -- Series of acceptable refinements: what each found, that every inner node was open when it was refined, and that the tree depends on the
 -- set of refinements alone, not on their order. Rests on Places.antt.
-use mathlib.Core.Path.{_≡_, refl, sym, ap, ap₂, _∙_, subst}
-use mathlib.Core.Bool.{Bool, true, false, not, _&&_, _||_, true≢false}
+use mathlib.Core.Path.{_≡_, refl, sym, ap, _∙_, subst}
+use mathlib.Core.Bool.{Bool, true, false, not, _&&_, true≢false}
 use mathlib.Core.List.{List, [], _∷_, _++_, List·Memᴰ, List·Memᴰ·head, List·Memᴰ·tail}
 use mathlib.Core.Option.{Option, none, some, Option·some-injective, Option·none-ne-some}
 use mathlib.Core.Logic.{_⊎_, inl, inr}
-use Prim.Native.Nat.{ℕ, zero, suc, _+_, _≤_, _<_}
+use Prim.Native.Nat.{ℕ, _+_, _≤_, _<_}
 use native.Mathlib.Omega.{arith}
 use lib.ListN.{length}
-use lib.Dec.{ltb}
 use borrow.Author.Tests.{ltb-true}
 use Rattle.rules.specs.Table.{Way, Table, ways}
 use Rattle.rules.specs.Leaf.{isOpen}
-use Rattle.rules.specs.Tree.{Side, left, right, Place, DTree, leaf, inner, possible, child, refineAt, inners, Refinement, refine, grow, tree, leafAt, kindAt, leafWays, roomy, acceptable, seriesFrom, series}
+use Rattle.rules.specs.Tree.{left, right, Place, DTree, leaf, inner, possible, child, refineAt, inners, Refinement, refine, grow, tree, leafAt, kindAt, leafWays, roomy, acceptable, seriesFrom, series}
 use Rattle.rules.specs.declared.Kind.{Kind}
 use Rattle.rules.proofs.Booleans.{and-left, and-right, and-both}
 use Rattle.rules.proofs.Places.{tree-ext, leaf-undone, ways-leaf, refined-kind, refined-inners, done-stays, done-only}

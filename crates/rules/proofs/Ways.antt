@@ -4,11 +4,10 @@ use mathlib.Core.Path.{_≡_, refl, sym, ap, ap₂, _∙_}
 use mathlib.Core.Bool.{Bool, true, false, not, _&&_, _||_, true≢false}
 use mathlib.Core.List.{List, [], _∷_}
 use mathlib.Core.Logic.{_⊎_, inl, inr}
-use Prim.Native.Nat.{ℕ, zero, suc, _+_, _/_, _≤_, _<_}
+use Prim.Native.Nat.{ℕ, zero, suc, _/_, _<_}
 use native.Mathlib.Omega.{arith}
 use lib.ListN.{length, set, getD}
 use Rattle.rules.specs.Table.{odd, bit, Way, faults, Assignment, fits, fitsAll, satisfies, happens}
-use Rattle.rules.specs.Leaf.{any}
 use Rattle.rules.specs.Tree.{occurs}
 use Rattle.rules.proofs.Booleans.{and-left, and-right, and-both, or-left, or-right, any-head, any-tail}
 use Rattle.rules.proofs.Bits.{bit-or}

@@ -1,11 +1,11 @@
 -- The leaf that a run takes: an open one, none wider, and none as wide to its left. And the fault named in most ways, the lowest of them.
 -- The laws settle the choice, so that a search may find it in any way. Rests on specs/Run.antt.
-use mathlib.Core.Path.{_≡_, refl, sym, ap, ap₂, _∙_, subst}
-use mathlib.Core.Bool.{Bool, true, false, not, _&&_, _||_, true≢false}
-use mathlib.Core.List.{List, [], _∷_, _++_}
+use mathlib.Core.Path.{_≡_, refl, sym, ap, _∙_}
+use mathlib.Core.Bool.{Bool, true, false, _||_, true≢false}
+use mathlib.Core.List.{List, [], _∷_}
 use mathlib.Core.Option.{Option, none, some, Option·none-ne-some, Option·some-injective}
 use mathlib.Core.Logic.{_⊎_, inl, inr}
-use Prim.Native.Nat.{ℕ, zero, suc, _+_, _-_, _<_, _≤_}
+use Prim.Native.Nat.{ℕ, zero, suc, _-_, _<_, _≤_}
 use native.Mathlib.Omega.{arith}
 use native.Mathlib.Decide.{decLt}
 use lib.Dec.{ltb}
@@ -14,7 +14,6 @@ use Rattle.rules.specs.Table.{bit, Way, faults}
 use Rattle.rules.specs.Leaf.{any, leafWidth, isOpen}
 use Rattle.rules.specs.Tree.{Side, left, right, Place, DTree, leaf, inner, occurs, child, leafWays}
 use Rattle.rules.specs.Run.{Candidate, from, wider, widest, named, mostNamed}
-use Rattle.rules.specs.declared.Kind.{Kind}
 
 -- ---- left and right
 

@@ -1,11 +1,10 @@
 -- What each case of each answer says in 01's terms: number, low, high and count (01, "Refused, by number").
 -- Every contract speaks of its answer through these definitions.
 use mathlib.Core.Option.{Option, none, some}
-use Prim.Native.Nat.{ℕ, zero, suc}
+use Prim.Native.Nat.{ℕ, suc}
 use Rattle.rules.specs.Rounding.{S}
 use Rattle.rules.specs.declared.Verdict.{Verdict}
 use Rattle.rules.specs.declared.Figures.{Figures}
-use Rattle.rules.specs.declared.Head.{Head}
 use Rattle.rules.specs.declared.Entry.{Entry}
 use Rattle.rules.specs.declared.Answer.{Answer}
 use Rattle.rules.specs.declared.RunAnswer.{RunAnswer}

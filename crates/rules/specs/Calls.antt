@@ -1,6 +1,6 @@
 -- The calls on a tree: opening, hand refinement and run, and whole lists of calls (01, "Refining" and "Refused, by number").
 -- Everything is worked out from the table, the series of refinements made so far and the call's arguments; nothing is read off records.
-use mathlib.Core.Bool.{Bool, true, false, not, _&&_, _||_}
+use mathlib.Core.Bool.{Bool, true, false, not}
 use mathlib.Core.List.{List, [], _∷_, _++_}
 use mathlib.Core.Option.{Option, none, some}
 use Prim.Native.Nat.{ℕ, zero, suc, _+_}

@@ -2,12 +2,12 @@
 -- 01 departs from 003: ways are kept in number order, the high end is a plain sum, and every product is rounded.
 use mathlib.Core.Bool.{Bool, true, false, not, _&&_, _||_}
 use mathlib.Core.List.{List, [], _∷_}
-use Prim.Native.Nat.{ℕ, zero, suc, _+_, _-_, _*_, _/_, min}
+use Prim.Native.Nat.{ℕ, _+_, _-_, _*_, _/_, min}
 use lib.ListN.{length}
 use lib.Dec.{eqb, ltb, leb}
 use lib.Bits.{bitAnd, bitOr}
 use Rattle.rules.specs.Rounding.{S, Dir, down, up, flip, over}
-use Rattle.rules.specs.Table.{odd, bit, Way, faults}
+use Rattle.rules.specs.Table.{odd, Way, faults}
 
 -- A test that some way of a list passes.
 unfoldable pub any : (Way → Bool) → List Way → Bool

@@ -2,13 +2,13 @@
 -- A call's refusals are one ordered list of tests; the first that applies gives the number.
 use mathlib.Core.Path.{_≡_}
 use mathlib.Core.Bool.{Bool, true, false, not, _&&_, _||_}
-use mathlib.Core.List.{List, [], _∷_, _++_}
-use Prim.Native.Nat.{ℕ, zero, suc, _^_}
+use mathlib.Core.List.{List, [], _∷_}
+use Prim.Native.Nat.{ℕ, _^_}
 use lib.ListN.{length}
 use lib.Dec.{eqb, ltb, leb}
 use lib.Bits.{bitAnd}
 use Rattle.rules.specs.Rounding.{S}
-use Rattle.rules.specs.Table.{Way, Table, rows, ways}
+use Rattle.rules.specs.Table.{Way, Table, ways}
 use Rattle.rules.specs.Leaf.{any}
 use Rattle.rules.specs.declared.Limits.{Limits}
 

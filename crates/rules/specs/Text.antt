@@ -1,9 +1,9 @@
 -- The text that the program prints for a list of bytes read as a sheet (01, "On paper first", the whole sheet).
 -- Numbers are decimal, one blank stands between fields, a line feed after each line.
-use mathlib.Core.Bool.{Bool, true, false}
+use mathlib.Core.Bool.{true, false}
 use mathlib.Core.List.{List, [], _∷_, _++_}
 use Prim.Native.Nat.{ℕ, zero, suc, _+_, _/_, _%_}
-use Prim.Native.Char.{Char, code}
+use Prim.Native.Char.{code}
 use Prim.Native.String.{String}
 use lib.ListN.{length}
 use lib.Dec.{ltb}

@@ -1,11 +1,11 @@
 -- The decomposition tree: its refinements, the interval at each place, and which refinements are acceptable (01, "Refining").
 -- 003, Definitions 6 to 8, with two departures of 01: every combination is rounded, and an inner node keeps the overlap with its own leaf interval.
-use mathlib.Core.Bool.{Bool, true, false, not, _&&_, _||_, Bool·beq}
-use mathlib.Core.List.{List, [], _∷_, _++_}
+use mathlib.Core.Bool.{Bool, true, false, _&&_}
+use mathlib.Core.List.{List, [], _∷_}
 use mathlib.Core.Option.{Option, none, some}
-use Prim.Native.Nat.{ℕ, zero, suc, _+_, _-_, _*_, _^_, min, max}
-use lib.ListN.{length, getD}
-use lib.Dec.{eqb, ltb, leb}
+use Prim.Native.Nat.{ℕ, suc, _+_, _-_, _*_, _^_, min, max}
+use lib.ListN.{getD}
+use lib.Dec.{ltb}
 use lib.Bits.{bitOr}
 use Rattle.rules.specs.Rounding.{S, Dir, down, up, over}
 use Rattle.rules.specs.Table.{bit, Way, Table, ways, faults}
