@@ -1,18 +1,20 @@
 -- What holds of a table that none of 9 to 13 refuses.
 -- Rests on First.antt.
-use mathlib.Core.Path.{_≡_, refl}
-use mathlib.Core.Bool.{false}
+use mathlib.Core.Path.{_≡_, refl, sym, ap, _∙_}
+use mathlib.Core.Bool.{true, false, not}
 use mathlib.Core.List.{List, [], _∷_}
-use Prim.Native.Nat.{ℕ, zero, suc, _≤_, _<_}
+use Prim.Native.Nat.{ℕ, zero, suc, _^_, _≤_, _<_, max}
 use native.Mathlib.Omega.{arith}
 use lib.ListN.{length}
-use lib.Dec.{eqb, ltb}
-use borrow.Author.Tests.{ltb-false, eqb-true, eqb-false, not-false}
+use lib.Dec.{eqb, ltb, leb}
+use borrow.Author.Tests.{ltb-false, le-ltb, leb-false, lt-leb, eqb-true, eqb-false, eq-eqb, ne-eqb, not-false}
 use Rattle.rules.specs.Rounding.{S}
-use Rattle.rules.specs.Table.{Table, ways}
+use Rattle.rules.specs.Table.{bit, Way, Table, absentRows, rows, ways, faults}
 use Rattle.rules.specs.Refusals.{faultsOutside, someAbove, overweight, wordsAmiss, namesBeyond, namesBoth, wayRefusals, tableRefusals, tableNumber, Accepted}
-use Rattle.rules.proofs.Booleans.{or-left, or-right}
-use Rattle.rules.proofs.First.{none-applies}
+use Rattle.rules.proofs.Booleans.{or-left, or-right, or-neither, or-split}
+use Rattle.rules.proofs.Bits.{bit-or, bit-high, below-pow, apart-bit, apart-test}
+use Rattle.rules.proofs.First.{none-applies, first-later, first-none}
+use Rattle.rules.proofs.Groups.{In, none-passes, each-fails}
 use Rattle.rules.proofs.Sum.{Weights}
 
 -- What 10 lets through: every weight is at most S.
@@ -72,3 +74,82 @@ module _ (t : Table) (ok : Accepted t) where
 
   pub weights-fit : Weights (t .weights)
   weights-fit = weights-of (t .weights) light
+
+-- ---- exactly the listed limits
+
+-- A table inside the limits, in plain terms: 1 to 64 weights of at most S, at most 128 ways given by as many present as absent words,
+-- each naming only faults of the table and none in both senses.
+pub record Inside (t : Table) : Type 0 where
+  pub some-faults : 0 < length (t .weights)
+  pub few-faults : length (t .weights) ≤ 64
+  pub weights : Weights (t .weights)
+  pub few-ways : length (t .present) ≤ 128
+  pub paired : length (t .present) ≡ length (t .absent)
+  pub faults-known : (v : Way) → In v (ways t) → (i : ℕ) → length (t .weights) ≤ i → bit i (faults v) ≡ false
+  pub one-sense-each : (v : Way) → In v (ways t) → (i : ℕ) → bit i (v .present) ≡ true → bit i (v .absent) ≡ false
+
+-- An accepted table is inside the limits.
+pub accepted-inside : (t : Table) → Accepted t → Inside t
+unfolding namesBeyond namesBoth
+accepted-inside t ok =
+    record {
+      some-faults = some-fault t ok;
+      few-faults = few-faults t ok;
+      weights = weights-fit t ok;
+      few-ways = few-ways t ok;
+      paired = paired-words t ok;
+      faults-known = known;
+      one-sense-each = λ v m i b. apart-bit (v .present) (v .absent) i (none-passes _ (ways t) v (one-sense t ok) m) b;
+    }
+  where
+    n : ℕ
+    n = length (t .weights)
+
+    known : (v : Way) → In v (ways t) → (i : ℕ) → length (t .weights) ≤ i → bit i (faults v) ≡ false
+    known v m i l =
+        let e = or-split (leb (2 ^ n) (v .present)) (leb (2 ^ n) (v .absent)) (none-passes _ (ways t) v (inside t ok) m) in
+        bit-or i (v .present) (v .absent)
+        ∙ or-neither _ _ (bit-high n i (v .present) l (leb-false (2 ^ n) (v .present) (e .0))) (bit-high n i (v .absent) l (leb-false (2 ^ n) (v .absent) (e .1)))
+
+weights-test : (ws : List ℕ) → Weights ws → overweight ws ≡ false
+unfolding overweight someAbove
+weights-test [] k = refl
+weights-test (w ∷ ws) k = or-neither _ _ (le-ltb S w (k .0)) (weights-test ws (k .1))
+
+-- And a table inside the limits is accepted.
+pub inside-accepted : (t : Table) → Inside t → Accepted t
+unfolding tableNumber tableRefusals wayRefusals faultsOutside wordsAmiss namesBeyond namesBoth
+inside-accepted t k =
+    first-later _ _ (or-neither _ _ (ne-eqb n 0 (nonzero n (k .some-faults))) (le-ltb 64 n (k .few-faults)))
+    ∙ first-later _ _ (weights-test (t .weights) (k .weights))
+    ∙ first-later _ _ (or-neither _ _ (le-ltb 128 (length (t .present)) (k .few-ways)) (ap not (eq-eqb (length (t .present)) (length (t .absent)) (k .paired))))
+    ∙ first-later _ _ (each-fails _ (ways t) (λ v m. or-neither _ _ (lt-leb (2 ^ n) (v .present) (below-pow n (v .present) (λ i l. off v m i l .0))) (lt-leb (2 ^ n) (v .absent) (below-pow n (v .absent) (λ i l. off v m i l .1)))))
+    ∙ first-later _ _ (each-fails _ (ways t) (λ v m. apart-test (v .present) (v .absent) (k .one-sense-each v m)))
+    ∙ first-none
+  where
+    n : ℕ
+    n = length (t .weights)
+
+    nonzero : (m : ℕ) → 0 < m → m ≡ 0 → ⊥
+    nonzero m h e = omega arith
+
+    off : (v : Way) → In v (ways t) → (i : ℕ) → n ≤ i → (bit i (v .present) ≡ false) × (bit i (v .absent) ≡ false)
+    off v m i l = or-split (bit i (v .present)) (bit i (v .absent)) (sym (bit-or i (v .present) (v .absent)) ∙ k .faults-known v m i l)
+
+-- ---- the number of ways
+
+absent-length : (i : ℕ) (qs : List ℕ) → length (absentRows i qs) ≡ length qs
+unfolding absentRows
+absent-length i [] = refl
+absent-length i (q ∷ qs) = ap suc (absent-length (suc i) qs)
+
+rows-length : (i : ℕ) (ps qs : List ℕ) → length (rows i ps qs) ≡ max (length ps) (length qs)
+unfolding rows
+rows-length i [] qs = omega (arith, absent-length i qs)
+rows-length i (p ∷ ps) [] = omega (arith, rows-length (suc i) ps [])
+rows-length i (p ∷ ps) (q ∷ qs) = omega (arith, rows-length (suc i) ps qs)
+
+-- An accepted table has at most 128 ways.
+pub ways-few : (t : Table) → Accepted t → length (ways t) ≤ 128
+unfolding ways
+ways-few t ok = omega (arith, rows-length 0 (t .present) (t .absent), few-ways t ok, paired-words t ok)

@@ -102,19 +102,25 @@ bit-pow zero (suc f) = let e : 2 ^ suc f % 2 ≡ 0 = omega arith in rw e (sym (e
 bit-pow (suc i) zero = bit-zero i ∙ sym (eqb·suc-zero i)
 bit-pow (suc i) (suc f) = let e : 2 ^ suc f / 2 ≡ 2 ^ f = omega arith in ap (bit i) e ∙ bit-pow i f ∙ sym (eqb·suc-suc i f)
 
+-- A word without bits is 0.
+pub bits-zero : (w : ℕ) → ((i : ℕ) → bit i w ≡ false) → w ≡ 0
+bits-zero = bin-ind (λ w. ((i : ℕ) → bit i w ≡ false) → w ≡ 0) (λ h. refl) step
+  where
+    step : (n : ℕ) → (((i : ℕ) → bit i (n / 2) ≡ false) → n / 2 ≡ 0) → ((i : ℕ) → bit i n ≡ false) → n ≡ 0
+    step n ih h = omega (arith, ih (λ i. h (suc i)), digit-eq (n % 2) 0 (omega arith) (omega arith) (h 0))
+
 -- A word below 2 ^ n has no bit at or above n.
 pub bit-high : (n i w : ℕ) → n ≤ i → w < 2 ^ n → bit i w ≡ false
 bit-high zero i w l h = let e : w ≡ 0 = omega arith in ap (bit i) e ∙ bit-zero i
 bit-high (suc n) zero w l h = absurd (omega arith)
 bit-high (suc n) (suc i) w l h = bit-high n i (w / 2) (omega arith) (omega arith)
 
--- ---- words with equal bits are equal
+-- And the other way: a word without a bit at or above n is below 2 ^ n.
+pub below-pow : (n w : ℕ) → ((i : ℕ) → n ≤ i → bit i w ≡ false) → w < 2 ^ n
+below-pow zero w h = let e : w ≡ 0 = bits-zero w (λ i. h i (omega arith)) in omega arith
+below-pow (suc n) w h = omega (arith, below-pow n (w / 2) (λ i l. h (suc i) (omega arith)))
 
-pub bits-zero : (w : ℕ) → ((i : ℕ) → bit i w ≡ false) → w ≡ 0
-bits-zero = bin-ind (λ w. ((i : ℕ) → bit i w ≡ false) → w ≡ 0) (λ h. refl) step
-  where
-    step : (n : ℕ) → (((i : ℕ) → bit i (n / 2) ≡ false) → n / 2 ≡ 0) → ((i : ℕ) → bit i n ≡ false) → n ≡ 0
-    step n ih h = omega (arith, ih (λ i. h (suc i)), digit-eq (n % 2) 0 (omega arith) (omega arith) (h 0))
+-- ---- words with equal bits are equal
 
 pub bits-ext : (x y : ℕ) → ((i : ℕ) → bit i x ≡ bit i y) → x ≡ y
 bits-ext = bin-ind (λ x. (y : ℕ) → ((i : ℕ) → bit i x ≡ bit i y) → x ≡ y) (λ y h. sym (bits-zero y (λ i. sym (h i) ∙ bit-zero i))) step

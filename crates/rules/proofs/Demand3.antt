@@ -1,6 +1,6 @@
 -- DEMAND 3, by the rules: two lists of calls that note the same refinements agree on everything, and no refinement along a list widens the root.
 -- A list starts from an accepted opening. Rests on Series.antt, Runs.antt and Narrowing.antt.
-use mathlib.Core.Path.{_≡_, refl, sym, ap, _∙_}
+use mathlib.Core.Path.{_≡_, refl, sym, ap, _∙_, subst}
 use mathlib.Core.Bool.{Bool, true, false, not, _&&_, true≢false}
 use mathlib.Core.List.{List, [], _∷_, _++_}
 use mathlib.Core.Option.{Option, none, some}
@@ -8,7 +8,8 @@ use Prim.Native.Nat.{ℕ, zero, suc, _+_, _-_, _≤_}
 use native.Mathlib.Omega.{arith}
 use lib.ListN.{length, length-append}
 use borrow.Author.Tests.{not-false, le-ltb, lt-ltb}
-use Rattle.rules.specs.Table.{Way, Table, ways}
+use Rattle.rules.specs.Rounding.{S}
+use Rattle.rules.specs.Table.{Way, Table, ways, Encloses}
 use Rattle.rules.specs.Leaf.{isOpen}
 use Rattle.rules.specs.Tree.{left, right, Place, DTree, leaf, possible, low, high, inners, Refinement, grow, tree, kindAt, leafWays, roomy, intervalAt, acceptable, seriesFrom, series}
 use Rattle.rules.specs.Run.{picks, verdict}
@@ -18,7 +19,8 @@ use Rattle.rules.specs.declared.Kind.{Kind}
 use Rattle.rules.specs.declared.Limits.{Limits}
 use Rattle.rules.proofs.Booleans.{and-both}
 use Rattle.rules.proofs.First.{none-applies, first-after, first-later, first-end}
-use Rattle.rules.proofs.Series.{Same, acceptable-found, grow-append, series-append, same-tree, series-inners}
+use Rattle.rules.proofs.Series.{Same, acceptable-found, grow-append, series-append, same-tree, series-inners, grown-inners}
+use Rattle.rules.proofs.Enclosure.{root-encloses, enclosing-order, end-le}
 use Rattle.rules.proofs.Levels.{refined-above}
 use Rattle.rules.proofs.Runs.{picks-series}
 use Rattle.rules.proofs.Narrowing.{Within, refined-within, grown-within}
@@ -52,6 +54,15 @@ leaf-acceptable t s bs k p e h = by (leafWays p (ways t) s) (rw (e, leafNamed) a
         let n = none-applies (leafRefusals t s bs k (some vs)) refl h in
         and-both (isOpen (t .weights) vs) _ (not-false _ (n .1 .0)) (and-both (roomy s) _ (not-false _ (n .1 .1 .0)) (not-false _ (n .1 .1 .1 .0)))
 
+-- Bytes that name no place name no leaf, and 17 refuses that.
+unnamed : (t : Table) (s : DTree) (bs : List ℕ) → placeOf bs ≡ none → leafNamed t s bs ≡ none
+unfolding leafNamed
+unnamed t s bs e = rw (e, leafNamed)
+
+no-leaf : (t : Table) (s : DTree) (bs : List ℕ) (k : Kind) (o : Option (List Way)) → o ≡ none → first (leafRefusals t s bs k o) ≡ 0 → ⊥
+unfolding leafRefusals noLeaf
+no-leaf t s bs k o e h = true≢false (none-applies (leafRefusals t s bs k none) refl (rw e at h) .0)
+
 all-clear : first (refusal 17 false ∷ refusal 18 (not true) ∷ refusal 19 (not true) ∷ refusal 20 (not true) ∷ []) ≡ 0
 unfolding first
 all-clear = refl
@@ -63,6 +74,27 @@ unfolding leafNamed leafRefusals noLeaf ofLeaf
 acceptable-leaf t s bs k p e l a =
     let f = acceptable-found t s (record { place = p; kind = k }) a in
     rw (e, leafNamed, f .there, le-ltb 64 (length bs) l, f .opened, lt-ltb (inners s) 255 (f .room), f .fitting) all-clear
+
+-- AN ACCEPTED HAND REFINEMENT names one acceptable refinement, and makes that one and no other.
+pub record HandMade (t : Table) (s : DTree) (bs : List ℕ) (k : Kind) : Type 0 where
+  pub place : Place
+  pub named : placeOf bs ≡ some place
+  pub fine : acceptable t s (record { place = place; kind = k }) ≡ true
+  pub made : handMakes bs k ≡ record { place = place; kind = k } ∷ []
+
+pub hand-made : (t : Table) → Accepted t → (s : DTree) (bs : List ℕ) (k : Kind) → handNumber t false s bs k ≡ 0 → HandMade t s bs k
+unfolding handMakes
+hand-made t ok s bs k h = by (placeOf bs) refl
+  where
+    free : first (leafRefusals t s bs k (leafNamed t s bs)) ≡ 0
+    free = sym (hand-number t ok s bs k) ∙ h
+
+    by : (o : Option Place) → placeOf bs ≡ o → HandMade t s bs k
+    by none e = absurd (no-place e)
+      where
+        no-place : placeOf bs ≡ none → ⊥
+        no-place e = no-leaf t s bs k (leafNamed t s bs) (unnamed t s bs e) free
+    by (some p) e = record { place = p; named = e; fine = leaf-acceptable t s bs k p e free; made = rw (e, handMakes) }
 
 -- A place is read back from its bytes.
 pub place-bytes : (p : Place) → placeOf (placeBytes p) ≡ some p
@@ -186,3 +218,44 @@ never-wider t cs before after n e = rw (grow-append before (n ∷ []) leaf) (ref
 -- And from call to call.
 pub call-never-widens : (t : Table) (s : DTree) (c : Call) → Within t s (grow s (makes t s c))
 call-never-widens t s c = grown-within t (makes t s c) s
+
+-- ---- what a call hands back is certain
+
+-- What every call that is not refused hands back after a list of calls: the root's interval, which encloses the exact sum over the table's ways,
+-- stands in order, is at most S and lies within the one before; and the number of refinements that it made.
+pub record HandsBack (t : Table) (s : DTree) (c : Call) : Type 0 where
+  pub encloses : Encloses (t .weights) (ways t) (reply (outcome t s c) .low) (reply (outcome t s c) .high)
+  pub ordered : reply (outcome t s c) .low ≤ reply (outcome t s c) .high
+  pub bounded : reply (outcome t s c) .high ≤ S
+  pub low-rises : low t s ≤ reply (outcome t s c) .low
+  pub high-falls : reply (outcome t s c) .high ≤ high t s
+  pub count : reply (outcome t s c) .count ≡ inners (grow s (makes t s c)) - inners s
+
+-- The interval of an accepted call is the one then at the root.
+accepted-low : (t : Table) (s : DTree) (c : Call) → callNumber t s c ≡ 0 → reply (outcome t s c) .low ≡ low t (grow s (makes t s c))
+unfolding outcome handAnswer runAnswer makes makesBy callNumber wouldMake answerBy runAnswerBy figures
+accepted-low t s (byHand bs k) e = rw e
+accepted-low t s (byRun m) e = rw e
+
+accepted-high : (t : Table) (s : DTree) (c : Call) → callNumber t s c ≡ 0 → reply (outcome t s c) .high ≡ high t (grow s (makes t s c))
+unfolding outcome handAnswer runAnswer makes makesBy callNumber wouldMake answerBy runAnswerBy figures
+accepted-high t s (byHand bs k) e = rw e
+accepted-high t s (byRun m) e = rw e
+
+pub hands-back : (t : Table) → Accepted t → (ns : List Refinement) → series t ns ≡ true → (c : Call) → callNumber t (tree ns) c ≡ 0 → HandsBack t (tree ns) c
+unfolding high
+hands-back t ok ns h c e =
+    let ms = makes t (tree ns) c in
+    let w = grown-within t ms (tree ns) in
+    let enc = subst (λ (x : DTree). Encloses (t .weights) (ways t) (low t x) (high t x)) (grow-append ns ms leaf)
+    (root-encloses t ok (ns ++ ms) (series-append t ns ms leaf h (makes-series t ok (tree ns) c))) in
+    let l = accepted-low t (tree ns) c e in
+    let u = accepted-high t (tree ns) c e in
+    record {
+      encloses = rw (l, u) enc;
+      ordered = rw (l, u) (enclosing-order (t .weights) (ways t) _ _ enc);
+      bounded = rw u (end-le (t .weights) (ways t) (grow (tree ns) ms));
+      low-rises = rw l (w .low-rises);
+      high-falls = rw u (w .high-falls);
+      count = omega (arith, report-is t ok (tree ns) c, grown-inners t ms (tree ns) (makes-series t ok (tree ns) c));
+    }

@@ -13,19 +13,22 @@ use Rattle.rules.specs.Table.{Table, ways}
 use Rattle.rules.specs.Tree.{Side, Place, DTree, leaf, low, high, inners, nodes, Refinement, refine, tree, leafAt, onPath, kindAt, Subtree, subtree, root, intervalAt, Interval, interval, acceptable, series}
 use Rattle.rules.specs.Run.{next, picks, verdict, ran}
 use Rattle.rules.specs.Refusals.{Accepted}
-use Rattle.rules.specs.Calls.{Call, noted, reports}
-use Rattle.rules.specs.Sheet.{Sheet, Within, AllBelow, encode, readNumber}
+use Rattle.rules.specs.declared.Kind.{Kind}
+use Rattle.rules.specs.Calls.{handNumber, Call, callNumber, noted}
+use Rattle.rules.specs.Sheet.{Sheet, Within, AllBelow, encode, decode, readNumber}
 use Rattle.rules.proofs.KindLaws.{Handed}
 use Rattle.rules.proofs.Places.{refined-kind, refined-leaves, refined-inners, nodes-inners, subtree-has, elsewhere}
 use Rattle.rules.proofs.Series.{In, Same, acceptable-leaf, places-differ}
-use Rattle.rules.proofs.HandedDown.{handed-down}
+use Rattle.rules.proofs.HandedDown.{handed-down, handed-rising}
+use Rattle.rules.proofs.Sets.{Rising}
 use Rattle.rules.proofs.Enclosure.{Certain, enclosure}
 use Rattle.rules.proofs.Narrowing as narrowing
 use Rattle.rules.proofs.Narrowing.{Narrower, no-place-widens, refined-within}
 use Rattle.rules.proofs.Levels.{levels, few-nodes}
 use Rattle.rules.proofs.Runs.{TooWide, Exactly, verdict-exactly, OneRun, two-runs, picks-budget, report-inners, one-step}
-use Rattle.rules.proofs.Demand3.{Share, same-share, never-wider, noted-series}
-use Rattle.rules.proofs.Sheets.{IsSheet, accepted-exactly, unique, longest, first-bytes}
+use Rattle.rules.proofs.Demand3.{Share, same-share, never-wider, noted-series, HandsBack, hands-back, HandMade, hand-made}
+use Rattle.rules.proofs.Accepted.{Inside, accepted-inside, inside-accepted}
+use Rattle.rules.proofs.Sheets.{IsSheet, accepted-exactly, accepts-encoded, decode-encode, encode-decode, within-decoded, longest, attained, first-bytes}
 
 -- ---- "The interval at each point of the tree .. always contains the exact weighted sum over all combinations of faults that satisfy some way of that point."
 
@@ -35,6 +38,8 @@ pub record AtPlace (t : Table) (p : Place) (x : Subtree) : Type 0 where
   pub interval-certain : Certain (t .weights) x
   -- Its remaining ways are those of its set that no fixed fault contradicts, with the fixed faults dropped.
   pub ways-remaining : Handed (ways t) (x .node)
+  -- They stand in number order.
+  pub in-order : Rising 0 (x .node .ways)
   -- "Each refinement removes a fault from both sides, so there are at most 64 levels."
   pub level : length p ≤ 64
 
@@ -44,6 +49,7 @@ at-place t ok ns h p x e =
     record {
       interval-certain = enclosure t ok ns h p x e;
       ways-remaining = handed-down t ns h p x e;
+      in-order = handed-rising t ns h p x e;
       level = levels t ok ns h p (subtree-has p (root t) (tree ns) x e);
     }
 
@@ -114,6 +120,21 @@ one-run t ok a b s =
       single = one-step t a s;
     }
 
+-- ---- "The interval handed back .." of every call after an accepted opening that is not refused.
+
+-- It encloses the exact sum over the table's ways, stands in order, is at most S, lies within the one before, and its count is inner nodes after less before.
+pub every-answer : (t : Table) → Accepted t → (ns : List Refinement) → series t ns ≡ true → (c : Call) → callNumber t (tree ns) c ≡ 0 → HandsBack t (tree ns) c
+every-answer = hands-back
+
+-- An accepted hand refinement makes the one refinement that it names.
+pub by-hand-one : (t : Table) → Accepted t → (s : DTree) (bs : List ℕ) (k : Kind) → handNumber t false s bs k ≡ 0 → HandMade t s bs k
+by-hand-one = hand-made
+
+-- ---- "Every table .. inside the listed limits is accepted .. All others are refused."
+
+pub inside-exactly : (t : Table) → Accepted t ↔ Inside t
+inside-exactly t = (accepted-inside t, inside-accepted t)
+
 -- ---- DEMAND 3. "Two operators work from one accepted table, each from its fresh opening. For every two lists of hand refinements and runs, refused ones
 -- ---- included, in whatever orders: if both end with the same places refined and the same thing done at each, they share the interval at every place, the
 -- ---- count of refinements .., and the outcome of every further run on equal allowance and budget. Along every such list no refinement, by hand or within a
@@ -139,11 +160,29 @@ demand-3 t ok =
 pub record SheetBytes (bs : List ℕ) : Type 0 where
   -- Reading accepts a list of bytes exactly if it is the encoding of a sheet within the limits.
   pub exactly : (readNumber bs ≡ 0) ↔ IsSheet bs
-  -- Which is the only one.
-  pub only : (s s′ : Sheet) → Within s → Within s′ → encode s ≡ bs → encode s′ ≡ bs → s ≡ s′
+  -- Which is the only one, and the one that reading finds.
+  pub only : (s : Sheet) → Within s → encode s ≡ bs → s ≡ decode bs
+  -- What is read and written is the same bytes.
+  pub same-bytes : readNumber bs ≡ 0 → encode (decode bs) ≡ bs
+  -- At most 49,612 of them.
+  pub short : readNumber bs ≡ 0 → length bs ≤ 49612
   -- The number depends on the first 49,613 bytes alone.
   pub front : readNumber bs ≡ readNumber (take 49613 bs)
 
 pub sheet-bytes : (bs : List ℕ) → AllBelow 256 bs → SheetBytes bs
 sheet-bytes bs h =
-    record { exactly = accepted-exactly bs h; only = λ s s′ w w′ e e′. unique s s′ w w′ (e ∙ sym e′); front = first-bytes bs }
+    record {
+      exactly = accepted-exactly bs h;
+      only = λ s w e. sym (decode-encode s w) ∙ ap decode e;
+      same-bytes = encode-decode bs h;
+      short = λ e. rw (← encode-decode bs h e) (longest (decode bs) (within-decoded bs h e));
+      front = first-bytes bs;
+    }
+
+-- What is written and read is the same sheet.
+pub same-sheet : (s : Sheet) → Within s → (readNumber (encode s) ≡ 0) × (decode (encode s) ≡ s)
+same-sheet s w = (accepts-encoded s w, decode-encode s w)
+
+-- A sheet of 49,612 bytes.
+pub longest-sheet : (s : Sheet) × Within s × (length (encode s) ≡ 49612)
+longest-sheet = attained

@@ -4,7 +4,7 @@
 use mathlib.Core.Path.{_≡_, refl, sym, ap, _∙_}
 use mathlib.Core.Bool.{Bool, true, false, not, _&&_, _||_, true≢false, Bool·beq}
 use mathlib.Core.List.{List, [], _∷_, List·Memᴰ, List·Memᴰ·head, List·Memᴰ·tail, List·Memᴰ·not-nil, List·Memᴰ·cases-cons}
-use mathlib.Core.Logic.{_⊎_, inl, inr}
+use mathlib.Core.Logic.{_⊎_, inl, inr, _↔_}
 use Prim.Native.Nat.{ℕ, zero, suc, _^_, _≤_, _<_}
 use native.Mathlib.Nat.{pow-suc}
 use native.Mathlib.Decide.{decLt}
@@ -15,7 +15,7 @@ use lib.Bits.{bitAnd, bitOr, and-comm}
 use borrow.Author.Tests.{eqb-false, not-true}
 use Rattle.rules.specs.Table.{bit, Way, faults, Assignment, satisfies, happens}
 use Rattle.rules.specs.Leaf.{any, shares, isEmpty}
-use Rattle.rules.specs.Group.{touches, absorb, pass, passes, groupFaults, part, group, others}
+use Rattle.rules.specs.Group.{touches, absorb, pass, passes, groupFaults, part, group, others, nonempty, fallApart}
 use Rattle.rules.specs.Tree.{occurs}
 use Rattle.rules.proofs.Booleans.{and-left, and-right, and-both, or-first, or-second, or-cases, contra, any-head, any-tail, any-cons}
 use Rattle.rules.proofs.Bits.{bit-and, bit-or, bit-high, bit-nonzero, apart-bit, apart-test, some-bit}
@@ -352,3 +352,34 @@ cannot-split v vs f h k u p = along u (group-linked v vs u p) .1
     along : (u : Way) → Linked (v ∷ vs) v u → In u (v ∷ vs) × (f u ≡ true)
     along u single = (List·Memᴰ·head refl, h)
     along u (further {u = w} l p e) = (p, k w u (along w l .0) p (along w l .1) e)
+
+-- ---- falling apart
+
+-- A part with a way in it has a first one.
+some-way : (vs : List Way) → nonempty vs ≡ true → (v : Way) × In v vs
+unfolding nonempty
+some-way [] h = absurd (true≢false (sym h))
+some-way (v ∷ vs) h = (v, List·Memᴰ·head refl)
+
+way-some : (vs : List Way) (v : Way) → In v vs → nonempty vs ≡ true
+unfolding nonempty
+way-some (u ∷ vs) v i = refl
+
+-- The ways fall apart exactly if some way is reached from the lowest numbered one by no chain of shared faults.
+pub falls-apart : (v : Way) (vs : List Way) → isEmpty v ≡ false
+    → (fallApart (v ∷ vs) ≡ true) ↔ ((u : Way) × In u (v ∷ vs) × (Linked (v ∷ vs) v u → ⊥))
+unfolding fallApart
+falls-apart v vs e = (there, back)
+  where
+    there : nonempty (others (v ∷ vs)) ≡ true → (u : Way) × In u (v ∷ vs) × (Linked (v ∷ vs) v u → ⊥)
+    there h =
+        let r = some-way (others (v ∷ vs)) h in
+        let p = part-in false (groupFaults (v ∷ vs)) (v ∷ vs) (r .0) (r .1) in
+        (r .0, p .0, λ l. true≢false (sym (part-in true (groupFaults (v ∷ vs)) (v ∷ vs) (r .0) (linked-group v vs (r .0) e l (p .0)) .1) ∙ p .1))
+
+    back : (u : Way) × In u (v ∷ vs) × (Linked (v ∷ vs) v u → ⊥) → nonempty (others (v ∷ vs)) ≡ true
+    back r = by (touches (groupFaults (v ∷ vs)) (r .0)) refl
+      where
+        by : (b : Bool) → touches (groupFaults (v ∷ vs)) (r .0) ≡ b → nonempty (others (v ∷ vs)) ≡ true
+        by true h = absurd (r .2 (group-linked v vs (r .0) (in-part true (groupFaults (v ∷ vs)) (v ∷ vs) (r .0) (r .1) h)))
+        by false h = way-some (others (v ∷ vs)) (r .0) (in-part false (groupFaults (v ∷ vs)) (v ∷ vs) (r .0) (r .1) h)

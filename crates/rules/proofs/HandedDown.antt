@@ -9,7 +9,7 @@ use Rattle.rules.specs.Table.{Way, Table, ways}
 use Rattle.rules.specs.Leaf.{hasNumber, ofSet, remaining}
 use Rattle.rules.specs.Tree.{left, right, Place, DTree, leaf, inner, Refinement, tree, Node, Subtree, childNode, descend, subtree, root, series}
 use Rattle.rules.proofs.Remaining.{fix-none}
-use Rattle.rules.proofs.Sets.{Rising, ways-rising, whole-set, own-set}
+use Rattle.rules.proofs.Sets.{Rising, ways-rising, select-rising, remaining-rising, whole-set, own-set}
 use Rattle.rules.proofs.KindLaws.{laws, Handed}
 use Rattle.rules.proofs.Series.{Sound, series-sound}
 
@@ -35,3 +35,9 @@ pub handed-own : (t : Table) (ns : List Refinement) → series t ns ≡ true →
     → remaining (x .node .present) (x .node .absent) (ofSet (x .node .ways) (ways t)) ≡ x .node .ways
 handed-own t ns h p x e =
     own-set (ways t) (ways-rising t) (hasNumber (x .node .set)) (x .node .present) (x .node .absent) (x .node .ways) (handed-down t ns h p x e)
+
+-- The ways at every place stand in number order.
+pub handed-rising : (t : Table) (ns : List Refinement) → series t ns ≡ true → (p : Place) (x : Subtree) → subtree t p (tree ns) ≡ some x → Rising 0 (x .node .ways)
+handed-rising t ns h p x e =
+    rw (handed-down t ns h p x e)
+    (remaining-rising 0 (x .node .present) (x .node .absent) (ofSet (x .node .set) (ways t)) (select-rising 0 (hasNumber (x .node .set)) (ways t) (ways-rising t)))

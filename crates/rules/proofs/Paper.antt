@@ -13,11 +13,17 @@ use Rattle.rules.specs.Group.{nonempty, fallApart}
 use Rattle.rules.specs.Tree.{left, leaf, occurs, possible, child, combine, end, low, high, refineAt, inners, Refinement, grow, tree, leafWays, acceptable, seriesFrom, series}
 use Rattle.rules.specs.Run
 use Rattle.rules.specs.Refusals
+use Rattle.rules.specs.Calls
+use Rattle.rules.specs.Calls.{runAnswer}
 use Rattle.rules.specs.Refusals.{tableNumber}
 use Rattle.rules.specs.Sheet
 use Rattle.rules.specs.Sheet.{Sheet, encode}
 use Rattle.rules.specs.Text
 use Rattle.rules.specs.Text.{bytes, text}
+use Rattle.rules.specs.declared.Limits.{Limits}
+use Rattle.rules.specs.declared.RunAnswer.{RunAnswer}
+use Rattle.rules.specs.declared.Verdict.{Verdict}
+use Rattle.rules.specs.declared.Verdict.the-variants.{Met, Done, Spent}
 use Rattle.rules.specs.declared.Kind.{Kind}
 use Rattle.rules.specs.declared.Kind.the-variants.{IndependentOr, Shannon}
 
@@ -82,6 +88,37 @@ pub on-paper : allHold cases ≡ true
 unfolding ways rows absentRows any remaining isOpen nonempty fallApart occurs possible child combine end low high refineAt inners grow leafWays acceptable seriesFrom tableNumber Refusals.tableRefusals Refusals.wayRefusals Refusals.first Refusals.faultsOutside Refusals.someAbove Refusals.overweight Refusals.wordsAmiss Refusals.namesBeyond Refusals.namesBoth
 on-paper = refl
 
+-- ---- runs that 01 names: P3 with allowance 0 is done, with 1 is met, 0 refinements each; P4 with the printed sheet's limits
+
+abbrev p3 : Table
+p3 = table (333333333 ∷ 333333333 ∷ []) (3 ∷ []) (0 ∷ [])
+
+abbrev limits : ℕ → ℕ → Limits
+limits a b = record { allowance = a; budget = b }
+
+abbrev ended : Verdict → ℕ → ℕ → ℕ → RunAnswer
+ended v l h n = RunAnswer.Ended v (record { low = l; high = h; count = n })
+
+-- Each run with the answer that it is to give.
+abbrev runs : List (RunAnswer × RunAnswer)
+runs =
+    (runAnswer p3 false leaf (limits 0 255), ended Done 111111110 111111111 0)
+    ∷ (runAnswer p3 false leaf (limits 1 255), ended Met 111111110 111111111 0)
+    ∷ (runAnswer p3 false leaf (limits 1 256), RunAnswer.Refused 15)
+    ∷ (runAnswer p3 false leaf (limits 1000000001 256), RunAnswer.Refused 14)
+    ∷ (runAnswer p3 true leaf (limits 1 255), RunAnswer.Refused 16)
+    ∷ (runAnswer p4 false leaf (limits 10000000 40), ended Met 300000000 300000000 2)
+    ∷ (runAnswer p4 false leaf (limits 10000000 1), ended Spent 300000000 350000000 1)
+    ∷ []
+
+abbrev AllEqual : List (RunAnswer × RunAnswer) → Type 0
+AllEqual [] = Unit {0}
+AllEqual (x ∷ xs) = (x .0 ≡ x .1) × AllEqual xs
+
+pub runs-on-paper : AllEqual runs
+unfolding absentRows rows ways any remaining isOpen nonempty fallApart occurs possible child combine end low high refineAt inners grow leafWays Run.from Run.wider Run.widest Run.named Run.mostNamed Run.choice Run.next Run.narrow Run.turn Run.picks Run.verdict Refusals.first Refusals.faultsOutside Refusals.someAbove Refusals.overweight Refusals.namesBeyond Refusals.namesBoth Refusals.allowanceAbove Refusals.budgetAbove Refusals.wayRefusals Refusals.limitRefusals Calls.runAnswer Calls.runAnswerBy Calls.runNumber Calls.runRefusals Calls.runMakes Calls.figures tableNumber Refusals.tableRefusals Refusals.wordsAmiss
+runs-on-paper = (refl, (refl, (refl, (refl, (refl, (refl, (refl, tt)))))))
+
 -- ---- the whole sheet
 
 -- 3 faults, 2 cues, allowance 10000000; cue 7 with the ways of P4, cue 9 with none.
@@ -94,9 +131,9 @@ show budget =
     }
 
 -- Its 72 bytes.
-pub sheet-bytes : length (encode (show 40)) ≡ 72
+pub show-length : length (encode (show 40)) ≡ 72
 unfolding encode Sheet.headBytes Sheet.contentsBytes Sheet.weightsBytes Sheet.bodyBytes Sheet.bodiesBytes Sheet.bodiesStart Sheet.weightsStart Sheet.little
-sheet-bytes = refl
+show-length = refl
 
 -- WHAT THE PROGRAM PRINTS for them, with budget 40 and with budget 1.
 pub sheet-text : text (encode (show 40)) ≡ bytes "cue low high steps verdict\n7 300000000 300000000 2 met\n9 0 0 0 met\n"

@@ -35,6 +35,32 @@ pub ways-rising : (t : Table) → Rising 0 (ways t)
 unfolding ways
 ways-rising t = rows-rising 0 (t .present) (t .absent)
 
+-- A later start is no harm.
+rising-from : (i j : ℕ) (vs : List Way) → i ≤ j → Rising j vs → Rising i vs
+unfolding Rising
+rising-from i j [] l k = tt
+rising-from i j (v ∷ vs) l k = (omega (arith, l, k .0), k .1)
+
+-- Selected ways stay in number order, and so does what remains of them.
+pub select-rising : (i : ℕ) (P : ℕ → Bool) (vs : List Way) → Rising i vs → Rising i (select P vs)
+unfolding Rising select
+select-rising i P [] k = tt
+select-rising i P (v ∷ vs) k = by (P (v .number)) (select-rising (suc (v .number)) P vs (k .1))
+  where
+    by : (b : Bool) → Rising (suc (v .number)) (select P vs) → Rising i (elim b as (λ b. List Way) [ true ↦ v ∷ select P vs | false ↦ select P vs ])
+    by true ih = (k .0, ih)
+    by false ih = rising-from i (suc (v .number)) (select P vs) (omega (arith, k .0)) ih
+
+pub remaining-rising : (i present absent : ℕ) (vs : List Way) → Rising i vs → Rising i (remaining present absent vs)
+unfolding Rising remaining
+remaining-rising i present absent [] k = tt
+remaining-rising i present absent (v ∷ vs) k = by (contradicted present absent v) (remaining-rising (suc (v .number)) present absent vs (k .1))
+  where
+    by : (b : Bool) → Rising (suc (v .number)) (remaining present absent vs)
+        → Rising i (elim b as (λ b. List Way) [ true ↦ remaining present absent vs | false ↦ dropped (bitOr present absent) v ∷ remaining present absent vs ])
+    by true ih = rising-from i (suc (v .number)) (remaining present absent vs) (omega (arith, k .0)) ih
+    by false ih = (k .0, ih)
+
 -- Tests that agree from i on select the same of ways that begin there.
 pub select-same : (i : ℕ) (vs : List Way) (P Q : ℕ → Bool) → Rising i vs → ((j : ℕ) → i ≤ j → P j ≡ Q j) → select P vs ≡ select Q vs
 unfolding Rising select
