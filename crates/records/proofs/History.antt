@@ -3,27 +3,18 @@
 use mathlib.Core.Path.{_≡_, refl, sym, ap, ap₂, _∙_, subst}
 use mathlib.Core.Bool.{true}
 use mathlib.Core.List.{List, [], _∷_, _++_, map, append-assoc, List·Memᴰ·head, Memᴰ·append-left, Memᴰ·append-right}
-use mathlib.Core.Option.{some}
 use Prim.Native.Nat.{ℕ, _-_}
 use native.Mathlib.Omega.{arith}
 use lib.ListN.{length, getD, replicate}
 use Rattle.rules.specs.Table.{Table}
 use Rattle.rules.specs.Tree.{left, right, Place, leaf, Refinement, tree, acceptable, seriesFrom, series}
-use Rattle.rules.specs.declared.Kind.{Kind}
-use Rattle.rules.specs.declared.Kind.the-variants.{IndependentOr, Shannon}
 use Rattle.rules.proofs.Booleans.{and-left}
 use Rattle.rules.proofs.Places.{leaf-has}
 use Rattle.rules.proofs.Series.{In, acceptable-leaf, series-back, all-done}
-use Rattle.records.specs.Records.{blank, children, places, position, above, kindCode, faultCode, recordAt, recordsOf, layout, kindOf, historyFrom, treeCount, history}
+use Rattle.records.specs.Records.{blank, children, places, position, above, recordAt, recordsOf, layout, kindOf, historyFrom, treeCount, history}
 use Rattle.records.specs.declared.Node.{Node}
 use Rattle.records.proofs.Positions.{Held, position-finds, above-child, places-append, length-places, has-held}
-use Rattle.records.proofs.InPlace.{record-at}
-
--- The codes of a kind say which kind it was.
-kind-back : (k : Kind) (x : Node) → x .kind ≡ kindCode (some k) → x .fault ≡ faultCode (some k) → kindOf x ≡ k
-unfolding kindCode faultCode kindOf
-kind-back IndependentOr x e f = rw e
-kind-back (Shannon g) x e f = rw (e, f)
+use Rattle.records.proofs.InPlace.{record-at, kind-at}
 
 -- A layout's count is the number of its refinements.
 pub layout-count : (t : Table) (ns : List Refinement) → treeCount (layout t ns) ≡ length ns
@@ -37,8 +28,7 @@ unused ns = replicate (511 - length (places ns)) blank
 module _ (t : Table) (ns : List Refinement) (h : series t ns ≡ true) where
   -- The record of a refined place says what was done there.
   kind-there : (n : Refinement) → In n ns → kindOf (recordAt t ns (n .place)) ≡ n .kind
-  unfolding recordAt
-  kind-there n i = let e = all-done t ns leaf h n i in kind-back (n .kind) (recordAt t ns (n .place)) (ap kindCode e) (ap faultCode e)
+  kind-there n i = kind-at t ns (n .place) (n .kind) (all-done t ns leaf h n i)
 
   -- With the places of the first refinements known, the others are read off the records that are left.
   history-rest : (done todo : List Refinement) → ns ≡ done ++ todo

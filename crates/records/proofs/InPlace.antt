@@ -1,18 +1,21 @@
 -- The records of a layout, position by position: the record of each place, blanks behind them, 511 in all.
 -- Rests on Positions.antt.
-use mathlib.Core.Path.{_≡_, refl, sym, ap, _∙_, subst}
+use mathlib.Core.Path.{_≡_, refl, ap, _∙_}
 use mathlib.Core.Bool.{true}
-use mathlib.Core.List.{List, [], _∷_, _++_, map}
-use Prim.Native.Nat.{ℕ, zero, suc, _+_, _-_, _*_, _<_, _≤_}
+use mathlib.Core.List.{List, [], _∷_, map}
+use mathlib.Core.Option.{some}
+use Prim.Native.Nat.{ℕ, zero, suc, _+_, _-_, _<_, _≤_}
 use native.Mathlib.Omega.{arith}
 use lib.ListN.{length, getD, replicate, length-append, length-map, length-replicate, List·getD-append}
 use lib.Seq.{getD-append-add}
 use Rattle.rules.specs.Table.{Table}
-use Rattle.rules.specs.Tree.{Place, Refinement, tree, series}
+use Rattle.rules.specs.Tree.{Place, Refinement, tree, kindAt, series}
+use Rattle.rules.specs.declared.Kind.{Kind}
+use Rattle.rules.specs.declared.Kind.the-variants.{IndependentOr, Shannon}
 use Rattle.rules.proofs.Series.{series-inners, series-room}
-use Rattle.records.specs.Records.{blank, places, position, recordAt, recordsOf}
+use Rattle.records.specs.Records.{blank, places, position, above, kindCode, faultCode, kindOf, recordAt, recordsOf}
 use Rattle.records.specs.declared.Node.{Node}
-use Rattle.records.proofs.Positions.{Held, held-at, position-of, position-lt, position-get, length-places, places-once}
+use Rattle.records.proofs.Positions.{Held, position-lt, position-get, length-places}
 
 -- A series has at most 511 places.
 pub few-places : (t : Table) (ns : List Refinement) → series t ns ≡ true → length (places ns) ≤ 511
@@ -59,3 +62,17 @@ record-rest t ns i l =
     all-blank zero j = refl
     all-blank (suc m) zero = refl
     all-blank (suc m) (suc j) = all-blank m j
+
+-- A record tells what was done at its place.
+pub kind-at : (t : Table) (ns : List Refinement) (q : Place) (k : Kind) → kindAt q (tree ns) ≡ some k → kindOf (recordAt t ns q) ≡ k
+unfolding recordAt kindCode faultCode kindOf
+kind-at t ns q k d = by k (recordAt t ns q) (ap kindCode d) (ap faultCode d)
+  where
+    by : (k : Kind) (x : Node) → x .kind ≡ kindCode (some k) → x .fault ≡ faultCode (some k) → kindOf x ≡ k
+    by IndependentOr x c f = rw c
+    by (Shannon g) x c f = rw (c, f)
+
+-- A record's parent link.
+pub parent-of : (t : Table) (ns : List Refinement) (q : Place) → recordAt t ns q .parent ≡ position (above q) (places ns)
+unfolding recordAt
+parent-of t ns q = refl

@@ -1,18 +1,18 @@
 -- Places and their positions in the list of places: which record a place has, that no place has two, and what lies above it.
 -- Rests on the rules' Places.antt and Series.antt.
-use mathlib.Core.Path.{_≡_, refl, sym, ap, ap₂, _∙_, subst}
+use mathlib.Core.Path.{_≡_, refl, sym, ap, _∙_, subst}
 use mathlib.Core.Bool.{Bool, true, false, not, true≢false}
 use mathlib.Core.List.{List, [], _∷_, _++_, append-nil, List·Memᴰ, List·Memᴰ·head, List·Memᴰ·tail, List·Memᴰ·cases-cons}
-use mathlib.Core.Option.{Option, none, some, Option·none-ne-some}
+use mathlib.Core.Option.{none, some, Option·none-ne-some}
 use mathlib.Core.Logic.{_⊎_, inl, inr}
-use Prim.Native.Nat.{ℕ, zero, suc, _+_, _*_, _<_, _≤_}
+use Prim.Native.Nat.{ℕ, zero, suc, _+_, _*_, _<_}
 use native.Mathlib.Omega.{arith}
 use lib.ListN.{length, getD, length-append}
 use Rattle.rules.specs.Table.{Table}
-use Rattle.rules.specs.Tree.{Side, left, right, Place, DTree, leaf, inner, refineAt, Refinement, refine, grow, tree, hasAt, leafAt, kindAt, onPath, acceptable, seriesFrom, series}
+use Rattle.rules.specs.Tree.{Side, left, right, Place, DTree, leaf, inner, refineAt, Refinement, refine, grow, tree, hasAt, kindAt, onPath, acceptable, seriesFrom, series}
 use Rattle.rules.specs.declared.Kind.{Kind}
 use Rattle.rules.proofs.Booleans.{and-left, and-right, is-false, same-test}
-use Rattle.rules.proofs.Places.{leaf-undone, refined-kind, has-child, has-no-child, has-stays, has-only, done-has, leaf-has}
+use Rattle.rules.proofs.Places.{leaf-undone, refined-kind, has-child, has-no-child, has-stays, has-only}
 use Rattle.rules.proofs.Series.{In, acceptable-leaf}
 use Rattle.records.specs.Records.{children, places, samePlace, position, above}
 
@@ -362,3 +362,9 @@ path-above (left ∷ r) left (d ∷ q) h k = ap (λ (x : Place). left ∷ x) (pa
 path-above (left ∷ r) right (d ∷ q) h k = absurd (true≢false (sym h))
 path-above (right ∷ r) left (d ∷ q) h k = absurd (true≢false (sym h))
 path-above (right ∷ r) right (d ∷ q) h k = ap (λ (x : Place). right ∷ x) (path-above r d q h k)
+
+-- ---- one place for each position
+
+-- Two places with one record are one.
+pub one-place : (ns : List Refinement) (q r : Place) → Held q (places ns) → Held r (places ns) → position q (places ns) ≡ position r (places ns) → q ≡ r
+one-place ns q r h k e = sym (position-get ns q h) ∙ ap (λ (i : ℕ). getD (places ns) i []) e ∙ position-get ns r k

@@ -1,3 +1,4 @@
 -- The records of a tree, and the library's calls on them.
 pub mod Records
 pub mod Library
+pub mod Growing

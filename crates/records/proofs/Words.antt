@@ -1,0 +1,140 @@
+-- A record's two words are the set of its ways' numbers, and with its fixed faults they give its remaining ways back.
+-- Rests on the rules' HandedDown.antt, which says that a node's own numbers may stand for its set, and on Bits.antt.
+use mathlib.Core.Path.{_≡_, refl, sym, ap, ap₂, _∙_, subst}
+use mathlib.Core.Bool.{Bool, true, false, _||_}
+use mathlib.Core.List.{List, [], _∷_}
+use mathlib.Core.Option.{Option, some}
+use Prim.Native.Nat.{ℕ, suc, _+_, _-_, _^_, _<_, _≤_}
+use native.Mathlib.Omega.{arith}
+use lib.ListN.{length}
+use lib.Pow.{pow-lt, pow-pos}
+use lib.Dec.{eqb, ltb, leb}
+use lib.Bits.{bitOr, or-lt}
+use borrow.Author.Tests.{ltb-true, ltb-false, leb-false, lt-leb, eqb-true, eq-eqb, ne-eqb}
+use Rattle.rules.specs.Table.{bit, Table, rows, ways, absentRows}
+use Rattle.rules.specs.declared.Way.{Way}
+use Rattle.rules.specs.Leaf.{any, select, hasNumber, ofSet, remaining}
+use Rattle.rules.specs.Tree.{Place, Refinement, tree, Subtree, subtree, series}
+use Rattle.rules.specs.Tree.{Node as Spot}
+use Rattle.rules.specs.Refusals.{Accepted}
+use Rattle.rules.proofs.Booleans.{same-test, any-head, any-tail, any-cons}
+use Rattle.rules.proofs.Bits.{bit-zero, bit-or, bit-pow}
+use Rattle.rules.proofs.Remaining.{remaining-any}
+use Rattle.rules.proofs.Sets.{ways-rising, select-same}
+use Rattle.rules.proofs.HandedDown.{handed-own}
+use Rattle.rules.proofs.Accepted.{few-ways, paired-words}
+use Rattle.records.specs.Records.{lowWord, highWord, inWords, recordWays, subtreeOr, recordAt}
+
+-- ---- the words hold the numbers
+
+-- Tests for equality, the other way round and both less 64.
+eqb-swap : (m n : ℕ) → eqb m n ≡ eqb n m
+eqb-swap m n = same-test _ _ (λ h. eq-eqb n m (sym (eqb-true m n h))) (λ h. eq-eqb m n (sym (eqb-true n m h)))
+
+eqb-less : (m n : ℕ) → 64 ≤ m → 64 ≤ n → eqb (m - 64) (n - 64) ≡ eqb n m
+eqb-less m n h k = same-test _ _ (λ q. eq-eqb n m (omega (arith, eqb-true (m - 64) (n - 64) q))) (λ q. eq-eqb (m - 64) (n - 64) (omega (arith, eqb-true n m q)))
+
+-- A number is in the two words of some ways exactly if one of them has it.
+pub words-number : (us : List Way) (i : ℕ) → inWords (lowWord us) (highWord us) i ≡ hasNumber us i
+unfolding inWords hasNumber lowWord highWord
+words-number [] i = by (ltb i 64)
+  where
+    by : (b : Bool) → (elim b as (λ x. Bool) [ true ↦ bit i 0 | false ↦ bit (i - 64) 0 ]) ≡ false
+    by true = bit-zero i
+    by false = bit-zero (i - 64)
+words-number (v ∷ us) i = by (ltb (v .number) 64) refl (ltb i 64) refl (words-number us i)
+  where
+    other : (v .number ≡ i → ⊥) → hasNumber us i ≡ eqb (v .number) i || hasNumber us i
+    other f = ap (λ (z : Bool). z || hasNumber us i) (sym (ne-eqb (v .number) i f))
+
+    low-high : v .number < 64 → 64 ≤ i → v .number ≡ i → ⊥
+    low-high h k e = omega arith
+
+    high-low : 64 ≤ v .number → i < 64 → v .number ≡ i → ⊥
+    high-low h k e = omega arith
+
+    by : (x : Bool) → ltb (v .number) 64 ≡ x → (y : Bool) → ltb i 64 ≡ y
+        → (elim y as (λ x. Bool) [ true ↦ bit i (lowWord us) | false ↦ bit (i - 64) (highWord us) ]) ≡ hasNumber us i
+        → (elim y as (λ x. Bool) [
+          | true ↦ bit i (elim x as (λ b. ℕ) [ true ↦ bitOr (2 ^ v .number) (lowWord us) | false ↦ lowWord us ])
+          | false ↦ bit (i - 64) (elim x as (λ b. ℕ) [ true ↦ highWord us | false ↦ bitOr (2 ^ (v .number - 64)) (highWord us) ])
+        ]) ≡ eqb (v .number) i || hasNumber us i
+    by true e true q ih = bit-or i (2 ^ v .number) (lowWord us) ∙ ap₂ (λ (x y : Bool). x || y) (bit-pow i (v .number) ∙ eqb-swap i (v .number)) ih
+    by true e false q ih = ih ∙ other (low-high (ltb-true (v .number) 64 e) (ltb-false i 64 q))
+    by false e true q ih = ih ∙ other (high-low (ltb-false (v .number) 64 e) (ltb-true i 64 q))
+    by false e false q ih =
+        bit-or (i - 64) (2 ^ (v .number - 64)) (highWord us)
+        ∙ ap₂ (λ (x y : Bool). x || y) (bit-pow (i - 64) (v .number - 64) ∙ eqb-less i (v .number) (ltb-false i 64 q) (ltb-false (v .number) 64 e)) ih
+
+-- THE WAYS OF A RECORD are those that remain at its place.
+pub record-ways : (t : Table) (ns : List Refinement) → series t ns ≡ true → (p : Place) (x : Subtree) → subtree t p (tree ns) ≡ some x
+    → recordWays t (recordAt t ns p) ≡ x .node .ways
+unfolding recordWays recordAt subtreeOr
+record-ways t ns h p x e =
+    ap (λ (o : Option Subtree). told (subtreeOr o .node)) e
+    ∙ ap (remaining (x .node .present) (x .node .absent)) (select-same 0 (ways t) (inWords (lowWord us) (highWord us)) (hasNumber us) (ways-rising t) (λ j l. words-number us j))
+    ∙ handed-own t ns h p x e
+  where
+    us : List Way
+    us = x .node .ways
+
+    told : Spot → List Way
+    told y = remaining (y .present) (y .absent) (select (inWords (lowWord (y .ways)) (highWord (y .ways))) (ways t))
+
+-- ---- the words fit 64 bits
+
+-- The low word of any ways.
+pub low-fits : (us : List Way) → lowWord us < 2 ^ 64
+unfolding lowWord
+low-fits [] = pow-pos 64
+low-fits (v ∷ us) = by (ltb (v .number) 64) refl (low-fits us)
+  where
+    by : (b : Bool) → ltb (v .number) 64 ≡ b → lowWord us < 2 ^ 64
+        → (elim b as (λ b. ℕ) [ true ↦ bitOr (2 ^ v .number) (lowWord us) | false ↦ lowWord us ]) < 2 ^ 64
+    by true e ih = or-lt 64 (2 ^ v .number) (lowWord us) (pow-lt (ltb-true (v .number) 64 e)) ih
+    by false e ih = ih
+
+-- A number of n or above, which no way of a table of n ways has.
+abbrev pub numberFrom : ℕ → Way → Bool
+numberFrom n v = leb n (v .number)
+
+-- The high word of ways with numbers below 128.
+pub high-fits : (us : List Way) → any (numberFrom 128) us ≡ false → highWord us < 2 ^ 64
+unfolding highWord
+high-fits [] h = pow-pos 64
+high-fits (v ∷ us) h = by (ltb (v .number) 64) refl (leb-false 128 (v .number) (any-head (numberFrom 128) v us h)) (high-fits us (any-tail (numberFrom 128) v us h))
+  where
+    by : (b : Bool) → ltb (v .number) 64 ≡ b → v .number < 128 → highWord us < 2 ^ 64
+        → (elim b as (λ b. ℕ) [ true ↦ highWord us | false ↦ bitOr (2 ^ (v .number - 64)) (highWord us) ]) < 2 ^ 64
+    by true e k ih = ih
+    by false e k ih = or-lt 64 (2 ^ (v .number - 64)) (highWord us) (pow-lt {i = v .number - 64} {j = 64} (omega (arith, ltb-false (v .number) 64 e))) ih
+
+rows-numbers : (n i : ℕ) (ps qs : List ℕ) → length ps ≡ length qs → i + length ps ≤ n → any (numberFrom n) (rows i ps qs) ≡ false
+unfolding any rows absentRows
+rows-numbers n i [] [] e h = refl
+rows-numbers n i [] (q ∷ qs) e h = absurd (omega arith)
+rows-numbers n i (p ∷ ps) [] e h = absurd (omega arith)
+rows-numbers n i (p ∷ ps) (q ∷ qs) e h =
+    any-cons (numberFrom n) (record { number = i; present = p; absent = q }) (rows (suc i) ps qs) (lt-leb n i (omega arith)) (rows-numbers n (suc i) ps qs (omega arith) (omega arith))
+
+select-any : (h : Way → Bool) (P : ℕ → Bool) (vs : List Way) → any h vs ≡ false → any h (select P vs) ≡ false
+unfolding select any
+select-any h P [] e = refl
+select-any h P (v ∷ vs) e = by (P (v .number)) (select-any h P vs (any-tail h v vs e))
+  where
+    by : (b : Bool) → any h (select P vs) ≡ false → any h (elim b as (λ b. List Way) [ true ↦ v ∷ select P vs | false ↦ select P vs ]) ≡ false
+    by true ih = any-cons h v (select P vs) (any-head h v vs e) ih
+    by false ih = ih
+
+-- The ways of an accepted table have numbers below 128.
+ways-below : (t : Table) → Accepted t → any (numberFrom 128) (ways t) ≡ false
+unfolding ways
+ways-below t ok = rows-numbers 128 0 (t .present) (t .absent) (paired-words t ok) (omega (arith, few-ways t ok))
+
+-- And so have those that remain at a place, in whose record the words fit.
+pub remaining-below : (t : Table) → Accepted t → (ns : List Refinement) → series t ns ≡ true → (p : Place) (x : Subtree) → subtree t p (tree ns) ≡ some x
+    → any (numberFrom 128) (x .node .ways) ≡ false
+remaining-below t ok ns h p x e =
+    subst (λ (vs : List Way). any (numberFrom 128) vs ≡ false) (handed-own t ns h p x e)
+    (remaining-any (numberFrom 128) (λ m v q. q) (x .node .present) (x .node .absent) (ofSet (x .node .ways) (ways t))
+    (select-any (numberFrom 128) (hasNumber (x .node .ways)) (ways t) (ways-below t ok)))
