@@ -15,7 +15,7 @@ use Rattle.rules.specs.Run.{next, picks, verdict, ran}
 use Rattle.rules.specs.Refusals.{Accepted}
 use Rattle.rules.specs.declared.Kind.{Kind}
 use Rattle.rules.specs.Calls.{handNumber, Call, callNumber, noted}
-use Rattle.rules.specs.Sheet.{Sheet, Within, AllBelow, encode, decode, readNumber}
+use Rattle.rules.specs.Sheet.{Cue, Sheet, Lists, tableOf, Within, AllBelow, encode, listsIn, decode, readNumber, writeNumber, written}
 use Rattle.rules.proofs.KindLaws.{Handed}
 use Rattle.rules.proofs.Places.{refined-kind, refined-leaves, refined-inners, nodes-inners, subtree-has, elsewhere}
 use Rattle.rules.proofs.Series.{In, Same, acceptable-leaf, places-differ}
@@ -28,6 +28,9 @@ use Rattle.rules.proofs.Levels.{levels, few-nodes}
 use Rattle.rules.proofs.Runs.{TooWide, Exactly, verdict-exactly, OneRun, two-runs, picks-budget, report-inners, one-step}
 use Rattle.rules.proofs.Demand3.{Share, same-share, never-wider, noted-series, HandsBack, hands-back, HandMade, hand-made}
 use Rattle.rules.proofs.Accepted.{Inside, accepted-inside, inside-accepted}
+use Rattle.rules.proofs.CueTables as cue-tables
+use Rattle.rules.proofs.CueTables.{LineCertain, printed-certain}
+use Rattle.rules.proofs.RoundTrip.{bytesOf, Put, write-read, read-write}
 use Rattle.rules.proofs.Sheets.{IsSheet, accepted-exactly, accepts-encoded, decode-encode, encode-decode, within-decoded, longest, attained, first-bytes}
 
 -- ---- "The interval at each point of the tree .. always contains the exact weighted sum over all combinations of faults that satisfy some way of that point."
@@ -186,3 +189,20 @@ same-sheet s w = (accepts-encoded s w, decode-encode s w)
 -- A sheet of 49,612 bytes.
 pub longest-sheet : (s : Sheet) × Within s × (length (encode s) ≡ 49612)
 longest-sheet = attained
+
+-- ---- "A sheet written and read is the same sheet, from either end", of the calls: what is written and read is what was given, and what is read and written is
+-- ---- the same bytes.
+
+pub written-read : (x : Lists) (space : List ℕ) → AllBelow 65536 (x .numbers) → writeNumber x (length space) ≡ 0
+    → (readNumber (take (length (bytesOf x)) (written x space)) ≡ 0) × (listsIn (take (length (bytesOf x)) (written x space)) ≡ x)
+written-read = write-read
+
+pub read-written : (bs : List ℕ) → AllBelow 256 bs → readNumber bs ≡ 0 → (space : List ℕ) → length bs ≤ length space
+    → (writeNumber (listsIn bs) (length space) ≡ 0) × Put (listsIn bs) bs space
+read-written = read-write
+
+-- ---- "The program .. prints an interval for each cue": every printed line is certain.
+
+-- Each cue of an accepted sheet is an accepted table, its printed interval encloses the exact sum over its ways, and met is printed exactly if it is narrow enough.
+pub line-shown : (bs : List ℕ) → AllBelow 256 bs → readNumber bs ≡ 0 → (c : Cue) → cue-tables.In c (decode bs .cues) → LineCertain (decode bs .limits) (tableOf (decode bs .weights) c)
+line-shown = printed-certain

@@ -3,7 +3,7 @@
 use mathlib.Core.Path.{_≡_, refl, sym, _∙_}
 use mathlib.Core.Bool.{Bool, true, false, _&&_}
 use mathlib.Core.List.{List, [], _∷_, _++_}
-use Prim.Native.Nat.{ℕ, suc}
+use Prim.Native.Nat.{ℕ, suc, _<_}
 use native.Mathlib.Omega.{arith}
 use lib.Dec.{ltb}
 use borrow.Author.Tests.{ltb-true}
@@ -70,3 +70,19 @@ first-before (x ∷ xs) ys n h = split (x .applies) refl (first-before xs ys n)
 pub first-end : (xs ys : List Refusal) → first ys ≡ 0 → first (xs ++ ys) ≡ first xs
 first-end [] ys h = h ∙ sym first-none
 first-end (x ∷ xs) ys h = first-same x (xs ++ ys) xs (λ e. first-end xs ys h)
+
+-- Every refusal of a list has a number below a limit.
+abbrev pub numbersBelow : ℕ → List Refusal → Bool
+numbersBelow n [] = true
+numbersBelow n (x ∷ xs) = ltb (x .number) n && numbersBelow n xs
+
+-- So has the first that applies.
+pub first-below : (n : ℕ) (xs : List Refusal) → 0 < n → numbersBelow n xs ≡ true → first xs < n
+first-below n [] h p = omega (arith, first-none)
+first-below n (x ∷ xs) h p =
+    let here = and-split (ltb (x .number) n) _ p in
+    split (x .applies) refl (ltb-true (x .number) n (here .0)) (first-below n xs h (here .1))
+  where
+    split : (b : Bool) → x .applies ≡ b → x .number < n → first xs < n → first (x ∷ xs) < n
+    split true e l rest = omega (arith, first-here x xs e)
+    split false e l rest = omega (arith, first-later x xs e)

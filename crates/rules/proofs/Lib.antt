@@ -29,4 +29,9 @@ pub mod Bytes
 pub mod Laid
 pub mod WriterLists
 pub mod Sheets
+pub mod CueTables
+pub mod RoundTrip
+pub mod ReaderCalls
+pub mod Decimal
+pub mod TextLength
 pub mod Demands

@@ -118,7 +118,7 @@ found-agree bs =
     }
 
 -- Bytes that reading accepts are settled, and the writer keeps their lists.
-read-kept : (bs : List ℕ) → readNumber bs ≡ 0 → Kept (listsIn bs) × Settled bs
+pub read-kept : (bs : List ℕ) → readNumber bs ≡ 0 → Kept (listsIn bs) × Settled bs
 unfolding readNumber readRefusals wayRefusals limitRefusals listsIn
 read-kept bs h =
     let n = none-applies (readRefusals bs) refl h in
@@ -222,12 +222,12 @@ module _ (s : Sheet) (w : Within s) where
   agree : Agree (listsOf s)
   agree = paired-agree s (w .paired)
 
-  fits : Fits (listsOf s)
+  pub fits : Fits (listsOf s)
   unfolding listsOf
   fits = kept-fits (listsOf s) kept (w .numbered)
 
   -- Reading finds a sheet's lists in its bytes.
-  lists-encode : listsIn (encode s) ≡ listsOf s
+  pub lists-encode : listsIn (encode s) ≡ listsOf s
   lists-encode = ap listsIn (encode-layout s (w .paired)) ∙ lists-layout (listsOf s) agree fits
 
   -- The bytes of a sheet within the limits are accepted.
