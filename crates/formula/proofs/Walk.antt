@@ -27,16 +27,22 @@ waysFrom c i = drop i (waysOf c)
 pub count : (c : Clauses) → length (c .list) ≡ 128 → c .len ≤ 128 → length (waysOf c) ≡ c .len
 count c long fits = simp length-take (omega arith)
 
+module _ (c : Clauses) (i : ℕ) where
+  -- The ways from i on begin with the one at i.
+  pub next-way : length (c .list) ≡ 128 → c .len ≤ 128 → i < c .len → waysFrom c i ≡ way c i ∷ waysFrom c (i + 1)
+  next-way long fits h =
+      let l : i < length (waysOf c) = omega (arith, count c long fits) in
+      rw (add-one, ← (getD-take (c .len) (c .list) i _ h)) (drop-cons (waysOf c) i _ l)
+
+  -- At the end no way is left.
+  pub none-left : c .len ≤ i → waysFrom c i ≡ []
+  none-left h = let l : length (waysOf c) ≤ i = simp length-take (omega arith) in drop-of-length-le (waysOf c) l
+
 module _ {A : Type 0} (f : List Way → A) (c : Clauses) (i : ℕ) where
   -- One turn of a loop whose answer is f of the ways from i on: the way at i comes first.
   pub forward : {R : A} → length (c .list) ≡ 128 → c .len ≤ 128 → i < c .len → f (waysFrom c i) ≡ R → f (way c i ∷ waysFrom c (i + 1)) ≡ R
-  forward long fits h inv =
-      let l : i < length (waysOf c) = omega (arith, count c long fits) in
-      let e : waysFrom c i ≡ way c i ∷ waysFrom c (i + 1) = rw (add-one, ← (getD-take (c .len) (c .list) i _ h)) (drop-cons (waysOf c) i _ l) in
-      sym (ap f e) ∙ inv
+  forward long fits h inv = sym (ap f (next-way c i long fits h)) ∙ inv
 
-  -- At the end no way is left.
+  -- The end of it.
   pub ended : {R : A} → c .len ≤ i → f (waysFrom c i) ≡ R → f [] ≡ R
-  ended h inv =
-      let l : length (waysOf c) ≤ i = simp length-take (omega arith) in
-      sym (ap f (drop-of-length-le (waysOf c) l)) ∙ inv
+  ended h inv = sym (ap f (none-left c i h)) ∙ inv

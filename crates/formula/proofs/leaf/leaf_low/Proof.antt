@@ -13,7 +13,8 @@ use Rattle.rules.specs.Table.{faults}
 use Rattle.rules.specs.Leaf.{chance, either, eitherAll, leafLow}
 use Rattle.formula.specs.declared.Clauses.{Clauses}
 use Rattle.formula.specs.Clauses.{waysOf}
-use Rattle.formula.proofs.KeptWords.{hits, keepWords, kept-words, keep-passed, keep-taken, hit, miss, stored}
+use Rattle.formula.proofs.Append.{stored}
+use Rattle.formula.proofs.KeptWords.{hits, keepWords, kept-words, keep-passed, keep-taken, hit, miss}
 use Rattle.formula.proofs.Walk.{length-unmap, way, waysFrom, forward, ended}
 use Rattle.formula.proofs.leaf.leaf_low.Statement.{statement}
 use Rattle.formula.proofs.leaf.leaf_low.Tie as tie

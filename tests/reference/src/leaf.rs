@@ -1,0 +1,108 @@
+//! A leaf's remaining ways and what follows from them alone: the chances of each way,
+//! the ways kept for the low end, the leaf's interval, and whether it is open.
+//! All of it for weights that 9 and 10 accept.
+
+use crate::S;
+
+/// A way with its number in the table and the faults it still names.
+#[derive(Clone, Copy, Debug, PartialEq, Eq)]
+pub struct Way {
+    pub number: usize,
+    pub present: u64,
+    pub absent: u64,
+}
+
+impl Way {
+    /// The named faults, in either sense.
+    pub fn faults(&self) -> u64 {
+        self.present | self.absent
+    }
+
+    pub fn names(&self, fault: usize) -> bool {
+        fault < 64 && self.faults() >> fault & 1 == 1
+    }
+
+    pub fn is_empty(&self) -> bool {
+        self.faults() == 0
+    }
+}
+
+#[derive(Clone, Copy, Debug, PartialEq, Eq)]
+pub struct Interval {
+    pub low: u64,
+    pub high: u64,
+}
+
+/// A value in billionths of billionths brought back to billionths, rounding down.
+pub fn down(value: u128) -> u64 {
+    (value / u128::from(S)) as u64
+}
+
+/// The same, rounding up.
+pub fn up(value: u128) -> u64 {
+    value.div_ceil(u128::from(S)) as u64
+}
+
+pub fn product(a: u64, b: u64) -> u128 {
+    u128::from(a) * u128::from(b)
+}
+
+/// One pass, lowest fault first, both senses mixed: with rounding at each fault the order matters.
+fn chance(weights: &[u32], way: &Way, round: fn(u128) -> u64) -> u64 {
+    let mut chance = S;
+    for (fault, &weight) in weights.iter().enumerate() {
+        let weight = u64::from(weight);
+        if way.present >> fault & 1 == 1 {
+            chance = round(product(chance, weight));
+        } else if way.absent >> fault & 1 == 1 {
+            chance = round(product(chance, S - weight));
+        }
+    }
+    chance
+}
+
+pub fn low_chance(weights: &[u32], way: &Way) -> u64 {
+    chance(weights, way, down)
+}
+
+pub fn high_chance(weights: &[u32], way: &Way) -> u64 {
+    chance(weights, way, up)
+}
+
+/// The ways kept for the low end: to share no fault with any kept way is to name none
+/// of the faults that the kept ways name together.
+pub fn kept(ways: &[Way]) -> Vec<Way> {
+    let mut taken = 0;
+    let mut kept = Vec::new();
+    for way in ways {
+        if way.faults() & taken == 0 {
+            taken |= way.faults();
+            kept.push(*way);
+        }
+    }
+    kept
+}
+
+pub fn leaf_low(weights: &[u32], ways: &[Way]) -> u64 {
+    let chances = kept(ways).into_iter().map(|way| low_chance(weights, &way));
+    chances.fold(0, |a, c| S - up(product(S - a, S - c)))
+}
+
+pub fn leaf_high(weights: &[u32], ways: &[Way]) -> u64 {
+    let sum: u64 = ways.iter().map(|way| high_chance(weights, way)).sum();
+    sum.min(S)
+}
+
+pub fn leaf_interval(weights: &[u32], ways: &[Way]) -> Interval {
+    Interval {
+        low: leaf_low(weights, ways),
+        high: leaf_high(weights, ways),
+    }
+}
+
+/// Open: two or more remaining ways, none of them empty, and low below high.
+pub fn is_open(weights: &[u32], ways: &[Way]) -> bool {
+    ways.len() >= 2
+        && !ways.iter().any(Way::is_empty)
+        && leaf_low(weights, ways) < leaf_high(weights, ways)
+}

@@ -1,0 +1,87 @@
+//! A counted run: it refines the widest open leaf again and again until it is met, done,
+//! full or spent, and reports how many refinements it made.
+
+use crate::leaf::Way;
+use crate::tree::{split, Act, State};
+use crate::{Answer, Table, Tree, DONE, FULL, MET, MOST_REFINEMENTS, S, SPENT};
+
+/// A run with an allowance and a budget: refusals 9 to 16, then the refinements.
+pub fn run(table: &Table, tree: &mut Tree, allowance: u64, budget: u64) -> Answer {
+    let number = match table.table_number() {
+        0 => run_number(table, tree, allowance, budget),
+        number => number,
+    };
+    if number != 0 {
+        return Answer::refused(number);
+    }
+    let before = tree.refinements();
+    loop {
+        let made = tree.refinements() - before;
+        let root = tree.interval(table);
+        let entries = tree.places(table);
+        // Listed left to right, and only a wider leaf takes the place of one found before.
+        let mut widest = None;
+        let mut width = 0;
+        for entry in entries.iter().filter(|entry| entry.state == State::Open) {
+            if entry.interval.high - entry.interval.low > width {
+                width = entry.interval.high - entry.interval.low;
+                widest = Some(entry);
+            }
+        }
+        if root.high - root.low <= allowance {
+            return tree.answer(table, made, MET);
+        }
+        let Some(leaf) = widest else {
+            return tree.answer(table, made, DONE);
+        };
+        if tree.refinements() >= MOST_REFINEMENTS {
+            return tree.answer(table, made, FULL);
+        }
+        if made >= budget {
+            return tree.answer(table, made, SPENT);
+        }
+        let grew = tree.grow(table, &leaf.place, pick(&leaf.ways));
+        assert!(
+            grew,
+            "a run's own pick is always a refinement that the rules allow"
+        );
+    }
+}
+
+fn run_number(table: &Table, tree: &Tree, allowance: u64, budget: u64) -> u64 {
+    if allowance > S {
+        14
+    } else if budget > MOST_REFINEMENTS {
+        15
+    } else if !tree.belongs_to(table) {
+        16
+    } else {
+        0
+    }
+}
+
+/// What a run does at a leaf: independence if the ways fall apart, else the fault named
+/// in most ways, the lowest if equal.
+pub fn pick(ways: &[Way]) -> Act {
+    if split(ways).is_some() {
+        return Act::Independence;
+    }
+    let mut most = (0, 0);
+    for fault in 0..64 {
+        let named = ways.iter().filter(|way| way.names(fault)).count();
+        if named > most.1 {
+            most = (fault, named);
+        }
+    }
+    Act::Fault(most.0 as u64)
+}
+
+pub fn verdict_word(verdict: u64) -> &'static str {
+    match verdict {
+        MET => "met",
+        DONE => "done",
+        FULL => "full",
+        SPENT => "spent",
+        _ => "none",
+    }
+}
