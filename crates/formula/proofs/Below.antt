@@ -1,7 +1,7 @@
 -- The numbers of ways stay below a limit, whatever is selected of the ways or remains of them.
 -- For callers: number_words asks for it of ways that select, restrict and child gave. Rests on `rules`, Leaf, Group and Tree.
-use mathlib.Core.Bool.{Bool, true, false, Bool·beq}
 use mathlib.Core.Path.{_≡_, refl, ap}
+use mathlib.Core.Bool.{Bool, true, false, Bool·beq}
 use mathlib.Core.List.{List, [], _∷_}
 use Prim.Native.Nat.{ℕ, suc, _+_, _≤_, _<_, _^_}
 use native.Mathlib.Omega.{arith}

@@ -1,4 +1,4 @@
--- A loop over the two slices of a table's words: the ways from index i on.
+-- A loop over the two slices of a table's words: what is left of the ways at index i.
 -- Rests on the kit's law of `drop`, and on `rules`, Table.
 use mathlib.Core.Path.{_≡_}
 use mathlib.Core.List.{List, [], _∷_}
@@ -10,6 +10,7 @@ use lib.Seq.{drop-cons}
 use Rattle.rules.specs.declared.Way.{Way}
 use Rattle.rules.specs.Table.{rows, absentRows}
 
+-- The ways from i on.
 abbrev pub rowsFrom : List ℕ → List ℕ → ℕ → List Way
 rowsFrom ps qs i = rows i (drop i ps) (drop i qs)
 
@@ -17,7 +18,7 @@ rowsFrom ps qs i = rows i (drop i ps) (drop i qs)
 abbrev pub row : List ℕ → List ℕ → ℕ → Way
 row ps qs i = record { number = i; present = getD ps i 0; absent = getD qs i 0 }
 
-module _ (ps qs : List ℕ) (even : length qs ≡ length ps) (i : ℕ) where
+module _ (ps qs : List ℕ) (paired : length qs ≡ length ps) (i : ℕ) where
   pub next-row : i < length ps → rowsFrom ps qs i ≡ row ps qs i ∷ rowsFrom ps qs (i + 1)
   unfolding rows
   next-row h = let l : i < length qs = omega arith in rw (add-one, drop-cons ps i 0 h, drop-cons qs i 0 l)

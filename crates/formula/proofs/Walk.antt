@@ -1,6 +1,7 @@
 -- A loop over the ways of a Clauses: what is left of the list at index i.
--- Rests on the kit's laws of `take` and `drop`.
+-- Rests on the kit's laws of `take` and `drop`, and on `rules`, Leaf.
 use mathlib.Core.Path.{_≡_, sym, ap, _∙_}
+use mathlib.Core.Bool.{Bool, true, false}
 use mathlib.Core.List.{List, [], _∷_, map}
 use Prim.Native.Nat.{ℕ, _+_, _≤_, _<_}
 use native.Mathlib.Numerals.{add-one}
@@ -8,6 +9,7 @@ use native.Mathlib.Omega.{arith}
 use lib.ListN.{length, getD, drop, length-take, length-map, drop-of-length-le}
 use lib.Seq.{drop-cons, getD-take}
 use Rattle.rules.specs.declared.Way.{Way}
+use Rattle.rules.specs.Leaf.{any}
 use Rattle.formula.specs.declared.Clauses.{Clauses}
 use Rattle.formula.specs.Clauses.{waysOf}
 
@@ -46,3 +48,13 @@ module _ {A : Type 0} (f : List Way → A) (c : Clauses) (i : ℕ) where
   -- The end of it.
   pub ended : {R : A} → c .len ≤ i → f (waysFrom c i) ≡ R → f [] ≡ R
   ended h inv = sym (ap f (none-left c i h)) ∙ inv
+
+-- A test that some way passes, by whether the first passes it.
+module _ (f : Way → Bool) (v : Way) (vs : List Way) where
+  pub any-first : f v ≡ true → any f (v ∷ vs) ≡ true
+  unfolding any
+  any-first h = rw h
+
+  pub any-rest : f v ≡ false → any f (v ∷ vs) ≡ any f vs
+  unfolding any
+  any-rest h = rw h

@@ -21,22 +21,22 @@ pub meets : (x : ℕ) {y z : ℕ} → y ≡ z → (bitAnd x y ≡ 0 → ⊥) →
 meets x {y} {z} e h = ap not (ne-eqb (bitAnd x z) 0 (λ k. h (ap (bitAnd x) e ∙ k)))
 
 -- Where y and m are complements in k bits, a word has each of its bits in just one of them.
-halves : (k w y m : ℕ) → w < 2 ^ k → y + m + 1 ≡ 2 ^ k → bitAnd w y + bitAnd w m ≡ w
-halves zero w y m h e = omega (arith, and-le-l w y, and-le-l w m)
-halves (suc k) w y m h e =
-    omega (arith, and-step w y, and-step w m, halves k (w / 2) (y / 2) (m / 2) (omega arith) (omega arith))
+split-bits : (k w y m : ℕ) → w < 2 ^ k → y + m + 1 ≡ 2 ^ k → bitAnd w y + bitAnd w m ≡ w
+split-bits zero w y m h e = omega (arith, and-le-l w y, and-le-l w m)
+split-bits (suc k) w y m h e =
+    omega (arith, and-step w y, and-step w m, split-bits k (w / 2) (y / 2) (m / 2) (omega arith) (omega arith))
 
 -- Bits are dropped by the complement of their word.
 pub and-not : (k w m : ℕ) → w < 2 ^ k → m < 2 ^ k → bitAnd w (2 ^ k - 1 - m) ≡ without m w
-and-not k w m h l = omega (arith, halves k w (2 ^ k - 1 - m) m h (omega arith))
+and-not k w m h l = omega (arith, split-bits k w (2 ^ k - 1 - m) m h (omega arith))
 
 -- Joining words, in either order of steps.
 pub or-assoc : (x y z : ℕ) → bitOr (bitOr x y) z ≡ bitOr x (bitOr y z)
-or-assoc x y z = bits-ext (bitOr (bitOr x y) z) (bitOr x (bitOr y z)) (λ i. simp bit-or (either (bit i x) (bit i y) (bit i z)))
+or-assoc x y z = bits-ext (bitOr (bitOr x y) z) (bitOr x (bitOr y z)) (λ i. simp bit-or (regroup (bit i x) (bit i y) (bit i z)))
   where
-    either : (p q r : Bool) → (p || q) || r ≡ p || (q || r)
-    either true q r = refl
-    either false q r = refl
+    regroup : (p q r : Bool) → (p || q) || r ≡ p || (q || r)
+    regroup true q r = refl
+    regroup false q r = refl
 
 -- The word of k ones has every bit below k.
 pub ones : (k i : ℕ) → i < k → bit i (2 ^ k - 1) ≡ true

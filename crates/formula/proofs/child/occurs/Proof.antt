@@ -1,8 +1,7 @@
 -- `occurs` meets its contract. The loop's invariant: the ways from i on answer for all.
 -- Rests on Walk.antt and the contract of `names`.
 use mathlib.Core.Path.{_≡_, refl, sym, _∙_}
-use mathlib.Core.Bool.{true, false, true≢false}
-use mathlib.Core.List.{List, _∷_}
+use mathlib.Core.Bool.{Bool, true≢false}
 use Prim.Native.Nat.{ℕ, _+_, _-_, _≤_}
 use native.Mathlib.Omega.{arith}
 use borrow.Author.Needs.{needs}
@@ -12,21 +11,16 @@ use Rattle.rules.specs.Table.{bit, faults}
 use Rattle.rules.specs.Leaf.{any}
 use Rattle.rules.specs.Tree.{occurs}
 use Rattle.formula.specs.Clauses.{waysOf}
-use Rattle.formula.proofs.Walk.{length-unmap, way, waysFrom, forward, ended}
+use Rattle.formula.proofs.Walk.{length-unmap, way, waysFrom, forward, ended, any-first, any-rest}
 use Rattle.formula.proofs.child.occurs.Statement.{statement}
 use Rattle.formula.proofs.child.occurs.Tie as tie
 
-module _ (f : ℕ) (v : Way) (vs : List Way) where
-  first-names : bit f (faults v) ≡ true → occurs f (v ∷ vs) ≡ true
-  unfolding occurs any
-  first-names h = rw h
-
-  first-not : bit f (faults v) ≡ false → occurs f (v ∷ vs) ≡ occurs f vs
-  unfolding occurs any
-  first-not h = rw h
+-- The test that `occurs` makes of each way.
+abbrev names : ℕ → Way → Bool
+names f v = bit f (faults v)
 
 abbrev Inv-loop : tie.InvT-loop
-Inv-loop f c i₀ i = (i ≤ c .len) × (occurs f (waysFrom c i) ≡ occurs f (waysOf c))
+Inv-loop f c i₀ i = (i ≤ c .len) × (any (names f) (waysFrom c i) ≡ any (names f) (waysOf c))
 
 abbrev μ-loop : tie.MeasureT-loop
 μ-loop f c i₀ i = c .len - i
@@ -44,13 +38,14 @@ names-requires : tie.Need-names-requires Inv-loop μ-loop
 names-requires c κs = search needs
 
 returns : tie.Need-returns Inv-loop μ-loop
+unfolding occurs
 returns c =
     let l = c .before .before .before .before .loop in
     let a = c .before .before .before .before .before .args in
     let long : length (a .t2 .list) ≡ 128 = search (needs, length-unmap) in
     let n = c .before .names .ensures in (
-      sym (first-names (a .f) (way (a .t2) (l .i)) (waysFrom (a .t2) (l .i + 1)) (sym (n .0) ∙ c .if1 .taken))
-          ∙ forward (occurs (a .f)) (a .t2) (l .i) long (omega arith) (omega arith) (l .inv .1),
+      sym (any-first (names (a .f)) (way (a .t2) (l .i)) (waysFrom (a .t2) (l .i + 1)) (sym (n .0) ∙ c .if1 .taken))
+          ∙ forward (any (names (a .f))) (a .t2) (l .i) long (omega arith) (omega arith) (l .inv .1),
       λ t. n .1 (c .if1 .taken),
     )
 
@@ -66,13 +61,13 @@ loop-again c =
     let a = c .before .before .before .before .before .args in
     let long : length (a .t2 .list) ≡ 128 = search (needs, length-unmap) in (
       omega arith,
-      sym (first-not (a .f) (way (a .t2) (l .i)) (waysFrom (a .t2) (l .i + 1)) (sym (c .before .names .ensures .0) ∙ c .if1 .left))
-          ∙ forward (occurs (a .f)) (a .t2) (l .i) long (omega arith) (omega arith) (l .inv .1),
+      sym (any-rest (names (a .f)) (way (a .t2) (l .i)) (waysFrom (a .t2) (l .i + 1)) (sym (c .before .names .ensures .0) ∙ c .if1 .left))
+          ∙ forward (any (names (a .f))) (a .t2) (l .i) long (omega arith) (omega arith) (l .inv .1),
     )
 
 returns-2 : tie.Need-returns-2 Inv-loop μ-loop
 unfolding occurs any
-returns-2 c = (ended (occurs (c .before .before .args .f)) (c .before .before .args .t2) (c .before .loop .i) (omega arith) (c .before .loop .inv .1), λ t. absurd (true≢false (sym t)))
+returns-2 c = (ended (any (names (c .before .before .args .f))) (c .before .before .args .t2) (c .before .loop .i) (omega arith) (c .before .loop .inv .1), λ t. absurd (true≢false (sym t)))
 
 pub occurs-spec : {M : Type 1} → statement M
 occurs-spec =

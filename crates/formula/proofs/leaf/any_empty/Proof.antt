@@ -1,29 +1,17 @@
 -- `any_empty` meets its contract. The loop's invariant: the ways from i on answer for all.
 -- Rests on Walk.antt.
 use mathlib.Core.Path.{_≡_, refl, sym, _∙_}
-use mathlib.Core.Bool.{true}
-use mathlib.Core.List.{List, _∷_}
-use Prim.Native.Nat.{ℕ, _+_, _-_, _≤_}
+use Prim.Native.Nat.{_+_, _-_, _≤_}
 use native.Mathlib.Omega.{arith}
 use borrow.Author.Needs.{needs}
 use borrow.Author.Tests.{eq-eqb, ne-eqb}
 use lib.ListN.{length}
-use Rattle.rules.specs.declared.Way.{Way}
 use Rattle.rules.specs.Table.{faults}
 use Rattle.rules.specs.Leaf.{any, isEmpty}
 use Rattle.formula.specs.Clauses.{waysOf}
-use Rattle.formula.proofs.Walk.{length-unmap, way, waysFrom, forward, ended}
+use Rattle.formula.proofs.Walk.{length-unmap, way, waysFrom, forward, ended, any-first, any-rest}
 use Rattle.formula.proofs.leaf.any_empty.Statement.{statement}
 use Rattle.formula.proofs.leaf.any_empty.Tie as tie
-
-module _ (v : Way) (vs : List Way) {r : ℕ} (e : r ≡ faults v) where
-  first-empty : r ≡ 0 → any isEmpty (v ∷ vs) ≡ true
-  unfolding any
-  first-empty h = rw (eq-eqb (faults v) 0 (sym e ∙ h))
-
-  first-not : (r ≡ 0 → ⊥) → any isEmpty (v ∷ vs) ≡ any isEmpty vs
-  unfolding any
-  first-not h = rw (ne-eqb (faults v) 0 (λ k. h (e ∙ k)))
 
 abbrev Inv-loop : tie.InvT-loop
 Inv-loop c i₀ i = (i ≤ c .len) × (any isEmpty (waysFrom c i) ≡ any isEmpty (waysOf c))
@@ -48,7 +36,9 @@ returns c =
     let l = c .before .before .before .before .loop in
     let a = c .before .before .before .before .before .args in
     let long : length (a .t1 .list) ≡ 128 = search (needs, length-unmap) in
-    sym (first-empty (way (a .t1) (l .i)) (waysFrom (a .t1) (l .i + 1)) (c .before .faults .ensures) (c .if1 .taken)) ∙ forward (any isEmpty) (a .t1) (l .i) long (omega arith) (omega arith) (l .inv .1)
+    let v = way (a .t1) (l .i) in
+    sym (any-first isEmpty v (waysFrom (a .t1) (l .i + 1)) (eq-eqb (faults v) 0 (sym (c .before .faults .ensures) ∙ c .if1 .taken)))
+    ∙ forward (any isEmpty) (a .t1) (l .i) long (omega arith) (omega arith) (l .inv .1)
 
 add-i : tie.Need-add-i Inv-loop μ-loop
 add-i c = search needs
@@ -61,7 +51,8 @@ loop-again c =
     let l = c .before .before .before .before .loop in
     let a = c .before .before .before .before .before .args in
     let long : length (a .t1 .list) ≡ 128 = search (needs, length-unmap) in
-    (omega arith, sym (first-not (way (a .t1) (l .i)) (waysFrom (a .t1) (l .i + 1)) (c .before .faults .ensures) (c .if1 .left)) ∙ forward (any isEmpty) (a .t1) (l .i) long (omega arith) (omega arith) (l .inv .1))
+    let v = way (a .t1) (l .i) in
+    (omega arith, sym (any-rest isEmpty v (waysFrom (a .t1) (l .i + 1)) (ne-eqb (faults v) 0 (λ k. c .if1 .left (c .before .faults .ensures ∙ k)))) ∙ forward (any isEmpty) (a .t1) (l .i) long (omega arith) (omega arith) (l .inv .1))
 
 returns-2 : tie.Need-returns-2 Inv-loop μ-loop
 unfolding any

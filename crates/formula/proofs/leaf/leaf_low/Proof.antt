@@ -1,5 +1,5 @@
 -- `leaf_low` meets its contract. The outer loop's invariant: what is kept of the ways from i on, after the words in the array, ends in leaf low.
--- The inner loop's: the word hits none of the array's first j. Rests on KeptWords.antt for both.
+-- The inner loop's: the word hits none of the array's first j. Rests on KeptWords.antt for both, and on Append.antt for a store.
 use mathlib.Core.Path.{_≡_, refl, sym, ap, _∙_}
 use mathlib.Core.Bool.{true, false}
 use mathlib.Core.List.{List, [], _∷_, _++_}

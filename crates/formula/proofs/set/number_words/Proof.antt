@@ -17,24 +17,26 @@ use Rattle.formula.proofs.Words.{or-assoc}
 use Rattle.formula.proofs.set.number_words.Statement.{statement}
 use Rattle.formula.proofs.set.number_words.Tie as tie
 
--- One way more in front.
-module _ (v : Way) (vs : List Way) where
-  low-first : v .number < 64 → lowWord (v ∷ vs) ≡ bitOr (2 ^ v .number) (lowWord vs)
+-- One way more in front, whose bit is x.
+module _ (v : Way) (vs : List Way) {x : ℕ} where
+  low-first : v .number < 64 → x ≡ 2 ^ v .number → lowWord (v ∷ vs) ≡ bitOr x (lowWord vs)
   unfolding lowWord
-  low-first h = rw (lt-ltb (v .number) 64 h, lowWord)
+  low-first h e = rw (lt-ltb (v .number) 64 h, e, lowWord)
+
+  high-first : 64 ≤ v .number → x ≡ 2 ^ (v .number - 64) → highWord (v ∷ vs) ≡ bitOr x (highWord vs)
+  unfolding highWord
+  high-first h e = rw (le-ltb (v .number) 64 h, e, highWord)
+
+module _ (v : Way) (vs : List Way) where
+  low-skips : 64 ≤ v .number → lowWord (v ∷ vs) ≡ lowWord vs
+  unfolding lowWord
+  low-skips h = rw (le-ltb (v .number) 64 h, lowWord)
 
   high-skips : v .number < 64 → highWord (v ∷ vs) ≡ highWord vs
   unfolding highWord
   high-skips h = rw (lt-ltb (v .number) 64 h, highWord)
 
-  low-skips : 64 ≤ v .number → lowWord (v ∷ vs) ≡ lowWord vs
-  unfolding lowWord
-  low-skips h = rw (le-ltb (v .number) 64 h, lowWord)
-
-  high-first : 64 ≤ v .number → highWord (v ∷ vs) ≡ bitOr (2 ^ (v .number - 64)) (highWord vs)
-  unfolding highWord
-  high-first h = rw (le-ltb (v .number) 64 h, highWord)
-
+-- The words so far have the numbers of the ways before i.
 record Joined (c : Clauses) (low high i : ℕ) : Type 0 where
   inside : i ≤ c .len
   below : AllNumbersBelow 128 (waysFrom c i)
@@ -64,15 +66,22 @@ module _ (c : Clauses) (low high i : ℕ) (inv : Joined c low high i) where
     unfolding AllNumbersBelow
     rest = all .1
 
+    -- Either word, w so far: the way at i has the bit x in it, or none.
+    gains : (f : List Way → ℕ) (w x : ℕ) → f (way c i ∷ waysFrom c (i + 1)) ≡ bitOr x (f (waysFrom c (i + 1))) → bitOr w (f (waysFrom c i)) ≡ f (waysOf c)
+        → bitOr (bitOr w x) (f (waysFrom c (i + 1))) ≡ f (waysOf c)
+    gains f w x e k = or-assoc w x (f (waysFrom c (i + 1))) ∙ ap (bitOr w) (sym e) ∙ forward (λ vs. bitOr w (f vs)) c i long fits h k
+
+    stays : (f : List Way → ℕ) (w : ℕ) → f (way c i ∷ waysFrom c (i + 1)) ≡ f (waysFrom c (i + 1)) → bitOr w (f (waysFrom c i)) ≡ f (waysOf c)
+        → bitOr w (f (waysFrom c (i + 1))) ≡ f (waysOf c)
+    stays f w e k = ap (bitOr w) (sym e) ∙ forward (λ vs. bitOr w (f vs)) c i long fits h k
+
     to-low : way c i .number < 64 → (x : ℕ) → x ≡ 2 ^ way c i .number → Joined c (bitOr low x) high (i + 1)
     to-low n x e =
         record {
           inside = omega arith;
           below = rest;
-          lower =
-              or-assoc low x (lowWord (waysFrom c (i + 1))) ∙ ap (bitOr low) (ap (λ (y : ℕ). bitOr y (lowWord (waysFrom c (i + 1)))) e ∙ sym (low-first (way c i) (waysFrom c (i + 1)) n))
-              ∙ forward (λ vs. bitOr low (lowWord vs)) c i long fits h (inv .lower);
-          higher = ap (bitOr high) (sym (high-skips (way c i) (waysFrom c (i + 1)) n)) ∙ forward (λ vs. bitOr high (highWord vs)) c i long fits h (inv .higher);
+          lower = gains lowWord low x (low-first (way c i) (waysFrom c (i + 1)) n e) (inv .lower);
+          higher = stays highWord high (high-skips (way c i) (waysFrom c (i + 1)) n) (inv .higher);
         }
 
     to-high : 64 ≤ way c i .number → (x : ℕ) → x ≡ 2 ^ (way c i .number - 64) → Joined c low (bitOr high x) (i + 1)
@@ -80,10 +89,8 @@ module _ (c : Clauses) (low high i : ℕ) (inv : Joined c low high i) where
         record {
           inside = omega arith;
           below = rest;
-          lower = ap (bitOr low) (sym (low-skips (way c i) (waysFrom c (i + 1)) n)) ∙ forward (λ vs. bitOr low (lowWord vs)) c i long fits h (inv .lower);
-          higher =
-              or-assoc high x (highWord (waysFrom c (i + 1))) ∙ ap (bitOr high) (ap (λ (y : ℕ). bitOr y (highWord (waysFrom c (i + 1)))) e ∙ sym (high-first (way c i) (waysFrom c (i + 1)) n))
-              ∙ forward (λ vs. bitOr high (highWord vs)) c i long fits h (inv .higher);
+          lower = stays lowWord low (low-skips (way c i) (waysFrom c (i + 1)) n) (inv .lower);
+          higher = gains highWord high x (high-first (way c i) (waysFrom c (i + 1)) n e) (inv .higher);
         }
 
 abbrev Inv-loop : tie.InvT-loop

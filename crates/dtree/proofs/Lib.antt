@@ -1,0 +1,2 @@
+-- What the definitions of the calls come to; each function's proof stands in its own directory.
+mod Opens

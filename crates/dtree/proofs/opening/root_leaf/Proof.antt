@@ -1,0 +1,38 @@
+-- `root_leaf` meets its contract: all ways of the table, with nothing fixed.
+-- Rests on what holds of an accepted table (`rules`, Accepted) and on the contracts of `whole` and `leaf_record`.
+use mathlib.Core.Path.{_≡_, sym, ap, _∙_}
+use mathlib.Core.List.{List, []}
+use Rattle.rules.specs.Table.{Table, ways}
+use Rattle.rules.specs.declared.Way.{Way}
+use Rattle.rules.proofs.Accepted.{few-faults, few-ways, paired-words, light}
+use Rattle.records.specs.Records.{recordAt}
+use Rattle.records.specs.Growing.{freshRecord}
+use Rattle.records.specs.declared.Node.{Node}
+use Rattle.dtree.proofs.Opens.{root-record}
+use Rattle.dtree.proofs.opening.root_leaf.Statement.{statement}
+use Rattle.dtree.proofs.opening.root_leaf.Tie as tie
+
+from-ways : (t : Table) (vs : List Way) (x : Node) → vs ≡ ways t
+    → x ≡ freshRecord (record { weights = t .weights; present = []; absent = [] }) (record { set = []; present = 0; absent = 0; ways = vs }) 0
+    → x ≡ recordAt t [] []
+from-ways t vs x e f =
+    f
+    ∙ ap (λ (us : List Way). freshRecord (record { weights = t .weights; present = []; absent = [] }) (record { set = []; present = 0; absent = 0; ways = us }) 0) e
+    ∙ root-record t
+
+whole-requires : tie.Need-whole-requires
+whole-requires c κs =
+    let ok = c .before .before .before .pre in
+    (few-ways _ ok, sym (paired-words _ ok))
+
+leaf-record-requires : tie.Need-leaf-record-requires
+leaf-record-requires c κs =
+    let ok = c .before .before .before .before .pre in
+    (few-faults _ ok, (light _ ok, (c .whole .ensures .1, c .whole .ensures .2)))
+
+returns : tie.Need-returns
+unfolding ways
+returns c = from-ways _ _ _ (c .before .whole .ensures .0) (c .leaf-record .ensures .0)
+
+pub root-leaf-spec : {M : Type 1} → statement M
+root-leaf-spec = tie.close (tie.spec whole-requires leaf-record-requires returns)

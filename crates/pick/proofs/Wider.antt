@@ -1,0 +1,40 @@
+-- The wider of two, as an operation: nothing is its unit, and it is associative, so that leaves can be compared one by one.
+-- Rests on specs/Picks.antt alone.
+use mathlib.Core.Path.{_≡_, refl}
+use Prim.Native.Nat.{ℕ, _<_, _≤_}
+use native.Mathlib.Omega.{arith}
+use native.Mathlib.Decide.{decLt}
+use borrow.Author.Tests.{lt-ltb, le-ltb}
+use Rattle.pick.specs.declared.Found.{Found}
+use Rattle.pick.specs.declared.Found.the-variants.{At, Nothing}
+use Rattle.pick.specs.Picks.{wider}
+
+pub wider-second : (i v j w : ℕ) → v < w → wider (At i v) (At j w) ≡ At j w
+unfolding wider
+wider-second i v j w h = rw (lt-ltb v w h, wider)
+
+pub wider-first : (i v j w : ℕ) → w ≤ v → wider (At i v) (At j w) ≡ At i v
+unfolding wider
+wider-first i v j w h = rw (le-ltb v w h, wider)
+
+pub wider-nothing : (x : Found) → wider x Nothing ≡ x
+unfolding wider
+wider-nothing Nothing = refl
+wider-nothing (At i v) = refl
+
+three : (i v j w k u : ℕ) → Dec (v < w) → Dec (w < u) → wider (wider (At i v) (At j w)) (At k u) ≡ wider (At i v) (wider (At j w) (At k u))
+three i v j w k u (yes p) (yes q) = let r : v < u = omega arith in rw (wider-second i v j w p, wider-second j w k u q, wider-second i v k u r)
+three i v j w k u (yes p) (no q) = let r : u ≤ w = omega arith in rw (wider-second i v j w p, wider-first j w k u r, wider-second i v j w p)
+three i v j w k u (no p) (yes q) = let r : w ≤ v = omega arith in rw (wider-first i v j w r, wider-second j w k u q)
+three i v j w k u (no p) (no q) =
+    let r : w ≤ v = omega arith in
+    let s : u ≤ w = omega arith in
+    let z : u ≤ v = omega arith in
+    rw (wider-first i v j w r, wider-first j w k u s, wider-first i v j w r, wider-first i v k u z)
+
+pub wider-assoc : (x y z : Found) → wider (wider x y) z ≡ wider x (wider y z)
+unfolding wider
+wider-assoc Nothing y z = refl
+wider-assoc (At i v) Nothing z = refl
+wider-assoc (At i v) (At j w) Nothing = wider-nothing (wider (At i v) (At j w))
+wider-assoc (At i v) (At j w) (At k u) = three i v j w k u (decLt v w) (decLt w u)

@@ -1,0 +1,3 @@
+-- The search that picks a leaf, on records, as the contracts cite it.
+-- Rests on the definitions of `records`.
+pub mod Picks
