@@ -1,2 +1,3 @@
 -- What the definitions of the calls come to; each function's proof stands in its own directory.
 mod Opens
+mod Again

@@ -26,7 +26,7 @@ unfolding recordAt grow kindAt subtree subtreeOr places above leftCode position 
 root-record t = refl
 
 -- The tree of that record alone is the layout of no refinement.
-one-layout : (t : Table) → oneRecord (recordAt t [] []) ≡ layout t []
+pub one-layout : (t : Table) → oneRecord (recordAt t [] []) ≡ layout t []
 unfolding oneRecord noNodes layout recordsOf places children
 one-layout t = refl
 

@@ -1,6 +1,7 @@
 //! The library's calls on d-trees: every call takes any input, and answers or refuses it by the rules.
 //! Rests on `records`, Library, where each call's tree and answer are defined.
 pub mod opening;
+pub mod sixteen;
 
 use records::Tree;
 use rules::Answer;

@@ -4,12 +4,14 @@
 
 pub mod leaf;
 pub mod natural;
+pub mod paper;
 pub mod random;
 pub mod report;
 pub mod run;
 pub mod sheet;
 pub mod table;
 pub mod tree;
+pub mod vectors;
 
 pub use table::Table;
 pub use tree::{Act, Tree};

@@ -1,18 +1,14 @@
 //! Examples for every refusal, for the order in which they are tried, and for what a
 //! refused call leaves as it was.
 
+use reference::paper::{limits, orders, p4, H};
 use reference::report::report;
 use reference::run::run;
 use reference::sheet::{encode, read, sheet_number, write, writing_number, Sheet};
 use reference::tree::{open, refine_by_hand};
 use reference::{Act, Answer, Table, Tree, S};
 
-const H: u32 = 500_000_000;
 const ABOVE: u32 = S as u32 + 1;
-
-fn p4() -> Table {
-    Table::of(&[H, H, 200_000_000], &[&[0, 1], &[0, 2]])
-}
 
 fn sheet() -> Sheet {
     Sheet {
@@ -114,32 +110,16 @@ fn a_cue_without_ways_still_needs_its_place() {
 
 #[test]
 fn tables_9_to_13() {
-    assert_eq!(Table::of(&[], &[]).table_number(), 9);
-    assert_eq!(Table::of(&[H; 64], &[]).table_number(), 0);
-    assert_eq!(Table::of(&[H; 65], &[]).table_number(), 9);
-    assert_eq!(Table::of(&[S as u32], &[]).table_number(), 0);
-    assert_eq!(Table::of(&[ABOVE], &[]).table_number(), 10);
-    assert_eq!(Table::of(&[H], &[&[0][..]; 128]).table_number(), 0);
-    assert_eq!(Table::of(&[H], &[&[0][..]; 129]).table_number(), 11);
-    let uneven = |present: &[u64], absent: &[u64]| Table {
-        weights: vec![H],
-        present: present.to_vec(),
-        absent: absent.to_vec(),
-    };
-    assert_eq!(uneven(&[1], &[]).table_number(), 11);
-    assert_eq!(uneven(&[], &[1]).table_number(), 11);
-    assert_eq!(Table::of(&[H], &[&[1]]).table_number(), 12);
-    assert_eq!(Table::of(&[H], &[&[!63]]).table_number(), 12);
-    assert_eq!(Table::of(&[H], &[&[0, !0]]).table_number(), 13);
-    assert_eq!(Table::of(&[H; 64], &[&[63, !63]]).table_number(), 13);
+    for (number, table) in limits() {
+        assert_eq!(table.table_number(), number, "{table:?}");
+    }
 }
 
 #[test]
 fn tables_try_each_over_the_whole_before_the_next() {
-    assert_eq!(Table::of(&[ABOVE; 65], &[]).table_number(), 9);
-    assert_eq!(Table::of(&[ABOVE], &[&[1][..]; 129]).table_number(), 10);
-    assert_eq!(Table::of(&[H], &[&[1][..]; 129]).table_number(), 11);
-    assert_eq!(Table::of(&[H], &[&[0, !0], &[!1]]).table_number(), 12);
+    for (number, table) in orders() {
+        assert_eq!(table.table_number(), number, "{table:?}");
+    }
 }
 
 #[test]

@@ -1,0 +1,1 @@
+-- The definitions are those of `records`.

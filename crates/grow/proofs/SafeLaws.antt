@@ -1,0 +1,63 @@
+-- Safe records: the blank, a record with another interval, a list in which a safe record is stored.
+-- Rests on the kit's laws of `set` and `replicate`.
+use mathlib.Core.Path.{_≡_}
+use mathlib.Core.List.{List}
+use Prim.Native.Nat.{ℕ, _≤_, _<_}
+use native.Mathlib.Omega.{arith}
+use native.Mathlib.Decide.{ℕ-discrete, decLt}
+use lib.ListN.{length, getD, set, replicate, length-replicate, getD-replicate, List·getD-eq-default}
+use lib.Seq.{getD-set-same, getD-set-other}
+use Rattle.rules.specs.Rounding.{S}
+use Rattle.rules.specs.declared.Kind.{Kind}
+use Rattle.rules.specs.declared.Kind.the-variants.{Shannon}
+use Rattle.records.specs.Records.{blank}
+use Rattle.records.specs.Growing.{withEnds}
+use Rattle.records.specs.declared.Node.{Node}
+use Rattle.formula.specs.Clauses.{FaultFits}
+use Rattle.grow.specs.Safe.{SafeNode, Safe}
+
+pub safe-blank : SafeNode blank
+safe-blank =
+    record {
+      fault-fits = omega arith;
+      parent-inside = omega arith;
+      children-inside = omega arith;
+      low-le = omega arith;
+      high-le = omega arith;
+      ownlow-le = omega arith;
+      ownhigh-le = omega arith;
+    }
+
+pub safe-blanks : (n : ℕ) → Safe (replicate n blank)
+safe-blanks n = record { each = λ i. at i (decLt i n) }
+  where
+    at : (i : ℕ) → Dec (i < n) → SafeNode (getD (replicate n blank) i blank)
+    at i (yes h) = rw (getD-replicate n i blank blank h) safe-blank
+    at i (no h) =
+        let l : length (replicate n blank) ≤ i = simp length-replicate (omega arith) in
+        rw (List·getD-eq-default (replicate n blank) blank l) safe-blank
+
+pub safe-set : (xs : List Node) (j : ℕ) (x : Node) → j < length xs → Safe xs → SafeNode x → Safe (set xs j x)
+safe-set xs j x h s n = record { each = λ i. at i (ℕ-discrete i j) }
+  where
+    at : (i : ℕ) → Dec (i ≡ j) → SafeNode (getD (set xs j x) i blank)
+    at i (yes e) = rw (e, getD-set-same xs j x blank h) n
+    at i (no e) = rw (getD-set-other xs j i x blank e) (s .each i)
+
+-- Another interval.
+pub safe-ends : (x : Node) (lo hi : ℕ) → SafeNode x → lo ≤ S → hi ≤ S → SafeNode (withEnds x lo hi)
+safe-ends x lo hi s l h =
+    record {
+      fault-fits = s .fault-fits;
+      parent-inside = s .parent-inside;
+      children-inside = s .children-inside;
+      low-le = l;
+      high-le = h;
+      ownlow-le = s .ownlow-le;
+      ownhigh-le = s .ownhigh-le;
+    }
+
+-- The fault of a kind has a bit in a word.
+pub fault-below : (k : Kind) (f : ℕ) → k ≡ Shannon f → FaultFits k → f < 64
+unfolding FaultFits
+fault-below k f e h = rw e at h

@@ -1,0 +1,21 @@
+-- Records that code may follow: every link is the index of a record, every fault has a bit, every end is at most S.
+-- Rests on `records`, Records. Growing a tree keeps this, so that a caller has it for good once it has it.
+use mathlib.Core.List.{List}
+use Prim.Native.Nat.{ℕ, _+_, _≤_, _<_}
+use lib.ListN.{getD}
+use Rattle.rules.specs.Rounding.{S}
+use Rattle.records.specs.Records.{blank}
+use Rattle.records.specs.declared.Node.{Node}
+
+pub record SafeNode (x : Node) : Type 0 where
+  pub fault-fits : x .fault < 64
+  pub parent-inside : x .parent < 511
+  pub children-inside : x .left + 1 < 511
+  pub low-le : x .low ≤ S
+  pub high-le : x .high ≤ S
+  pub ownlow-le : x .ownlow ≤ S
+  pub ownhigh-le : x .ownhigh ≤ S
+
+-- Every record is safe. Past the end of the list stands the blank, which is safe too.
+pub record Safe (xs : List Node) : Type 0 where
+  pub each : (i : ℕ) → SafeNode (getD xs i blank)

@@ -1,0 +1,2 @@
+-- What a printed line says in the paper's terms.
+pub mod Lines

@@ -1,0 +1,249 @@
+//! Tables written by hand: the paper's cases P1 to P9 with the figures typed from it, tables
+//! that are easy to get wrong, the largest ones, and those at a limit with their numbers.
+
+use crate::{Act, Table, MOST_FAULTS, MOST_WAYS, S};
+
+pub const H: u32 = 500_000_000;
+pub const Q: u32 = 250_000_000;
+pub const THIRD: u32 = 333_333_333;
+const TOP: u32 = S as u32;
+const ABOVE: u32 = TOP + 1;
+
+/// One case: the root leaf and whether it is open, then refinements by hand with the root after each.
+pub struct Case {
+    pub name: &'static str,
+    pub table: Table,
+    pub root: (u64, u64),
+    pub open: bool,
+    pub hand: Vec<(Vec<u8>, Act, (u64, u64))>,
+}
+
+pub fn p3() -> Table {
+    Table::of(&[THIRD; 2], &[&[0, 1]])
+}
+
+pub fn p4() -> Table {
+    Table::of(&[H, H, 200_000_000], &[&[0, 1], &[0, 2]])
+}
+
+pub fn p6() -> Table {
+    Table::of(&[H], &[&[0], &[!0]])
+}
+
+pub fn p7() -> Table {
+    Table::of(&[600_000_000; 2], &[&[0], &[1]])
+}
+
+pub fn p8() -> Table {
+    Table::of(&[THIRD; 2], &[&[0], &[1]])
+}
+
+/// P1 to P9.
+pub fn cases() -> Vec<Case> {
+    let case = |name, table, root, open, hand| Case {
+        name,
+        table,
+        root,
+        open,
+        hand,
+    };
+    let root_of_p4 = (250_000_000, 350_000_000);
+    let by_fault_0 = (vec![], Act::Fault(0), (300_000_000, 350_000_000));
+    let then_apart = (vec![0], Act::Independence, (300_000_000, 300_000_000));
+    let by_fault = |after| vec![(vec![], Act::Fault(0), after)];
+    let apart = |after| vec![(vec![], Act::Independence, after)];
+    vec![
+        case("P1", Table::of(&[H], &[]), (0, 0), false, vec![]),
+        case("P2", Table::of(&[H], &[&[]]), (S, S), false, vec![]),
+        case("P3", p3(), (111_111_110, 111_111_111), false, vec![]),
+        case("P4", p4(), root_of_p4, true, vec![by_fault_0.clone()]),
+        case("P5", p4(), root_of_p4, true, vec![by_fault_0, then_apart]),
+        case("P6", p6(), (500_000_000, S), true, by_fault((S, S))),
+        case(
+            "P7",
+            p7(),
+            (840_000_000, S),
+            true,
+            apart((840_000_000, 840_000_000)),
+        ),
+        case(
+            "P8",
+            p8(),
+            (555_555_555, 666_666_666),
+            true,
+            apart((555_555_555, 555_555_556)),
+        ),
+        case(
+            "P9",
+            Table::of(&[0, TOP], &[&[0], &[1]]),
+            (S, S),
+            false,
+            vec![],
+        ),
+    ]
+}
+
+// Figures that are easy to get wrong
+
+/// A way's chance takes one pass over the faults, both senses mixed.
+pub fn one_pass() -> Table {
+    Table::of(&[Q, 200_000_000, THIRD], &[&[1, 2, !0]])
+}
+
+/// The second way shares with the first and is skipped; the third shares with the second alone.
+pub fn skipped() -> Table {
+    Table::of(&[H; 2], &[&[1], &[0, !1], &[0]])
+}
+
+/// The first two ways hang together through the third.
+pub fn chain() -> Table {
+    Table::of(&[H; 2], &[&[0], &[1], &[1, !0]])
+}
+
+/// The widest leaf is so by its own width, not weighted by its path.
+pub fn widest() -> Table {
+    Table::of(&[Q; 4], &[&[0, 3], &[1, 2], &[1, 3], &[0, 2]])
+}
+
+/// The root's own leaf interval is better than what its children combine to.
+pub fn own_interval() -> Table {
+    Table::of(&[H, H, H, 1], &[&[0, 1], &[0, 2, 3], &[2]])
+}
+
+/// One division for a whole node: one for each product would widen it.
+pub fn one_division() -> Table {
+    Table::of(&[1, H], &[&[!0, !1], &[0, 1]])
+}
+
+pub fn with_empty_way() -> Table {
+    Table::of(&[H, H], &[&[0], &[], &[1]])
+}
+
+pub fn equal_ways() -> Table {
+    Table::of(&[H], &[&[0], &[0]])
+}
+
+/// Fault 1 is named in most ways only because {1, 2, 3} is counted three times.
+pub fn most_named() -> Table {
+    let thrice: [&[i64]; 3] = [&[1, 2, 3]; 3];
+    let pairs: [&[i64]; 3] = [&[0, 1], &[0, 2], &[0, 3]];
+    Table::of(&[H; 4], &[pairs, thrice].concat())
+}
+
+/// A table that takes all 255 refinements: 24 faults in a ring, each paired with its near ones.
+pub fn ring() -> Table {
+    let pairs: Vec<[i64; 2]> = (0..24)
+        .flat_map(|a| (1..5).map(move |d| [a, (a + d) % 24]))
+        .collect();
+    let ways: Vec<&[i64]> = pairs.iter().map(|pair| &pair[..]).collect();
+    Table::of(&[THIRD / 3; 24], &ways)
+}
+
+// Tables of the largest size
+
+/// Every fault is certain, and way i names the faults from i on, twice over.
+pub fn stairs() -> Table {
+    let all: Vec<i64> = (0..64).collect();
+    let ways: Vec<&[i64]> = (0..128).map(|i| &all[i % 64..]).collect();
+    Table::of(&[TOP; MOST_FAULTS], &ways)
+}
+
+/// Every way names one fault: all high chances together are far above 32 bits.
+pub fn singles() -> Table {
+    let apart: Vec<[i64; 1]> = (0..128).map(|i| [i % 64]).collect();
+    let ways: Vec<&[i64]> = apart.iter().map(|way| &way[..]).collect();
+    Table::of(&[999_999_999; MOST_FAULTS], &ways)
+}
+
+/// Every way names every fault of 64, present or absent by a pattern of its own.
+pub fn every_fault_named(weight: u32) -> Table {
+    let patterns = (0..MOST_WAYS as u64).map(|i| match i {
+        0 => u64::MAX,
+        1 => 0,
+        _ => i.wrapping_mul(0x9E37_79B9_7F4A_7C15),
+    });
+    let present: Vec<u64> = patterns.collect();
+    Table {
+        weights: vec![weight; MOST_FAULTS],
+        absent: present.iter().map(|word| !word).collect(),
+        present,
+    }
+}
+
+/// All tables above that are none of P1 to P9.
+pub fn easy_to_get_wrong() -> Vec<Table> {
+    vec![
+        one_pass(),
+        skipped(),
+        chain(),
+        widest(),
+        own_interval(),
+        one_division(),
+        with_empty_way(),
+        equal_ways(),
+        most_named(),
+        ring(),
+        stairs(),
+        singles(),
+        every_fault_named(TOP),
+        every_fault_named(H),
+        every_fault_named(999_999_999),
+    ]
+}
+
+/// A table whose lists of words need not agree.
+fn uneven(weights: &[u32], present: &[u64], absent: &[u64]) -> Table {
+    Table {
+        weights: weights.to_vec(),
+        present: present.to_vec(),
+        absent: absent.to_vec(),
+    }
+}
+
+/// Sizes and weights at their limits and past them, each with its number.
+pub fn limits() -> Vec<(u64, Table)> {
+    vec![
+        (9, Table::of(&[], &[])),
+        (0, Table::of(&[H; 64], &[])),
+        (9, Table::of(&[H; 65], &[])),
+        (0, Table::of(&[TOP], &[])),
+        (0, Table::of(&[TOP], &[&[0]])),
+        (10, Table::of(&[ABOVE], &[])),
+        (10, Table::of(&[H, H, ABOVE], &[&[0]])),
+        (10, Table::of(&[u32::MAX], &[&[0]])),
+        (0, Table::of(&[H], &[&[0][..]; 128])),
+        (11, Table::of(&[H], &[&[0][..]; 129])),
+        (11, uneven(&[H], &[1], &[])),
+        (11, uneven(&[H], &[], &[1])),
+        (11, uneven(&[H], &[0; 129], &[0; 128])),
+        (11, uneven(&[H], &[0; 128], &[0; 129])),
+        (12, Table::of(&[H], &[&[1]])),
+        (12, Table::of(&[H], &[&[!63]])),
+        (12, Table::of(&[H; 63], &[&[63]])),
+        (0, Table::of(&[H; 64], &[&[63]])),
+        (13, Table::of(&[H], &[&[0, !0]])),
+        (13, Table::of(&[H; 64], &[&[63, !63]])),
+    ]
+}
+
+/// Tables that several numbers concern, each with the first of them.
+pub fn orders() -> Vec<(u64, Table)> {
+    vec![
+        (9, Table::of(&[ABOVE; 65], &[])),
+        (9, Table::of(&[], &[&[0][..]; 129])),
+        (9, Table::of(&[], &[&[0]])),
+        (9, uneven(&[], &[1], &[])),
+        (9, Table::of(&[H; 65], &[&[0, !0]])),
+        (10, Table::of(&[ABOVE], &[&[1][..]; 129])),
+        (10, uneven(&[ABOVE], &[1], &[])),
+        (10, Table::of(&[ABOVE], &[&[1]])),
+        (10, Table::of(&[ABOVE], &[&[0, !0]])),
+        (11, Table::of(&[H], &[&[1][..]; 129])),
+        (11, Table::of(&[H], &[&[0, !0][..]; 129])),
+        (11, uneven(&[H], &[2], &[])),
+        (11, uneven(&[H], &[1, 1], &[1])),
+        // 13 in the first way and 12 in the second, and both in one way.
+        (12, Table::of(&[H], &[&[0, !0], &[!1]])),
+        (12, Table::of(&[H], &[&[1, !1]])),
+    ]
+}
