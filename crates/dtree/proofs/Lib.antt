@@ -1,3 +1,7 @@
 -- What the definitions of the calls come to; each function's proof stands in its own directory.
 mod Opens
 mod Again
+mod Calling
+mod Refuses
+mod ByHand
+mod ByRun

@@ -1,16 +1,17 @@
 -- What each call of the library promises: its tree and its answer are the defined ones, and the claims that a reader cares for.
 -- Rests on `records`, Library, on `rules`, Calls and Answers, and on `rules`, Table, for the exact sum.
 use mathlib.Core.Path.{_≡_}
-use Prim.Native.Nat.{ℕ, _≤_}
-use lib.ListN.{set}
+use Prim.Native.Nat.{ℕ, _+_, _≤_}
+use lib.ListN.{getD, set}
 use Rattle.rules.specs.Rounding.{S}
 use Rattle.rules.specs.Table.{Table, ways, Encloses}
 use Rattle.rules.specs.Refusals.{tableNumber, Accepted}
 use Rattle.rules.specs.Answers.{Reply, refused, answerReply}
-use Rattle.rules.specs.Calls.{openAnswer}
+use Rattle.rules.specs.Tree.{tree}
+use Rattle.rules.specs.Calls.{openAnswer, handNumber, runNumber, Call, byHand, byRun, Outcome, reply}
 use Rattle.rules.specs.declared.Answer.{Answer}
-use Rattle.records.specs.Records.{noNodes}
-use Rattle.records.specs.Library.{openTree}
+use Rattle.records.specs.Records.{blank, noNodes, history, treeCount, bad}
+use Rattle.records.specs.Library.{openTree, callTree, callOutcome}
 use Rattle.records.specs.declared.Node.{Node}
 use Rattle.records.specs.declared.Tree.{Tree}
 
@@ -35,3 +36,33 @@ pub record Opening (t : Table) (x : Tree) (a : Answer) : Type 0 where
   pub accepted : Accepted t → Certain t (answerReply a) × (answerReply a .count ≡ 0)
   -- Refused: nought to the full billion, count 0, and a tree without nodes.
   pub otherwise : (Accepted t → ⊥) → (answerReply a ≡ refused (tableNumber t)) × (x ≡ noNodes)
+
+-- ---- calls on a tree
+
+-- The record of the root.
+abbrev pub rootOf : Tree → Node
+rootOf x = getD (x .nodes) 0 blank
+
+-- The number of a call on any tree, 16 judged by the records.
+unfoldable pub numberOf : Table → Tree → Call → ℕ
+numberOf t x (byHand bs k) = handNumber t (bad t x) (tree (history x)) bs k
+numberOf t x (byRun m) = runNumber t (bad t x) m
+
+-- What an accepted call does that is handed x and returns y with the reply r.
+pub record Worked (t : Table) (x y : Tree) (r : Reply) : Type 0 where
+  -- A certain interval, no wider than the one that stood at the root before.
+  pub certain : Certain t r
+  pub no-wider : (rootOf x .low ≤ r .low) × (r .high ≤ rootOf x .high)
+  -- The count is the refinements after less those before.
+  pub counts : treeCount y ≡ treeCount x + r .count
+
+-- A HAND REFINEMENT OR A RUN on any table and any tree.
+pub record Called (t : Table) (x : Tree) (c : Call) (y : Tree) (o : Outcome) : Type 0 where
+  -- The tree and what is handed back are the defined ones.
+  pub tree-is : y ≡ callTree t x c
+  pub outcome-is : o ≡ callOutcome t x c
+  -- The number is that of the first refusal that applies, 0 if none does.
+  pub numbered : reply o .number ≡ numberOf t x c
+  pub accepted : numberOf t x c ≡ 0 → Worked t x y (reply o)
+  -- Refused: nought to the full billion, count 0, and the tree as it was.
+  pub otherwise : (numberOf t x c ≡ 0 → ⊥) → (reply o ≡ refused (numberOf t x c)) × (y ≡ x)

@@ -28,7 +28,7 @@ use Rattle.records.proofs.Live.{Holds, refined, unrefined, holds}
 use Rattle.records.proofs.Sixteen.{same-nodes, nodes-self, good-sure, good-all}
 
 -- There is room for two records more exactly if there is room for a refinement.
-room-is : (t : Table) (ns : List Refinement) → series t ns ≡ true → ltb (length (places ns)) 511 ≡ roomy (tree ns)
+pub room-is : (t : Table) (ns : List Refinement) → series t ns ≡ true → ltb (length (places ns)) 511 ≡ roomy (tree ns)
 room-is t ns h =
     let k = length-places ns in
     let m = series-inners t ns h in

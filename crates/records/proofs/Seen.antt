@@ -38,14 +38,14 @@ walk-some xs b p i l e = rw (ap (λ (x : ℕ). eqb x 0) e ∙ eqb·suc-zero l, w
 
 -- ---- the walk comes to the record of the place
 
--- The record, where something stands.
-abbrev pub shown : Option Subtree → Node → Option Node
+-- What a place has, where something stands.
+abbrev pub shown : {A : Type 0} → Option Subtree → A → Option A
 shown none x = none
 shown (some y) x = some x
 
 module _ (t : Table) (ns : List Refinement) where
   -- The left link of a place's record.
-  left-link : (q : Place) (o : Option Kind) → kindAt q (tree ns) ≡ o → Held q (places ns) → getD (recordsOf t ns) (position q (places ns)) blank .left ≡ leftCode o q (places ns)
+  pub left-link : (q : Place) (o : Option Kind) → kindAt q (tree ns) ≡ o → Held q (places ns) → getD (recordsOf t ns) (position q (places ns)) blank .left ≡ leftCode o q (places ns)
   unfolding recordAt
   left-link q o d h = ap (λ (x : Node). x .left) (record-at t ns q h) ∙ ap (λ (x : Option Kind). leftCode x q (places ns)) d
 
@@ -62,12 +62,11 @@ module _ (t : Table) (ns : List Refinement) where
 
   -- From the record of a place that the tree has, the walk leads to the record of every place below.
   walked : (p q : Place) (y : Subtree) → subtree t q (tree ns) ≡ some y
-      → fetch (recordsOf t ns) (walk (recordsOf t ns) p (position q (places ns))) ≡ shown (subtree t (q ++ p) (tree ns)) (recordAt t ns (q ++ p))
+      → walk (recordsOf t ns) p (position q (places ns)) ≡ shown (subtree t (q ++ p) (tree ns)) (position (q ++ p) (places ns))
   unfolding walk leftCode subtree
   walked [] q y e =
-      ap (λ (x : Node). some x) (record-at t ns q (stands-held q y e))
-      ∙ ap (λ (o : Option Subtree). shown o (recordAt t ns q)) (sym e)
-      ∙ ap (λ (r : Place). shown (subtree t r (tree ns)) (recordAt t ns r)) (sym (append-nil q))
+      ap (λ (o : Option Subtree). shown o (position q (places ns))) (sym e)
+      ∙ ap (λ (r : Place). shown (subtree t r (tree ns)) (position r (places ns))) (sym (append-nil q))
   walked (b ∷ p) q y e = by (kindAt q (tree ns)) refl (walked p (q ++ (b ∷ [])))
     where
       held : Held q (places ns)
@@ -75,22 +74,30 @@ module _ (t : Table) (ns : List Refinement) where
 
       by : (o : Option Kind) → kindAt q (tree ns) ≡ o
           → ((z : Subtree) → subtree t (q ++ (b ∷ [])) (tree ns) ≡ some z
-          → fetch (recordsOf t ns) (walk (recordsOf t ns) p (position (q ++ (b ∷ [])) (places ns))) ≡ shown (subtree t ((q ++ (b ∷ [])) ++ p) (tree ns)) (recordAt t ns ((q ++ (b ∷ [])) ++ p)))
-          → fetch (recordsOf t ns) (walk (recordsOf t ns) (b ∷ p) (position q (places ns))) ≡ shown (subtree t (q ++ b ∷ p) (tree ns)) (recordAt t ns (q ++ b ∷ p))
+          → walk (recordsOf t ns) p (position (q ++ (b ∷ [])) (places ns)) ≡ shown (subtree t ((q ++ (b ∷ [])) ++ p) (tree ns)) (position ((q ++ (b ∷ [])) ++ p) (places ns)))
+          → walk (recordsOf t ns) (b ∷ p) (position q (places ns)) ≡ shown (subtree t (q ++ b ∷ p) (tree ns)) (position (q ++ b ∷ p) (places ns))
       by none d ih =
-          ap (fetch (recordsOf t ns)) (walk-none (recordsOf t ns) b p (position q (places ns)) (left-link q none d held))
-          ∙ ap (λ (o : Option Subtree). shown o (recordAt t ns (q ++ b ∷ p))) (sym (nothing-below q b p (root t) (tree ns) d))
+          walk-none (recordsOf t ns) b p (position q (places ns)) (left-link q none d held)
+          ∙ ap (λ (o : Option Subtree). shown o (position (q ++ b ∷ p) (places ns))) (sym (nothing-below q b p (root t) (tree ns) d))
       by (some k) d ih =
-          ap (fetch (recordsOf t ns))
-          (walk-some (recordsOf t ns) b p (position q (places ns)) (position (q ++ (left ∷ [])) (children ns)) (left-link q (some k) d held ∙ position-child q left ns)
-          ∙ ap (walk (recordsOf t ns) p) (step-to q k b (only-done ns q k d)))
+          walk-some (recordsOf t ns) b p (position q (places ns)) (position (q ++ (left ∷ [])) (children ns)) (left-link q (some k) d held ∙ position-child q left ns)
+          ∙ ap (walk (recordsOf t ns) p) (step-to q k b (only-done ns q k d))
           ∙ ih _ (subtree-child q b k (root t) (tree ns) y d e)
-          ∙ ap (λ (r : Place). shown (subtree t r (tree ns)) (recordAt t ns r)) (append-assoc q (b ∷ []) p)
+          ∙ ap (λ (r : Place). shown (subtree t r (tree ns)) (position r (places ns))) (append-assoc q (b ∷ []) p)
+
+  -- From the root's record the walk leads to the record of every place that the tree has, and nowhere for any other.
+  pub walk-leads : (p : Place) → walk (recordsOf t ns) p 0 ≡ shown (subtree t p (tree ns)) (position p (places ns))
+  unfolding subtree descend places position samePlace
+  walk-leads p = walked p [] _ refl
 
   -- WHAT IS SEEN AT A PLACE is its record if the tree has that place, and nothing if not.
   pub seen-record : (p : Place) → seen (layout t ns) p ≡ shown (subtree t p (tree ns)) (recordAt t ns p)
-  unfolding seen layout subtree descend places position samePlace
-  seen-record p = walked p [] _ refl
+  unfolding seen layout
+  seen-record p = ap (fetch (recordsOf t ns)) (walk-leads p) ∙ by (subtree t p (tree ns)) refl
+    where
+      by : (o : Option Subtree) → subtree t p (tree ns) ≡ o → fetch (recordsOf t ns) (shown o (position p (places ns))) ≡ shown o (recordAt t ns p)
+      by none e = refl
+      by (some y) e = ap (λ (x : Node). some x) (record-at t ns p (stands-held p y e))
 
   -- ---- what is read is what the rules say
 

@@ -1,0 +1,93 @@
+-- When a call on a tree is refused, and what it then hands back. Rests on Calling.antt and on `rules`, First.
+use mathlib.Core.Path.{_≡_, refl, sym, ap, _∙_}
+use mathlib.Core.Bool.{Bool, true, false, not}
+use mathlib.Core.List.{List, []}
+use Prim.Native.Nat.{ℕ, zero, suc, _+_, _<_}
+use native.Mathlib.Omega.{arith}
+use Rattle.rules.specs.Table.{Table}
+use Rattle.rules.specs.Tree.{tree}
+use Rattle.rules.specs.Run.{verdict}
+use Rattle.rules.specs.Refusals.{refusal, first, tableRefusals, wayRefusals, limitRefusals, tableNumber, Accepted}
+use Rattle.rules.specs.Calls.{handNumber, runNumber, handRefusals, runRefusals, handAnswer, runAnswer, answerBy, runAnswerBy, Call, byHand, byRun, Outcome, handed, ran, handMakes, runMakes, figures}
+use Rattle.rules.specs.declared.Kind.{Kind}
+use Rattle.rules.specs.declared.Limits.{Limits}
+use Rattle.rules.specs.declared.Answer.{Answer}
+use Rattle.rules.specs.declared.RunAnswer.{RunAnswer}
+use Rattle.rules.proofs.First.{none-applies, first-here, first-after, first-before}
+use Rattle.records.specs.Records.{layout, history, isGood, bad, Good}
+use Rattle.records.specs.Library.{callOutcome}
+use Rattle.records.specs.declared.Node.{Node}
+use Rattle.records.specs.declared.Tree.{Tree}
+use Rattle.records.proofs.Positions.{length-places}
+use Rattle.records.proofs.Sixteen.{good-sure}
+use Rattle.grow.specs.Safe.{Safe}
+use Rattle.find.specs.Finds.{Within}
+use Rattle.dtree.specs.Promises.{numberOf, Called}
+use Rattle.dtree.proofs.Calling.{called, refused-tree}
+
+-- A call refused by a number.
+abbrev pub refusedBy : Call → ℕ → Outcome
+refusedBy (byHand bs k) n = handed (Answer.Refused n)
+refusedBy (byRun m) n = ran (RunAnswer.Refused n)
+
+refused-outcome : (t : Table) (x : Tree) (c : Call) (n : ℕ) → numberOf t x c ≡ suc n → callOutcome t x c ≡ refusedBy c (suc n)
+unfolding numberOf callOutcome handAnswer runAnswer answerBy runAnswerBy
+refused-outcome t x (byHand bs k) n e = ap (λ (m : ℕ). handed (answerBy m (figures t (tree (history x)) (handMakes bs k)))) e
+refused-outcome t x (byRun l) n e =
+    ap (λ (m : ℕ). ran (runAnswerBy m (verdict t (l .allowance) (l .budget) (tree (history x))) (figures t (tree (history x)) (runMakes t (tree (history x)) l)))) e
+
+-- With the number that applies, and the tree as it was.
+pub refused-call : (t : Table) (x : Tree) (c : Call) (n : ℕ) → numberOf t x c ≡ n → (n ≡ 0 → ⊥) → Called t x c x (refusedBy c n)
+refused-call t x c zero e f = absurd (f refl)
+refused-call t x c (suc n) e f = called t x c x (refusedBy c (suc n)) (sym (refused-tree t x c n e)) (sym (refused-outcome t x c n e))
+
+-- ---- which number
+
+-- 9 to 13 come first in every call.
+pub by-table : (t : Table) (x : Tree) (c : Call) (n : ℕ) → n ≡ tableNumber t → (n ≡ 0 → ⊥) → numberOf t x c ≡ n
+unfolding numberOf handNumber runNumber handRefusals runRefusals tableNumber
+by-table t x c zero e f = absurd (f refl)
+by-table t x (byHand bs k) (suc n) e f = first-before (tableRefusals t) _ n (sym e)
+by-table t x (byRun m) (suc n) e f = first-before (tableRefusals t) _ n (sym e)
+
+-- A hand refinement on an accepted table: then 16.
+pub hand-sixteen : (t : Table) (x : Tree) (bs : List ℕ) (k : Kind) → Accepted t → bad t x ≡ true → numberOf t x (byHand bs k) ≡ 16
+unfolding numberOf handNumber handRefusals tableNumber tableRefusals wayRefusals
+hand-sixteen t x bs k ok b = first-after (tableRefusals t) _ (none-applies (tableRefusals t) refl ok) ∙ first-here (refusal 16 (bad t x)) _ b
+
+-- A run: then 14 and 15.
+pub by-limits : (t : Table) (x : Tree) (m : Limits) (n : ℕ) → Accepted t → n ≡ first (limitRefusals m) → (n ≡ 0 → ⊥) → numberOf t x (byRun m) ≡ n
+unfolding numberOf runNumber runRefusals tableNumber tableRefusals wayRefusals
+by-limits t x m zero ok e f = absurd (f refl)
+by-limits t x m (suc n) ok e f = first-after (tableRefusals t) _ (none-applies (tableRefusals t) refl ok) ∙ first-before (limitRefusals m) _ n (sym e)
+
+-- And 16.
+pub run-sixteen : (t : Table) (x : Tree) (m : Limits) → Accepted t → first (limitRefusals m) ≡ 0 → bad t x ≡ true → numberOf t x (byRun m) ≡ 16
+unfolding numberOf runNumber runRefusals tableNumber tableRefusals wayRefusals limitRefusals
+run-sixteen t x m ok l b =
+    first-after (tableRefusals t) _ (none-applies (tableRefusals t) refl ok) ∙ first-after (limitRefusals m) _ (none-applies (limitRefusals m) refl l)
+    ∙ first-here (refusal 16 (bad t x)) [] b
+
+-- ---- what the test of 16 tells
+
+module _ (t : Table) (x : Tree) (r : Bool) (e : r ≡ isGood t x) where
+  pub found-bad : r ≡ false → bad t x ≡ true
+  unfolding bad
+  found-bad h = ap not (sym e ∙ h)
+
+  pub found-good : r ≡ true → Good t x
+  found-good h = good-sure t x (sym e ∙ h)
+
+  pub not-bad : r ≡ true → bad t x ≡ false
+  unfolding bad
+  not-bad h = ap not (sym e ∙ h)
+
+-- A good tree has room for two records or none.
+pub odd-room : (t : Table) (x : Tree) → Good t x → x .used < 511 → x .used + 1 < 511
+unfolding layout
+odd-room t x g h = omega (arith, h, ap (λ (y : Tree). y .used) (g .is), length-places (g .made))
+
+-- Safe records have their children among the 511.
+pub safe-within : (xs : List Node) → Safe xs → Within xs
+unfolding Within
+safe-within xs s i = omega (arith, s .each i .children-inside)

@@ -1,0 +1,3 @@
+-- The leaf that bytes name, and its refusals, told from records, as the contracts cite them.
+-- Rests on the definitions of `records` and `rules`.
+pub mod Finds

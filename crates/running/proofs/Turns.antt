@@ -1,0 +1,164 @@
+-- A turn on the records of a good tree: what its tests mean for the rules' turn.
+-- Rests on `pick`, Next, for the leaf, and on `records`, InPlace, for the root's interval.
+use mathlib.Core.Path.{_≡_, sym, ap, ap₂, _∙_, subst}
+use mathlib.Core.Bool.{Bool, true, false}
+use mathlib.Core.List.{List, []}
+use mathlib.Core.Option.{none, some}
+use Prim.Native.Nat.{ℕ, zero, suc, _<_, _≤_}
+use native.Mathlib.Omega.{arith}
+use lib.ListN.{length, getD}
+use lib.Dec.{ltb}
+use borrow.Author.Tests.{lt-ltb, le-ltb}
+use Rattle.rules.specs.Table.{Table}
+use Rattle.rules.specs.declared.Way.{Way}
+use Rattle.rules.specs.declared.Kind.{Kind}
+use Rattle.rules.specs.declared.Kind.the-variants.{IndependentOr, Shannon}
+use Rattle.rules.specs.declared.Verdict.the-variants.{Met, Done, Full}
+use Rattle.rules.specs.Group.{fallApart}
+use Rattle.rules.specs.Tree.{DTree, low, high, inners, roomy, Refinement, tree, descend, subtree, series}
+use Rattle.rules.specs.Run.{named, mostNamed, choice, next, narrow, stop, go, turn}
+use Rattle.rules.proofs.Series.{series-inners}
+use Rattle.records.specs.Records.{blank, places, recordWays, subtreeOr, recordAt, recordsOf, layout, history, Good}
+use Rattle.records.specs.declared.Node.{Node}
+use Rattle.records.specs.declared.Tree.{Tree}
+use Rattle.records.proofs.Positions.{length-places}
+use Rattle.records.proofs.InPlace.{few-places, record-of}
+use Rattle.records.proofs.History.{history-layout}
+use Rattle.formula.specs.Clauses.{FaultFits}
+use Rattle.pick.specs.Picks.{pickOf, Linked}
+use Rattle.pick.specs.declared.Found.{Found}
+use Rattle.pick.specs.declared.Found.the-variants.{At, Nothing}
+use Rattle.pick.proofs.Next.{Picked, Meant, picks-next}
+use Rattle.pick.proofs.Layouts.{layout-linked}
+use Rattle.running.specs.Ran.{Goes}
+
+-- ---- the choice
+
+-- The fault named most is below any limit that the number of faults keeps to.
+most-below : (n l : ℕ) (vs : List Way) → 0 < l → n ≤ l → mostNamed n vs < l
+unfolding mostNamed
+most-below zero l vs h k = h
+most-below (suc n) l vs h k = by (ltb (named (mostNamed n vs) vs) (named n vs)) (most-below n l vs h (omega arith))
+  where
+    by : (b : Bool) → mostNamed n vs < l → (elim b as (λ b. ℕ) [ true ↦ n | false ↦ mostNamed n vs ]) < l
+    by true e = omega arith
+    by false e = e
+
+-- It has a bit in a word.
+pub fault-low : (n f : ℕ) (vs : List Way) → n ≤ 64 → f ≡ mostNamed n vs → f < 64
+fault-low n f vs k e = rw e (most-below n 64 vs (omega arith) k)
+
+pub choice-apart : (ws : List ℕ) (vs : List Way) → fallApart vs ≡ true → IndependentOr ≡ choice ws vs
+unfolding choice
+choice-apart ws vs e = rw (e, choice)
+
+pub choice-fault : (ws : List ℕ) (vs : List Way) (n f : ℕ) → length ws ≡ n → fallApart vs ≡ false → f ≡ mostNamed n vs → Shannon f ≡ choice ws vs
+unfolding choice
+choice-fault ws vs n f l e h = rw (e, choice) (ap Shannon (h ∙ ap (λ (m : ℕ). mostNamed m vs) (sym l)))
+
+-- ---- the rules' turn, by its tests
+
+module _ (t : Table) (a : ℕ) (s : DTree) where
+  turn-met : narrow a (low t s) (high t s) ≡ true → turn t a s ≡ stop Met
+  unfolding turn
+  turn-met e = rw (e, turn)
+
+  module _ (wide : narrow a (low t s) (high t s) ≡ false) where
+    turn-done : next t s ≡ none → turn t a s ≡ stop Done
+    unfolding turn
+    turn-done e = rw (wide, e, turn)
+
+    turn-full : (n : Refinement) → next t s ≡ some n → roomy s ≡ false → turn t a s ≡ stop Full
+    unfolding turn
+    turn-full n e r = rw (wide, e, r, turn)
+
+    turn-goes : (n : Refinement) → next t s ≡ some n → roomy s ≡ true → turn t a s ≡ go n
+    unfolding turn
+    turn-goes n e r = rw (wide, e, r, turn)
+
+-- ---- a good tree, by its own series
+
+module _ (t : Table) (x : Tree) (g : Good t x) where
+  pub own : history x ≡ g .made
+  own = ap history (g .is) ∙ history-layout t (g .made) (g .accepted)
+
+  pub whole : series t (history x) ≡ true
+  whole = ap (series t) own ∙ g .accepted
+
+  pub is : x ≡ layout t (history x)
+  is = g .is ∙ ap (layout t) (sym own)
+
+  pub linked : Linked (x .nodes) (x .used)
+  linked = subst (λ (y : Tree). Linked (y .nodes) (y .used)) (sym is) (layout-linked t (history x) whole)
+
+  nodes-are : x .nodes ≡ recordsOf t (history x)
+  unfolding layout
+  nodes-are = ap (λ (y : Tree). y .nodes) is
+
+  used-is : x .used ≡ length (places (history x))
+  unfolding layout
+  used-is = ap (λ (y : Tree). y .used) is
+
+  -- Record 0 is the root's.
+  root-is : getD (x .nodes) 0 blank ≡ recordAt t (history x) []
+  unfolding places
+  root-is = ap (λ (xs : List Node). getD xs 0 blank) nodes-are ∙ record-of t (history x) 0 (omega arith)
+
+  root-low : getD (x .nodes) 0 blank .low ≡ low t (tree (history x))
+  unfolding recordAt subtreeOr subtree descend low
+  root-low = ap (λ (y : Node). y .low) root-is
+
+  root-high : getD (x .nodes) 0 blank .high ≡ high t (tree (history x))
+  unfolding recordAt subtreeOr subtree descend high
+  root-high = ap (λ (y : Node). y .high) root-is
+
+  -- All records are in use exactly if there is no room.
+  all-used : x .used ≡ 511 → roomy (tree (history x)) ≡ false
+  all-used e =
+      le-ltb (inners (tree (history x))) 255
+      (omega (arith, e, used-is, length-places (history x), series-inners t (history x) whole))
+
+  some-left : (x .used ≡ 511 → ⊥) → roomy (tree (history x)) ≡ true
+  some-left q =
+      lt-ltb (inners (tree (history x))) 255
+      (omega (arith, q, used-is, few-places t (history x) whole, length-places (history x), series-inners t (history x) whole))
+
+  module _ (a : ℕ) where
+    -- What the test of the root's record says.
+    test-is : {b : Bool} → b ≡ narrow a (getD (x .nodes) 0 blank .low) (getD (x .nodes) 0 blank .high) → b ≡ narrow a (low t (tree (history x))) (high t (tree (history x)))
+    test-is e = e ∙ ap₂ (narrow a) root-low root-high
+
+    pub is-met : {b : Bool} → b ≡ narrow a (getD (x .nodes) 0 blank .low) (getD (x .nodes) 0 blank .high) → b ≡ true → turn t a (tree (history x)) ≡ stop Met
+    is-met e h = turn-met t a (tree (history x)) (sym (test-is e) ∙ h)
+
+    module _ {b : Bool} (e : b ≡ narrow a (getD (x .nodes) 0 blank .low) (getD (x .nodes) 0 blank .high)) (h : b ≡ false) {r : Found} (p : r ≡ pickOf (x .nodes)) where
+      wide : narrow a (low t (tree (history x))) (high t (tree (history x))) ≡ false
+      wide = sym (test-is e) ∙ h
+
+      meant : Meant t (history x) r
+      meant = picks-next t (history x) whole r (p ∙ ap (λ (y : Tree). pickOf (y .nodes)) is)
+
+      pub is-done : r ≡ Nothing → turn t a (tree (history x)) ≡ stop Done
+      is-done q = turn-done t a (tree (history x)) wide (subst (Meant t (history x)) q meant)
+
+      module _ (j w : ℕ) (q : r ≡ At j w) where
+        picked : Picked t (history x) j
+        picked = subst (Meant t (history x)) q meant
+
+        pub inside : j < 511
+        inside = omega (arith, picked .inside, few-places t (history x) whole)
+
+        pub is-full : x .used ≡ 511 → turn t a (tree (history x)) ≡ stop Full
+        is-full u = turn-full t a (tree (history x)) wide _ (picked .taken) (all-used u)
+
+        -- The kind k is the rules' choice for the ways vs of the leaf's record.
+        pub goes : (x .used ≡ 511 → ⊥) → (vs : List Way) → vs ≡ recordWays t (getD (x .nodes) j blank)
+            → (k : Kind) → k ≡ choice (t .weights) vs → FaultFits k → Goes t a (history x) j k
+        goes u vs v k c f =
+            let d = v ∙ ap (λ (xs : List Node). recordWays t (getD xs j blank)) nodes-are in
+            record {
+              inside = picked .inside;
+              fits = f;
+              taken = turn-goes t a (tree (history x)) wide _ (picked .taken) (some-left u)
+                  ∙ ap (λ (i : Kind). go (record { place = getD (places (history x)) j []; kind = i })) (sym (c ∙ ap (choice (t .weights)) d));
+            }

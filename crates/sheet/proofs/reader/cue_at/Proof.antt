@@ -1,0 +1,69 @@
+-- `cue_at` meets its contract: a number other than 0 refuses, at every position.
+-- Rests on Accepted.antt and the contracts of `sheet_number`, `cues_in` and `entry_at`.
+use mathlib.Core.Path.{_≡_, refl, sym, ap, _∙_}
+use mathlib.Core.Bool.{Bool}
+use Prim.Native.Nat.{ℕ, zero, suc, _<_, _≤_}
+use native.Mathlib.Omega.{arith}
+use borrow.Author.Needs.{needs}
+use lib.Dec.{ltb}
+use borrow.Author.Tests.{lt-ltb, le-ltb}
+use Rattle.rules.specs.Sheet.{cuesIn, cueAnswer, cueAnswerBy, readNumber, entryIn}
+use Rattle.rules.specs.declared.Entry.{Entry}
+use Rattle.rules.specs.declared.CueAnswer.{CueAnswer}
+use Rattle.sheet.proofs.Accepted.{accepted-few}
+use Rattle.sheet.proofs.reader.cue_at.Statement.{statement}
+use Rattle.sheet.proofs.reader.cue_at.Tie as tie
+
+-- A number other than 0 is handed back.
+refuses : (n : ℕ) (b : Bool) (e : Entry) → (n ≡ 0 → ⊥) → CueAnswer.Refused n ≡ cueAnswerBy n b e
+unfolding cueAnswerBy
+refuses zero b e some = absurd (some refl)
+refuses (suc n) b e some = refl
+
+sheet-number-requires : tie.Need-sheet-number-requires
+sheet-number-requires c κs = search needs
+
+returns : tie.Need-returns
+unfolding cueAnswer
+returns c =
+    let a = c .before .before .before .args in
+    let s = a .s .now in
+    refuses (c .before .sheet-number .result) (ltb (a .i) (cuesIn s)) (entryIn s (a .i)) (c .if1 .taken)
+    ∙ ap (λ (n : ℕ). cueAnswerBy n (ltb (a .i) (cuesIn s)) (entryIn s (a .i))) (c .before .sheet-number .ensures)
+
+cues-in-requires : tie.Need-cues-in-requires
+cues-in-requires c κs = search needs
+
+entry-at-requires : tie.Need-entry-at-requires
+entry-at-requires c κs =
+    let n = c .before .before .before in
+    let s = n .before .before .args .s .now in
+    let few = accepted-few s (sym (n .sheet-number .ensures) ∙ c .before .before .if1 .left) in
+    (omega (arith, c .before .cues-in .ensures .0, c .if2 .taken), few .cues)
+
+returns-2 : tie.Need-returns-2
+unfolding cueAnswer cueAnswerBy
+returns-2 c =
+    let t = c .before .before in
+    let n = t .before .before in
+    let a = n .before .before .args in
+    let s = a .s .now in
+    let none : readNumber s ≡ 0 = sym (n .sheet-number .ensures) ∙ t .before .if1 .left in
+    let inside : a .i < cuesIn s = omega (arith, t .cues-in .ensures .0, c .before .if2 .taken) in
+    rw (none, lt-ltb (a .i) (cuesIn s) inside) (ap CueAnswer.Cue (c .entry-at .ensures))
+
+returns-3 : tie.Need-returns-3
+unfolding cueAnswer cueAnswerBy
+returns-3 c =
+    let t = c .before in
+    let n = t .before .before in
+    let a = n .before .before .args in
+    let s = a .s .now in
+    let none : readNumber s ≡ 0 = sym (n .sheet-number .ensures) ∙ t .before .if1 .left in
+    let past : cuesIn s ≤ a .i = omega (arith, t .cues-in .ensures .0, c .if2 .left) in
+    rw (none, le-ltb (a .i) (cuesIn s) past)
+
+pub cue-at-spec : {M : Type 1} → statement M
+cue-at-spec =
+    tie.close
+    (tie.spec sheet-number-requires returns cues-in-requires entry-at-requires returns-2 returns-3)

@@ -1,0 +1,64 @@
+//! What a sheet's bytes are read for: the whole sheet, the cue at a position, a cue's body. Rests on the definitions of `rules`, Sheet, and of Handed.
+//! A refused sheet is refused at every call, also past its last cue; `body` takes any entry, and reads nothing beyond the end.
+ghost use mathlib.Core.Path.{_≡_};
+ghost use Prim.Native.Nat.{_<_, _≤_};
+ghost use Rattle.rules.specs.Sheet.{cuesIn, entryIn, readAnswer, cueAnswer};
+ghost use Rattle.sheet.specs.Handed.{bodyOr};
+use super::contents::ways_of;
+use super::fields::u16_at;
+use super::head::bodies_in;
+use super::head::cues_in;
+use super::head::head_in;
+use super::number::sheet_number;
+use rules::CueAnswer;
+use rules::Entry;
+use rules::ReadAnswer;
+
+/// Reading a whole sheet.
+pub fn read(s: &[u8]) -> ReadAnswer
+    ensures { λ r. ⌜ r ≡ readAnswer (now (s .entry)) ⌝ }
+{
+    let number = sheet_number(s);
+    if number != 0 {
+        return ReadAnswer::Refused(number);
+    }
+    ReadAnswer::Sheet(head_in(s))
+}
+
+/// The cue at position i of the contents. Its body's start is counted on from the weights.
+fn entry_at(s: &[u8], i: usize) -> Entry
+    requires { ⌜ (i < cuesIn (now s)) × (cuesIn (now s) ≤ 24) ⌝ }
+    ensures { λ r. ⌜ r ≡ entryIn (now (s .entry)) i ⌝ }
+{
+    Entry {
+        cue: u16_at(s, 12 + 8 * i),
+        ways: u16_at(s, 14 + 8 * i),
+        start: (bodies_in(s) + 16 * ways_of(s, i)) as u32,
+    }
+}
+
+/// A reader's call at position i: past the last cue there is none, and a refused sheet is refused there too.
+pub fn cue_at(s: &[u8], i: usize) -> CueAnswer
+    ensures { λ r. ⌜ r ≡ cueAnswer (now (s .entry)) i ⌝ }
+{
+    let number = sheet_number(s);
+    if number != 0 {
+        return CueAnswer::Refused(number);
+    }
+    if i < cues_in(s) {
+        return CueAnswer::Cue(entry_at(s, i));
+    }
+    CueAnswer::Past
+}
+
+/// The body of an entry as a part of the sheet, or none of its bytes where the entry points beyond the end.
+pub fn body(s: &[u8], e: Entry) -> &[u8]
+    ensures { λ r. ⌜ now r ≡ bodyOr (now (s .entry)) e ⌝ }
+{
+    let start = e.start as usize;
+    let end = start + 16 * (e.ways as usize);
+    if end <= s.len() {
+        return &s[start..end];
+    }
+    &s[..0]
+}
