@@ -36,7 +36,7 @@ grown-layout t ok ns h n a j e y f u =
     λ i. record { nodes = nodes-are i; used = used-is i }
 
 -- What an accepted hand refinement makes.
-made-one : (t : Table) (s : DTree) (bs : List ℕ) (k : Kind) (n : Refinement) → handNumber t false s bs k ≡ 0 → handMakes bs k ≡ n ∷ [] → makes t s (byHand bs k) ≡ n ∷ []
+pub made-one : (t : Table) (s : DTree) (bs : List ℕ) (k : Kind) (n : Refinement) → handNumber t false s bs k ≡ 0 → handMakes bs k ≡ n ∷ [] → makes t s (byHand bs k) ≡ n ∷ []
 unfolding makes makesBy callNumber wouldMake
 made-one t s bs k n z e = ap (λ (m : ℕ). makesBy m (handMakes bs k)) z ∙ e
 

@@ -25,7 +25,7 @@ use Rattle.dtree.specs.Promises.{rootOf, Called}
 use Rattle.dtree.proofs.Calling.{called, root-low, root-high}
 
 -- What an accepted run makes.
-made-picks : (t : Table) (s : DTree) (m : Limits) → runNumber t false m ≡ 0 → makes t s (byRun m) ≡ picks t (m .allowance) (m .budget) s
+pub made-picks : (t : Table) (s : DTree) (m : Limits) → runNumber t false m ≡ 0 → makes t s (byRun m) ≡ picks t (m .allowance) (m .budget) s
 unfolding makes makesBy callNumber wouldMake runMakes
 made-picks t s m z = ap (λ (n : ℕ). makesBy n (picks t (m .allowance) (m .budget) s)) z
 

@@ -52,7 +52,7 @@ sixteen-free true xs h = absurd (omega (arith, h, first-here (refusal 16 true) x
 sixteen-free false xs h = refl
 
 -- Nothing is refused only on an accepted table and a good tree.
-free : (t : Table) (x : Tree) (c : Call) → numberOf t x c ≡ 0 → (Accepted t) × (bad t x ≡ false)
+pub free : (t : Table) (x : Tree) (c : Call) → numberOf t x c ≡ 0 → (Accepted t) × (bad t x ≡ false)
 unfolding numberOf handNumber runNumber handRefusals runRefusals tableNumber tableRefusals wayRefusals limitRefusals
 free t x (byHand bs k) h = (front-free (tableRefusals t) _ h, sixteen-free (bad t x) _ (back-free (tableRefusals t) _ refl h))
 free t x (byRun m) h =

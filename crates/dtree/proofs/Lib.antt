@@ -5,3 +5,5 @@ mod Calling
 mod Refuses
 mod ByHand
 mod ByRun
+mod One
+mod Verdicts

@@ -1,16 +1,24 @@
 -- What each call of the library promises: its tree and its answer are the defined ones, and the claims that a reader cares for.
 -- Rests on `records`, Library, on `rules`, Calls and Answers, and on `rules`, Table, for the exact sum.
 use mathlib.Core.Path.{_≡_}
-use Prim.Native.Nat.{ℕ, _+_, _≤_}
+use mathlib.Core.Bool.{false}
+use mathlib.Core.List.{List}
+use mathlib.Core.Option.{some}
+use mathlib.Core.Logic.{_↔_}
+use Prim.Native.Nat.{ℕ, _+_, _-_, _≤_}
 use lib.ListN.{getD, set}
 use Rattle.rules.specs.Rounding.{S}
 use Rattle.rules.specs.Table.{Table, ways, Encloses}
 use Rattle.rules.specs.Refusals.{tableNumber, Accepted}
-use Rattle.rules.specs.Answers.{Reply, refused, answerReply}
-use Rattle.rules.specs.Tree.{tree}
-use Rattle.rules.specs.Calls.{openAnswer, handNumber, runNumber, Call, byHand, byRun, Outcome, reply}
+use Rattle.rules.specs.Answers.{Reply, refused, answerReply, runReply, runVerdict}
+use Rattle.rules.specs.Tree.{Place, tree, onPath}
+use Rattle.rules.specs.Calls.{openAnswer, handNumber, runNumber, Call, byHand, byRun, Outcome, handed, ran, reply, placeOf}
+use Rattle.rules.specs.declared.Kind.{Kind}
+use Rattle.rules.specs.declared.Limits.{Limits}
+use Rattle.rules.specs.declared.Verdict.the-variants.{Met}
 use Rattle.rules.specs.declared.Answer.{Answer}
-use Rattle.records.specs.Records.{blank, noNodes, history, treeCount, bad}
+use Rattle.rules.specs.declared.RunAnswer.{RunAnswer}
+use Rattle.records.specs.Records.{blank, noNodes, history, treeCount, bad, treeKind, treeInterval}
 use Rattle.records.specs.Library.{openTree, callTree, callOutcome}
 use Rattle.records.specs.declared.Node.{Node}
 use Rattle.records.specs.declared.Tree.{Tree}
@@ -66,3 +74,26 @@ pub record Called (t : Table) (x : Tree) (c : Call) (y : Tree) (o : Outcome) : T
   pub accepted : numberOf t x c ≡ 0 → Worked t x y (reply o)
   -- Refused: nought to the full billion, count 0, and the tree as it was.
   pub otherwise : (numberOf t x c ≡ 0 → ⊥) → (reply o ≡ refused (numberOf t x c)) × (y ≡ x)
+
+-- What an accepted hand refinement changes in the tree that a reader of the records sees.
+pub record OneMore (x : Tree) (bs : List ℕ) (k : Kind) (y : Tree) : Type 0 where
+  -- At the place named, one inner node of the kind asked for, with its two leaves.
+  pub place : Place
+  pub named : placeOf bs ≡ some place
+  pub done : treeKind y place ≡ some k
+  pub inner-more : treeCount y ≡ treeCount x + 1
+  pub records-more : y .used ≡ x .used + 2
+  -- What was done at any other place stays, and every place that is neither on the path to it nor below it keeps its interval.
+  pub kinds-stay : (q : Place) → (q ≡ place → ⊥) → treeKind y q ≡ treeKind x q
+  pub intervals-stay : (q : Place) → onPath q place ≡ false → onPath place q ≡ false → treeInterval y q ≡ treeInterval x q
+
+-- A HAND REFINEMENT: a call that makes the one refinement that it names.
+pub record Refining (t : Table) (x : Tree) (bs : List ℕ) (k : Kind) (y : Tree) (a : Answer) : Type 0 where
+  pub call : Called t x (byHand bs k) y (handed a)
+  pub one-more : numberOf t x (byHand bs k) ≡ 0 → OneMore x bs k y
+
+-- A RUN: a call that makes at most its budget, and says met exactly if the root is then as narrow as the allowance asks.
+pub record Running (t : Table) (x : Tree) (m : Limits) (y : Tree) (a : RunAnswer) : Type 0 where
+  pub call : Called t x (byRun m) y (ran a)
+  pub in-budget : numberOf t x (byRun m) ≡ 0 → runReply a .count ≤ m .budget
+  pub met : numberOf t x (byRun m) ≡ 0 → (runVerdict a ≡ some Met) ↔ (rootOf y .high - rootOf y .low ≤ m .allowance)

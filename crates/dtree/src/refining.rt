@@ -1,7 +1,6 @@
 //! A hand refinement: the leaf named is refined as asked, or the call is refused by the first number that applies.
 //! Rests on `checks` for 9 to 13, on the module `sixteen` for 16, on `find` for 17 to 20 and on `grow` for the refinement.
-ghost use Rattle.rules.specs.Calls.{byHand, handed};
-ghost use Rattle.dtree.specs.Promises.{Called};
+ghost use Rattle.dtree.specs.Promises.{Refining};
 use super::Refined;
 use super::sixteen::is_good;
 use checks::table::table_number;
@@ -22,7 +21,7 @@ pub fn refine(
     place: &[u8],
     kind: Kind,
 ) -> Refined
-    ensures { λ r. ⌜ Called (record { weights = now (weights .entry); present = now (present .entry); absent = now (absent .entry) }) tree (byHand (now (place .entry)) kind) (r .tree) (handed (r .answer)) ⌝ }
+    ensures { λ r. ⌜ Refining (record { weights = now (weights .entry); present = now (present .entry); absent = now (absent .entry) }) tree (now (place .entry)) kind (r .tree) (r .answer) ⌝ }
 {
     let number = table_number(weights, present, absent);
     if number != 0 {

@@ -1,7 +1,6 @@
 //! A run: the refinements that its rule picks, at most as many as the budget, or the call is refused by the first number that applies.
 //! Rests on `checks` for 9 to 15, on the module `sixteen` for 16 and on `running` for the refinements.
-ghost use Rattle.rules.specs.Calls.{byRun, ran};
-ghost use Rattle.dtree.specs.Promises.{Called};
+ghost use Rattle.dtree.specs.Promises.{Running};
 use super::Advanced;
 use super::sixteen::is_good;
 use checks::limits::limit_number;
@@ -14,7 +13,7 @@ use running::run::run_on;
 
 /// Refines the widest open leaf, again and again, until the root is narrow enough, nothing is open, or no more may be made.
 pub fn run(weights: &[u32], present: &[u64], absent: &[u64], tree: Tree, limits: Limits) -> Advanced
-    ensures { λ r. ⌜ Called (record { weights = now (weights .entry); present = now (present .entry); absent = now (absent .entry) }) tree (byRun limits) (r .tree) (ran (r .answer)) ⌝ }
+    ensures { λ r. ⌜ Running (record { weights = now (weights .entry); present = now (present .entry); absent = now (absent .entry) }) tree limits (r .tree) (r .answer) ⌝ }
 {
     let number = table_number(weights, present, absent);
     if number != 0 {

@@ -15,6 +15,7 @@ use Rattle.find.specs.declared.Named.{Named}
 use Rattle.find.specs.declared.Named.the-variants.{Leaf, Refused}
 use Rattle.dtree.proofs.Refuses.{refused-call, by-table, hand-sixteen, found-bad, found-good, not-bad, odd-room, safe-within}
 use Rattle.dtree.proofs.ByHand.{by-leaf, made}
+use Rattle.dtree.proofs.One.{refining}
 use Rattle.dtree.proofs.refining.refine.Statement.{statement}
 use Rattle.dtree.proofs.refining.refine.Tie as tie
 
@@ -33,7 +34,7 @@ table-number-requires c κs = search needs
 returns : tie.Need-returns
 returns c =
     let n = c .before .table-number .ensures in
-    refused-call _ _ _ _ (by-table _ _ _ _ n (c .if1 .taken)) (c .if1 .taken)
+    refining _ _ _ _ _ _ (refused-call _ _ _ _ (by-table _ _ _ _ n (c .if1 .taken)) (c .if1 .taken))
 
 is-good-requires : tie.Need-is-good-requires
 is-good-requires c κs = sym (c .before .table-number .ensures) ∙ c .if1 .left
@@ -43,7 +44,7 @@ returns-2 c =
     let i = c .before in
     let o = i .before in
     let ok = sym (o .before .table-number .ensures) ∙ o .if1 .left in
-    refused-call _ _ _ _ (hand-sixteen _ _ _ _ ok (found-bad _ _ _ (i .is-good .ensures .0) (not-true _ (c .if2 .taken)))) (λ e. omega (arith, e))
+    refining _ _ _ _ _ _ (refused-call _ _ _ _ (hand-sixteen _ _ _ _ ok (found-bad _ _ _ (i .is-good .ensures .0) (not-true _ (c .if2 .taken)))) (λ e. omega (arith, e)))
 
 leaf-at-requires : tie.Need-leaf-at-requires
 leaf-at-requires c κs =
@@ -84,7 +85,7 @@ returns-3 c =
     let yes = not-false _ (e .if2 .left) in
     let g = i .is-good .ensures .0 in
     let told = refusable _ _ _ _ _ _ (c .before .n .given .1) (l .leaf-at .ensures) in
-    refused-call _ _ _ _ (by-leaf _ ok _ (found-good _ _ _ g yes) (not-bad _ _ _ g yes) _ _ _ (told .0)) (told .1)
+    refining _ _ _ _ _ _ (refused-call _ _ _ _ (by-leaf _ ok _ (found-good _ _ _ g yes) (not-bad _ _ _ g yes) _ _ _ (told .0)) (told .1))
 
 returns-4 : tie.Need-returns-4
 returns-4 c =
@@ -97,7 +98,7 @@ returns-4 c =
     let yes = not-false _ (e .if2 .left) in
     let g = i .is-good .ensures .0 in
     let r = refinable _ _ _ _ _ _ (w .before .before .j .given .1) (l .leaf-at .ensures) in
-    made _ ok _ (found-good _ _ _ g yes) (not-bad _ _ _ g yes) _ _ _ r _ (w .grow .ensures .0) (w .grow .ensures .1)
+    refining _ _ _ _ _ _ (made _ ok _ (found-good _ _ _ g yes) (not-bad _ _ _ g yes) _ _ _ r _ (w .grow .ensures .0) (w .grow .ensures .1))
 
 pub refine-spec : {M : Type 1} → statement M
 refine-spec =

@@ -6,6 +6,7 @@ use borrow.Author.Needs.{needs}
 use borrow.Author.Tests.{not-true, not-false}
 use Rattle.dtree.proofs.Refuses.{refused-call, by-table, by-limits, run-sixteen, found-bad, found-good}
 use Rattle.dtree.proofs.ByRun.{ran-on}
+use Rattle.dtree.proofs.Verdicts.{running}
 use Rattle.dtree.proofs.runs.run.Statement.{statement}
 use Rattle.dtree.proofs.runs.run.Tie as tie
 
@@ -13,7 +14,7 @@ table-number-requires : tie.Need-table-number-requires
 table-number-requires c κs = search needs
 
 returns : tie.Need-returns
-returns c = refused-call _ _ _ _ (by-table _ _ _ _ (c .before .table-number .ensures) (c .if1 .taken)) (c .if1 .taken)
+returns c = running _ _ _ _ _ (refused-call _ _ _ _ (by-table _ _ _ _ (c .before .table-number .ensures) (c .if1 .taken)) (c .if1 .taken))
 
 limit-number-requires : tie.Need-limit-number-requires
 limit-number-requires c κs = search needs
@@ -22,7 +23,7 @@ returns-2 : tie.Need-returns-2
 returns-2 c =
     let o = c .before .before in
     let ok = sym (o .before .table-number .ensures) ∙ o .if1 .left in
-    refused-call _ _ _ _ (by-limits _ _ _ _ ok (c .before .limit-number .ensures) (c .if2 .taken)) (c .if2 .taken)
+    running _ _ _ _ _ (refused-call _ _ _ _ (by-limits _ _ _ _ ok (c .before .limit-number .ensures) (c .if2 .taken)) (c .if2 .taken))
 
 is-good-requires : tie.Need-is-good-requires
 is-good-requires c κs = let o = c .before .before in sym (o .before .table-number .ensures) ∙ o .if1 .left
@@ -34,7 +35,7 @@ returns-3 c =
     let o = l .before .before in
     let ok = sym (o .before .table-number .ensures) ∙ o .if1 .left in
     let inside = sym (l .before .limit-number .ensures) ∙ l .if2 .left in
-    refused-call _ _ _ _ (run-sixteen _ _ _ ok inside (found-bad _ _ _ (i .is-good .ensures .0) (not-true _ (c .if3 .taken)))) (λ e. omega (arith, e))
+    running _ _ _ _ _ (refused-call _ _ _ _ (run-sixteen _ _ _ ok inside (found-bad _ _ _ (i .is-good .ensures .0) (not-true _ (c .if3 .taken)))) (λ e. omega (arith, e)))
 
 run-on-requires : tie.Need-run-on-requires
 run-on-requires c κs =
@@ -56,7 +57,7 @@ returns-4 c =
     let o = l .before .before in
     let ok = sym (o .before .table-number .ensures) ∙ o .if1 .left in
     let inside = sym (l .before .limit-number .ensures) ∙ l .if2 .left in
-    ran-on _ ok _ (found-good _ _ _ (i .is-good .ensures .0) (not-false _ (e .if3 .left))) _ inside _ (w .run-on .ensures)
+    running _ _ _ _ _ (ran-on _ ok _ (found-good _ _ _ (i .is-good .ensures .0) (not-false _ (e .if3 .left))) _ inside _ (w .run-on .ensures))
 
 pub run-spec : {M : Type 1} → statement M
 run-spec =
