@@ -8,6 +8,7 @@ pub mod paper;
 pub mod random;
 pub mod report;
 pub mod run;
+pub mod scripts;
 pub mod sheet;
 pub mod table;
 pub mod tree;

@@ -1,20 +1,19 @@
-//! Tables with the answers that opening them must give: the input of the library's test
-//! program and the lines it is held to. Nothing of the library is asked; small tables are
-//! counted over all assignments, and the paper's figures stand in `paper`.
+//! Scripts with the answers that they must give: the input of the library's test program
+//! and the lines it is held to. Nothing of the library is asked; small tables are counted
+//! over all assignments, and the paper's figures stand in `paper` and `scripts`.
 
-use crate::paper::{cases, easy_to_get_wrong, limits, orders};
-use crate::random::Random;
+use crate::paper::{cases, limits, orders};
+use crate::run::run;
+use crate::scripts::{scripts, Call, Script};
 use crate::table::Count;
-use crate::tree::open;
-use crate::{Answer, Table, MOST_FAULTS, MOST_WAYS};
+use crate::tree::{open, refine_by_hand};
+use crate::{Act, Answer, Table, Tree, LONGEST_PLACE};
 
 /// Up to so many faults an interval is set beside a count over all assignments.
-const MOST_COUNTED: usize = 12;
+pub const MOST_COUNTED: usize = 12;
 
-const SEED: u64 = 2003;
-const SMALL: usize = 200;
-const ANY_SIZE: usize = 100;
-const DAMAGED: usize = 100;
+/// The test program has room for a place of so many steps.
+const MOST_STEPS: usize = LONGEST_PLACE + 6;
 
 /// What the test program reads, and what it must write.
 pub struct Vectors {
@@ -22,59 +21,67 @@ pub struct Vectors {
     pub expected: String,
 }
 
-/// All tables of the test, in order.
-pub fn tables() -> Vec<Table> {
-    let mut tables: Vec<Table> = cases().into_iter().map(|case| case.table).collect();
-    tables.extend(easy_to_get_wrong());
-    tables.extend(limits().into_iter().map(|(_, table)| table));
-    tables.extend(orders().into_iter().map(|(_, table)| table));
-    let mut random = Random::new(SEED);
-    tables.extend((0..SMALL).map(|_| random.table_within(MOST_COUNTED, 16)));
-    tables.extend((0..ANY_SIZE).map(|_| random.table()));
-    tables.extend((0..DAMAGED).map(|_| damaged(&mut random)));
-    tables
-}
-
-/// A damaged table that the test program has room for: one element more than the rules allow.
-fn damaged(random: &mut Random) -> Table {
-    loop {
-        let table = random.damaged_table();
-        let ways = table.present.len().max(table.absent.len());
-        if table.faults() <= MOST_FAULTS + 1 && ways <= MOST_WAYS + 1 {
-            return table;
-        }
-    }
-}
-
-/// The input: how many tables, then a line for each. A line has the lengths of the three
-/// lists, the weights, the present and the absent words, with one blank between. The
-/// expected lines: number, low, high and count. Panics where an answer breaks the paper.
-pub fn opening() -> Vectors {
+/// The input: how many scripts, then for each a line with 1 if its table is opened or 0 if
+/// the tree of the script before is handed on, the lengths of the three lists, the
+/// weights, the present and the absent words and how many calls there are, then a line for
+/// each call: 0, the length of the place, its steps, 0 for independence or 1 for a fault
+/// and the fault; or 1, allowance and budget. The expected lines: number, low, high and
+/// count, and a run's verdict. Panics where an answer breaks the paper.
+pub fn vectors() -> Vectors {
     check_paper();
-    let tables = tables();
+    let scripts = scripts();
     let mut vectors = Vectors {
-        input: format!("{}\n", tables.len()),
+        input: format!("{}\n", scripts.len()),
         expected: String::new(),
     };
-    for table in tables {
-        let answer = open(&table).0;
-        check_count(&table, &answer);
-        vectors.input.push_str(&line(&numbers(&table)));
-        let Answer {
-            number,
-            low,
-            high,
-            count,
-            ..
-        } = answer;
-        vectors
-            .expected
-            .push_str(&line(&[number, low, high, count]));
+    let mut tree = Tree::default();
+    for script in &scripts {
+        vectors.add(script, &mut tree);
     }
     vectors
 }
 
-fn numbers(table: &Table) -> Vec<u64> {
+impl Vectors {
+    /// Adds a script, and its answers on the tree that it is handed.
+    fn add(&mut self, script: &Script, tree: &mut Tree) {
+        let Script {
+            opens,
+            table,
+            calls,
+        } = script;
+        let mut head = vec![u64::from(*opens)];
+        head.extend(table_numbers(table));
+        head.push(calls.len() as u64);
+        self.input.push_str(&line(&head));
+        let counted = Counted::new(table);
+        if *opens {
+            let (answer, opened) = open(table);
+            *tree = opened;
+            counted.check(&answer);
+            self.expected.push_str(&line(&figures(&answer)));
+        }
+        for call in calls {
+            self.input.push_str(&line(&call_numbers(call)));
+            let answer = make(table, tree, call);
+            counted.check(&answer);
+            let mut told = figures(&answer).to_vec();
+            if let Call::Run(..) = call {
+                told.push(answer.verdict);
+            }
+            self.expected.push_str(&line(&told));
+        }
+    }
+}
+
+/// Makes a call on a tree.
+pub fn make(table: &Table, tree: &mut Tree, call: &Call) -> Answer {
+    match call {
+        Call::Hand(place, act) => refine_by_hand(table, tree, place, *act),
+        Call::Run(allowance, budget) => run(table, tree, *allowance, *budget),
+    }
+}
+
+fn table_numbers(table: &Table) -> Vec<u64> {
     let lengths = [table.faults(), table.present.len(), table.absent.len()];
     let lengths = lengths.iter().map(|&length| length as u64);
     let weights = table.weights.iter().map(|&weight| u64::from(weight));
@@ -82,26 +89,69 @@ fn numbers(table: &Table) -> Vec<u64> {
     lengths.chain(weights).chain(words).collect()
 }
 
+/// Panics at a number that its type in the library does not hold.
+fn call_numbers(call: &Call) -> Vec<u64> {
+    match call {
+        Call::Hand(place, act) => {
+            assert!(place.len() <= MOST_STEPS, "no room: {call:?}");
+            let mut numbers = vec![0, place.len() as u64];
+            numbers.extend(place.iter().map(|&step| u64::from(step)));
+            match *act {
+                Act::Independence => numbers.extend([0, 0]),
+                Act::Fault(fault) => numbers.extend([1, fault]),
+            }
+            assert!(numbers.iter().all(|&n| n <= u64::from(u32::MAX)));
+            numbers
+        }
+        Call::Run(allowance, budget) => {
+            assert!(*allowance <= u64::from(u32::MAX) && *budget <= u64::from(u16::MAX));
+            vec![1, *allowance, *budget]
+        }
+    }
+}
+
+fn figures(answer: &Answer) -> [u64; 4] {
+    [answer.number, answer.low, answer.high, answer.count]
+}
+
 fn line(numbers: &[u64]) -> String {
     let words: Vec<String> = numbers.iter().map(u64::to_string).collect();
     words.join(" ") + "\n"
 }
 
-/// An accepted table's interval encloses its chance, by a count over all assignments.
-fn check_count(table: &Table, answer: &Answer) {
-    if answer.number == 0 && table.faults() <= MOST_COUNTED {
-        let count = Count::new(&table.weights);
-        let encloses = count.encloses(answer.low, answer.high, &table.ways());
-        assert!(encloses, "{answer:?} does not enclose: {table:?}");
+/// A table with its count over all assignments, if it is an accepted one that is small enough.
+struct Counted<'a> {
+    table: &'a Table,
+    count: Option<Count>,
+}
+
+impl Counted<'_> {
+    fn new(table: &Table) -> Counted<'_> {
+        let small = table.table_number() == 0 && table.faults() <= MOST_COUNTED;
+        let count = small.then(|| Count::new(&table.weights));
+        Counted { table, count }
+    }
+
+    /// An accepted call's interval encloses the table's chance.
+    fn check(&self, answer: &Answer) {
+        let Some(count) = &self.count else { return };
+        if answer.number == 0 {
+            let encloses = count.encloses(answer.low, answer.high, &self.table.ways());
+            assert!(encloses, "{answer:?} does not enclose: {:?}", self.table);
+        }
     }
 }
 
 /// The paper's own figures: P1 to P9, and the numbers at the limits and in their order.
 fn check_paper() {
     for case in cases() {
-        let answer = open(&case.table).0;
-        let figures = (answer.number, answer.low, answer.high, answer.count);
-        assert_eq!(figures, (0, case.root.0, case.root.1, 0), "{}", case.name);
+        let (answer, mut tree) = open(&case.table);
+        let root = [0, case.root.0, case.root.1, 0];
+        assert_eq!(figures(&answer), root, "{}", case.name);
+        for (place, act, after) in &case.hand {
+            let answer = refine_by_hand(&case.table, &mut tree, place, *act);
+            assert_eq!(figures(&answer), [0, after.0, after.1, 1], "{}", case.name);
+        }
     }
     for (number, table) in limits().into_iter().chain(orders()) {
         assert_eq!(open(&table).0.number, number, "{table:?}");

@@ -1,24 +1,27 @@
--- `main` is safe and ends. Nothing has to hold from turn to turn; the measure is the tables that are left.
--- Rests on the contracts of `number` and `one_table`.
+-- `main` is safe and ends. Nothing has to hold from turn to turn; the measure is the scripts that are left.
+-- Rests on the contracts of `number`, `no_nodes` and `script`.
 use Prim.Native.Nat.{_-_}
 use borrow.Author.Needs.{needs}
-use Rattle.opening_vectors.proofs.main.Statement.{statement}
-use Rattle.opening_vectors.proofs.main.Tie as tie
+use Rattle.tree_vectors.proofs.main.Statement.{statement}
+use Rattle.tree_vectors.proofs.main.Tie as tie
 
 abbrev Inv-loop : tie.InvT-loop
-Inv-loop tables done₀ done = Unit {0}
+Inv-loop scripts tree₀ done₀ tree done = Unit {0}
 
 abbrev μ-loop : tie.MeasureT-loop
-μ-loop tables done₀ done = tables - done
+μ-loop scripts tree₀ done₀ tree done = scripts - done
 
 number-requires : tie.Need-number-requires Inv-loop μ-loop
 number-requires c κs = search needs
 
+no-nodes-requires : tie.Need-no-nodes-requires Inv-loop μ-loop
+no-nodes-requires c κs = search needs
+
 loop-holds : tie.Need-loop-holds Inv-loop μ-loop
 loop-holds c = search needs
 
-one-table-requires : tie.Need-one-table-requires Inv-loop μ-loop
-one-table-requires c κs = search needs
+script-requires : tie.Need-script-requires Inv-loop μ-loop
+script-requires c κs = search needs
 
 add-done : tie.Need-add-done Inv-loop μ-loop
 add-done c = search needs
@@ -39,8 +42,9 @@ main-spec =
     Inv-loop
     μ-loop
     number-requires
+    no-nodes-requires
     loop-holds
-    one-table-requires
+    script-requires
     add-done
     loop-less
     loop-again

@@ -3,8 +3,8 @@
 use mathlib.Core.Path.{sym, ap, _∙_}
 use borrow.Author.Needs.{needs}
 use Rattle.rules.specs.Answers.{answerReply, refused}
-use Rattle.opening_vectors.proofs.reply.Statement.{statement}
-use Rattle.opening_vectors.proofs.reply.Tie as tie
+use Rattle.tree_vectors.proofs.lines.reply.Statement.{statement}
+use Rattle.tree_vectors.proofs.lines.reply.Tie as tie
 
 enum-known-a : tie.Need-enum-known-a
 enum-known-a c = search needs

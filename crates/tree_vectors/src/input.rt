@@ -58,10 +58,22 @@ pub fn list_length(most: usize) -> usize
     if n > most { most } else { n }
 }
 
-/// The next number as a weight; the largest that a weight's type holds if it is above that.
-fn weight() -> u32 {
+/// The next number as a half word; the largest one if it is above that.
+pub fn half() -> u32 {
     let n = number();
     if n > 4294967295 { 4294967295 } else { n as u32 }
+}
+
+/// The next number as a quarter word; the largest one if it is above that.
+pub fn quarter() -> u16 {
+    let n = number();
+    if n > 65535 { 65535 } else { n as u16 }
+}
+
+/// The next number as a byte; the largest one if it is above that.
+fn step() -> u8 {
+    let n = number();
+    if n > 255 { 255 } else { n as u8 }
 }
 
 /// The next weights of the input, zeros after them.
@@ -72,7 +84,7 @@ pub fn weight_list(count: usize) -> [u32; 65]
     let mut list = [0u32; 65];
     let mut i: usize = 0;
     while i < count {
-        list[i] = weight();
+        list[i] = half();
         i += 1;
     }
     list
@@ -87,6 +99,20 @@ pub fn word_list(count: usize) -> [u64; 129]
     let mut i: usize = 0;
     while i < count {
         list[i] = number();
+        i += 1;
+    }
+    list
+}
+
+/// The next steps of a place, zeros after them.
+pub fn step_list(count: usize) -> [u8; 70]
+    requires { ⌜ count ≤ 70 ⌝ }
+    ensures { λ r. ⌜ Counts count r ⌝ }
+{
+    let mut list = [0u8; 70];
+    let mut i: usize = 0;
+    while i < count {
+        list[i] = step();
         i += 1;
     }
     list

@@ -1,2 +1,0 @@
--- What a printed line says in the paper's terms.
-pub mod Lines
