@@ -7,3 +7,4 @@ mod ByHand
 mod ByRun
 mod One
 mod Verdicts
+mod TwoRuns
