@@ -8,3 +8,4 @@ mod ByRun
 mod One
 mod Verdicts
 mod TwoRuns
+mod Stored
