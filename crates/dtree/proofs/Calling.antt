@@ -12,9 +12,11 @@ use Rattle.rules.specs.Tree.{Refinement, tree, low, high, series, subtree, desc
 use Rattle.rules.specs.Run.{verdict}
 use Rattle.rules.specs.Refusals.{Refusal, refusal, first, tableRefusals, wayRefusals, limitRefusals, tableNumber, Accepted}
 use Rattle.rules.specs.Answers.{Reply, refused, answerReply, runReply}
-use Rattle.rules.specs.Calls.{handNumber, runNumber, handRefusals, runRefusals, handAnswer, runAnswer, answerBy, runAnswerBy, Call, byHand, byRun, Outcome, reply, callNumber, outcome, makes, handMakes, runMakes, figures}
+use Rattle.rules.specs.Calls.{handNumber, runNumber, handRefusals, runRefusals, handAnswer, runAnswer, answerBy, runAnswerBy, Call, byHand, byRun, Outcome, handed, ran, reply, callNumber, outcome, makes, handMakes, runMakes, figures}
 use Rattle.rules.proofs.First.{numbered, none-applies, first-here, first-after, first-before}
 use Rattle.rules.proofs.Demand3.{HandsBack, hands-back, report-is}
+use Rattle.rules.specs.declared.Answer.{Answer}
+use Rattle.rules.specs.declared.RunAnswer.{RunAnswer}
 use Rattle.records.specs.Records.{layout, recordsOf, recordAt, subtreeOr, places, history, isGood, bad, Good}
 use Rattle.records.specs.Library.{treeBy, handTree, runTree, callTree, callOutcome}
 use Rattle.records.specs.declared.Tree.{Tree}
@@ -99,11 +101,20 @@ unfolding numberOf callTree handTree runTree treeBy
 refused-tree t x (byHand bs k) n e = ap (λ (m : ℕ). treeBy m t x (handMakes bs k)) e
 refused-tree t x (byRun l) n e = ap (λ (m : ℕ). treeBy m t x (runMakes t (tree (history x)) l)) e
 
-refused-reply : (t : Table) (x : Tree) (c : Call) (n : ℕ) → numberOf t x c ≡ suc n → reply (callOutcome t x c) ≡ refused (suc n)
+-- A call refused by a number.
+abbrev pub refusedBy : Call → ℕ → Outcome
+refusedBy (byHand bs k) n = handed (Answer.Refused n)
+refusedBy (byRun m) n = ran (RunAnswer.Refused n)
+
+pub refused-outcome : (t : Table) (x : Tree) (c : Call) (n : ℕ) → numberOf t x c ≡ suc n → callOutcome t x c ≡ refusedBy c (suc n)
 unfolding numberOf callOutcome handAnswer runAnswer answerBy runAnswerBy
-refused-reply t x (byHand bs k) n e = ap (λ (m : ℕ). answerReply (answerBy m (figures t (tree (history x)) (handMakes bs k)))) e
-refused-reply t x (byRun l) n e =
-    ap (λ (m : ℕ). runReply (runAnswerBy m (verdict t (l .allowance) (l .budget) (tree (history x))) (figures t (tree (history x)) (runMakes t (tree (history x)) l)))) e
+refused-outcome t x (byHand bs k) n e = ap (λ (m : ℕ). handed (answerBy m (figures t (tree (history x)) (handMakes bs k)))) e
+refused-outcome t x (byRun l) n e =
+    ap (λ (m : ℕ). ran (runAnswerBy m (verdict t (l .allowance) (l .budget) (tree (history x))) (figures t (tree (history x)) (runMakes t (tree (history x)) l)))) e
+
+refused-reply : (t : Table) (x : Tree) (c : Call) (n : ℕ) → numberOf t x c ≡ suc n → reply (callOutcome t x c) ≡ refused (suc n)
+refused-reply t x (byHand bs k) n e = ap reply (refused-outcome t x (byHand bs k) n e)
+refused-reply t x (byRun l) n e = ap reply (refused-outcome t x (byRun l) n e)
 
 -- ---- both
 

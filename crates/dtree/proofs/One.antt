@@ -2,17 +2,17 @@
 use mathlib.Core.Path.{_≡_, sym, ap, subst, _∙_}
 use mathlib.Core.Bool.{true, false}
 use mathlib.Core.List.{List, [], _∷_, _++_}
-use mathlib.Core.Option.{some}
+use mathlib.Core.Option.{Option, none, some}
 use Prim.Native.Nat.{ℕ, _+_}
 use native.Mathlib.Omega.{arith}
 use borrow.Author.Tests.{not-false}
 use lib.ListN.{length-append}
 use Rattle.rules.specs.Table.{Table}
-use Rattle.rules.specs.Tree.{Refinement, leaf, tree, grow, refine, series, acceptable, kindAt, intervalAt}
+use Rattle.rules.specs.Tree.{left, right, Place, Refinement, leaf, tree, grow, refine, series, acceptable, leafAt, kindAt, Subtree, subtree, root, Interval, interval, intervalAt}
 use Rattle.rules.specs.Calls.{handNumber, callNumber, byHand, handed, makes, placeOf}
 use Rattle.rules.specs.declared.Kind.{Kind}
 use Rattle.rules.specs.declared.Answer.{Answer}
-use Rattle.rules.proofs.Places.{done-elsewhere}
+use Rattle.rules.proofs.Places.{done-elsewhere, leaf-has, leaf-undone, has-subtree}
 use Rattle.rules.proofs.Series.{grow-append}
 use Rattle.rules.proofs.Demand3.{HandMade, hand-made}
 use Rattle.rules.proofs.Demands.{OneRefinement, one-refinement}
@@ -24,9 +24,20 @@ use Rattle.records.proofs.History.{layout-count}
 use Rattle.records.proofs.Sixteen.{good-sure}
 use Rattle.records.proofs.Seen.{seen-kind, seen-interval}
 use Rattle.records.proofs.ByTheRules.{call-tree}
-use Rattle.dtree.specs.Promises.{numberOf, Called, OneMore, Refining}
+use Rattle.dtree.specs.Promises.{numberOf, Called, LeafSeen, OneMore, Refining}
 use Rattle.dtree.proofs.Calling.{free, number-is}
 use Rattle.dtree.proofs.ByHand.{made-one}
+
+-- A leaf of the tree of a series is seen as one.
+leaf-seen : (t : Table) (ns : List Refinement) (p : Place) → leafAt p (tree ns) ≡ true → LeafSeen (layout t ns) p
+unfolding subtree intervalAt
+leaf-seen t ns p l =
+    let y = has-subtree p (root t) (tree ns) (leaf-has p (tree ns) l) in
+    record {
+      stands = interval (t .weights) (y .0);
+      shown = seen-interval t ns p ∙ ap (λ (o : Option Subtree). elim o as (λ o. Option Interval) [ none ↦ none | some z ↦ some (interval (t .weights) z) ]) (y .1);
+      undone = seen-kind t ns p ∙ leaf-undone p (tree ns) l;
+    }
 
 -- On the tree of a series.
 on-series : (t : Table) (ns : List Refinement) (n : Refinement) → acceptable t (tree ns) n ≡ true → (bs : List ℕ) → placeOf bs ≡ some (n .place)
@@ -41,6 +52,8 @@ on-series t ns n a bs e =
       named = e;
       done = seen-kind t (ns ++ (n ∷ [])) (n .place) ∙ ap (kindAt (n .place)) next ∙ one .of-its-kind;
       inner-more = omega (arith, layout-count t ns, layout-count t (ns ++ (n ∷ [])), more);
+      left-leaf = leaf-seen t (ns ++ (n ∷ [])) (n .place ++ (left ∷ [])) (ap (leafAt (n .place ++ (left ∷ []))) next ∙ one .with-two-leaves left);
+      right-leaf = leaf-seen t (ns ++ (n ∷ [])) (n .place ++ (right ∷ [])) (ap (leafAt (n .place ++ (right ∷ []))) next ∙ one .with-two-leaves right);
       records-more = omega (arith, length-places ns, length-places (ns ++ (n ∷ [])), more);
       kinds-stay = λ q f.
           seen-kind t (ns ++ (n ∷ [])) q ∙ ap (kindAt q) next ∙ done-elsewhere q (n .place) (n .kind) (tree ns) f ∙ sym (seen-kind t ns q);

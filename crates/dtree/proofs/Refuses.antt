@@ -6,16 +6,12 @@ use Prim.Native.Nat.{ℕ, zero, suc, _+_, _<_}
 use native.Mathlib.Omega.{arith}
 use Rattle.rules.specs.Table.{Table}
 use Rattle.rules.specs.Tree.{tree}
-use Rattle.rules.specs.Run.{verdict}
 use Rattle.rules.specs.Refusals.{refusal, first, tableRefusals, wayRefusals, limitRefusals, tableNumber, Accepted}
-use Rattle.rules.specs.Calls.{handNumber, runNumber, handRefusals, runRefusals, handAnswer, runAnswer, answerBy, runAnswerBy, Call, byHand, byRun, Outcome, handed, ran, handMakes, runMakes, figures}
+use Rattle.rules.specs.Calls.{handNumber, runNumber, handRefusals, runRefusals, Call, byHand, byRun}
 use Rattle.rules.specs.declared.Kind.{Kind}
 use Rattle.rules.specs.declared.Limits.{Limits}
-use Rattle.rules.specs.declared.Answer.{Answer}
-use Rattle.rules.specs.declared.RunAnswer.{RunAnswer}
 use Rattle.rules.proofs.First.{none-applies, first-here, first-after, first-before}
-use Rattle.records.specs.Records.{layout, history, isGood, bad, Good}
-use Rattle.records.specs.Library.{callOutcome}
+use Rattle.records.specs.Records.{layout, isGood, bad, Good}
 use Rattle.records.specs.declared.Node.{Node}
 use Rattle.records.specs.declared.Tree.{Tree}
 use Rattle.records.proofs.Positions.{length-places}
@@ -23,18 +19,7 @@ use Rattle.records.proofs.Sixteen.{good-sure}
 use Rattle.grow.specs.Safe.{Safe}
 use Rattle.find.specs.Finds.{Within}
 use Rattle.dtree.specs.Promises.{numberOf, Called}
-use Rattle.dtree.proofs.Calling.{called, refused-tree}
-
--- A call refused by a number.
-abbrev pub refusedBy : Call → ℕ → Outcome
-refusedBy (byHand bs k) n = handed (Answer.Refused n)
-refusedBy (byRun m) n = ran (RunAnswer.Refused n)
-
-refused-outcome : (t : Table) (x : Tree) (c : Call) (n : ℕ) → numberOf t x c ≡ suc n → callOutcome t x c ≡ refusedBy c (suc n)
-unfolding numberOf callOutcome handAnswer runAnswer answerBy runAnswerBy
-refused-outcome t x (byHand bs k) n e = ap (λ (m : ℕ). handed (answerBy m (figures t (tree (history x)) (handMakes bs k)))) e
-refused-outcome t x (byRun l) n e =
-    ap (λ (m : ℕ). ran (runAnswerBy m (verdict t (l .allowance) (l .budget) (tree (history x))) (figures t (tree (history x)) (runMakes t (tree (history x)) l)))) e
+use Rattle.dtree.proofs.Calling.{called, refusedBy, refused-tree, refused-outcome}
 
 -- With the number that applies, and the tree as it was.
 pub refused-call : (t : Table) (x : Tree) (c : Call) (n : ℕ) → numberOf t x c ≡ n → (n ≡ 0 → ⊥) → Called t x c x (refusedBy c n)

@@ -2,8 +2,8 @@
 -- Rests on `records`, Library, on `rules`, Calls and Answers, and on `rules`, Table, for the exact sum.
 use mathlib.Core.Path.{_≡_}
 use mathlib.Core.Bool.{false}
-use mathlib.Core.List.{List}
-use mathlib.Core.Option.{some}
+use mathlib.Core.List.{List, [], _∷_, _++_}
+use mathlib.Core.Option.{none, some}
 use mathlib.Core.Logic.{_↔_}
 use Prim.Native.Nat.{ℕ, _+_, _-_, _≤_}
 use lib.ListN.{getD, set}
@@ -11,7 +11,7 @@ use Rattle.rules.specs.Rounding.{S}
 use Rattle.rules.specs.Table.{Table, ways, Encloses}
 use Rattle.rules.specs.Refusals.{tableNumber, Accepted}
 use Rattle.rules.specs.Answers.{Reply, refused, answerReply, runReply, runVerdict}
-use Rattle.rules.specs.Tree.{Place, tree, onPath}
+use Rattle.rules.specs.Tree.{left, right, Place, Interval, tree, onPath}
 use Rattle.rules.specs.Calls.{openAnswer, handNumber, runNumber, Call, byHand, byRun, Outcome, handed, ran, reply, placeOf}
 use Rattle.rules.specs.declared.Kind.{Kind}
 use Rattle.rules.specs.declared.Limits.{Limits}
@@ -75,6 +75,12 @@ pub record Called (t : Table) (x : Tree) (c : Call) (y : Tree) (o : Outcome) : T
   -- Refused: nought to the full billion, count 0, and the tree as it was.
   pub otherwise : (numberOf t x c ≡ 0 → ⊥) → (reply o ≡ refused (numberOf t x c)) × (y ≡ x)
 
+-- The records show a leaf at a place: an interval stands there, and nothing was done.
+pub record LeafSeen (x : Tree) (p : Place) : Type 0 where
+  pub stands : Interval
+  pub shown : treeInterval x p ≡ some stands
+  pub undone : treeKind x p ≡ none
+
 -- What an accepted hand refinement changes in the tree that a reader of the records sees.
 pub record OneMore (x : Tree) (bs : List ℕ) (k : Kind) (y : Tree) : Type 0 where
   -- At the place named, one inner node of the kind asked for, with its two leaves.
@@ -83,6 +89,8 @@ pub record OneMore (x : Tree) (bs : List ℕ) (k : Kind) (y : Tree) : Type 0 whe
   pub done : treeKind y place ≡ some k
   pub inner-more : treeCount y ≡ treeCount x + 1
   pub records-more : y .used ≡ x .used + 2
+  pub left-leaf : LeafSeen y (place ++ (left ∷ []))
+  pub right-leaf : LeafSeen y (place ++ (right ∷ []))
   -- What was done at any other place stays, and every place that is neither on the path to it nor below it keeps its interval.
   pub kinds-stay : (q : Place) → (q ≡ place → ⊥) → treeKind y q ≡ treeKind x q
   pub intervals-stay : (q : Place) → onPath q place ≡ false → onPath place q ≡ false → treeInterval y q ≡ treeInterval x q
