@@ -1,6 +1,7 @@
 //! Tables written by hand: the paper's cases P1 to P9 with the figures typed from it, tables
 //! that are easy to get wrong, the largest ones, and those at a limit with their numbers.
 
+use crate::sheet::Sheet;
 use crate::{Act, Table, MOST_FAULTS, MOST_WAYS, S};
 
 pub const H: u32 = 500_000_000;
@@ -246,4 +247,17 @@ pub fn orders() -> Vec<(u64, Table)> {
         (12, Table::of(&[H], &[&[0, !0], &[!1]])),
         (12, Table::of(&[H], &[&[1, !1]])),
     ]
+}
+
+/// The paper's whole sheet, 3 faults and 2 cues with an allowance of 10000000, with this budget; the paper's own is 40.
+pub fn whole_sheet(budget: u16) -> Sheet {
+    Sheet {
+        weights: vec![500_000_000, 500_000_000, 200_000_000],
+        cues: vec![7, 9],
+        counts: vec![2, 0],
+        present: vec![3, 5],
+        absent: vec![0, 0],
+        allowance: 10_000_000,
+        budget,
+    }
 }

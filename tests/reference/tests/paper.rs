@@ -4,11 +4,11 @@
 use reference::leaf::Interval;
 use reference::paper::{
     cases, chain, equal_ways, most_named, one_division, one_pass, own_interval, p3, p4, p6, p7, p8,
-    ring, singles, skipped, stairs, widest, with_empty_way, H,
+    ring, singles, skipped, stairs, whole_sheet, widest, with_empty_way, H,
 };
 use reference::report::report;
 use reference::run::run;
-use reference::sheet::{cue_at, decode, encode, read, write, Sheet};
+use reference::sheet::{cue_at, decode, encode, read, write};
 use reference::table::Count;
 use reference::tree::{first_widest, open, refine_by_hand, State};
 use reference::{Act, Answer, Table, DONE, FULL, MET, S, SPENT};
@@ -211,18 +211,6 @@ fn the_page_is_told_the_first_widest_open_leaf() {
         ]),
         Some(2)
     );
-}
-
-fn whole_sheet(budget: u16) -> Sheet {
-    Sheet {
-        weights: vec![H, H, 200_000_000],
-        cues: vec![7, 9],
-        counts: vec![2, 0],
-        present: vec![3, 5],
-        absent: vec![0, 0],
-        allowance: 10_000_000,
-        budget,
-    }
 }
 
 #[test]

@@ -1,7 +1,7 @@
 //! Examples for every refusal, for the order in which they are tried, and for what a
 //! refused call leaves as it was.
 
-use reference::paper::{limits, orders, p4, H};
+use reference::paper::{limits, orders, p4, whole_sheet, H};
 use reference::report::report;
 use reference::run::run;
 use reference::sheet::{encode, read, sheet_number, write, writing_number, Sheet};
@@ -11,15 +11,7 @@ use reference::{Act, Answer, Table, Tree, S};
 const ABOVE: u32 = S as u32 + 1;
 
 fn sheet() -> Sheet {
-    Sheet {
-        weights: vec![H, H, 200_000_000],
-        cues: vec![7, 9],
-        counts: vec![2, 0],
-        present: vec![3, 5],
-        absent: vec![0, 0],
-        allowance: 10_000_000,
-        budget: 40,
-    }
+    whole_sheet(40)
 }
 
 /// The number for the paper's sheet with some bytes put in.
