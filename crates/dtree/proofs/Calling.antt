@@ -1,7 +1,7 @@
 -- What a hand refinement and a run promise, shown of their definitions, for every table and tree.
 -- Rests on `records`, ByTheRules: on a good tree a call goes by the rules.
 use mathlib.Core.Path.{_≡_, refl, sym, ap, ap₂, subst, _∙_}
-use mathlib.Core.Bool.{Bool, true, false, not}
+use mathlib.Core.Bool.{Bool, true, false}
 use mathlib.Core.List.{List, [], _∷_, _++_}
 use Prim.Native.Nat.{ℕ, zero, suc, _+_}
 use native.Mathlib.Omega.{arith}
@@ -69,9 +69,22 @@ number-is t ns h x e b (byHand bs k) =
     ap₂ (λ (o : Bool) (r : List Refinement). handNumber t o (tree r) bs k) b (ap history e ∙ history-layout t ns h)
 number-is t ns h x e b (byRun m) = ap (λ (o : Bool). runNumber t o m) b
 
-on-layout : (t : Table) → Accepted t → (ns : List Refinement) → series t ns ≡ true → (c : Call) → callNumber t (tree ns) c ≡ 0
+-- What holds of the tree of every series that a call accepts, and of what the rules then make and hand back, holds of every accepted call.
+pub by-the-rules : (t : Table) (c : Call) (P : Tree → Tree → Outcome → Type 0)
+    → (Accepted t → (ns : List Refinement) → series t ns ≡ true → callNumber t (tree ns) c ≡ 0
+    → P (layout t ns) (layout t (ns ++ makes t (tree ns) c)) (outcome t (tree ns) c))
+    → (x : Tree) → numberOf t x c ≡ 0 → P x (callTree t x c) (callOutcome t x c)
+unfolding bad
+by-the-rules t c P on x e =
+    let f = free t x c e in
+    let g : Good t x = good-sure t x (not-false (isGood t x) (f .1)) in
+    let n = sym (number-is t (g .made) (g .accepted) x (g .is) (f .1) c) ∙ e in
+    subst (λ (z : Tree). P z (callTree t z c) (callOutcome t z c)) (sym (g .is))
+    (rw (call-tree t (g .made) (g .accepted) c, call-outcome t (g .made) (g .accepted) c) (on (f .0) (g .made) (g .accepted) n))
+
+on-layout : (t : Table) (c : Call) → Accepted t → (ns : List Refinement) → series t ns ≡ true → callNumber t (tree ns) c ≡ 0
     → Worked t (layout t ns) (layout t (ns ++ makes t (tree ns) c)) (reply (outcome t (tree ns) c))
-on-layout t ok ns h c e =
+on-layout t c ok ns h e =
     let b : HandsBack t (tree ns) c = hands-back t ok ns h c e in
     record {
       certain = record { encloses = b .encloses; ordered = b .ordered; bounded = b .bounded };
@@ -81,18 +94,8 @@ on-layout t ok ns h c e =
           (arith, layout-count t ns, layout-count t (ns ++ makes t (tree ns) c), length-append ns (makes t (tree ns) c), report-is t ok (tree ns) c);
     }
 
-from-layout : (t : Table) (ns : List Refinement) → series t ns ≡ true → (c : Call) (x : Tree) → x ≡ layout t ns
-    → Worked t (layout t ns) (layout t (ns ++ makes t (tree ns) c)) (reply (outcome t (tree ns) c)) → Worked t x (callTree t x c) (reply (callOutcome t x c))
-from-layout t ns h c x e w =
-    subst (λ (z : Tree). Worked t z (callTree t z c) (reply (callOutcome t z c))) (sym e) (rw (call-tree t ns h c, call-outcome t ns h c) w)
-
 worked : (t : Table) (x : Tree) (c : Call) → numberOf t x c ≡ 0 → Worked t x (callTree t x c) (reply (callOutcome t x c))
-unfolding bad
-worked t x c e =
-    let f = free t x c e in
-    let g : Good t x = good-sure t x (not-false (isGood t x) (f .1)) in
-    let n = sym (number-is t (g .made) (g .accepted) x (g .is) (f .1) c) ∙ e in
-    from-layout t (g .made) (g .accepted) c x (g .is) (on-layout t (f .0) (g .made) (g .accepted) c n)
+worked t x c e = by-the-rules t c (λ y z o. Worked t y z (reply o)) (on-layout t c) x e
 
 -- ---- refused
 

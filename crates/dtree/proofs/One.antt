@@ -5,10 +5,10 @@ use mathlib.Core.List.{List, [], _∷_, _++_}
 use mathlib.Core.Option.{Option, none, some}
 use Prim.Native.Nat.{ℕ, _+_}
 use native.Mathlib.Omega.{arith}
-use borrow.Author.Tests.{not-false}
 use lib.ListN.{length-append}
 use Rattle.rules.specs.Table.{Table}
 use Rattle.rules.specs.Tree.{left, right, Place, Refinement, leaf, tree, grow, refine, series, acceptable, leafAt, kindAt, Subtree, subtree, root, Interval, interval, intervalAt}
+use Rattle.rules.specs.Refusals.{Accepted}
 use Rattle.rules.specs.Calls.{handNumber, callNumber, byHand, handed, makes, placeOf}
 use Rattle.rules.specs.declared.Kind.{Kind}
 use Rattle.rules.specs.declared.Answer.{Answer}
@@ -16,16 +16,14 @@ use Rattle.rules.proofs.Places.{done-elsewhere, leaf-has, leaf-undone, has-subt
 use Rattle.rules.proofs.Series.{grow-append}
 use Rattle.rules.proofs.Demand3.{HandMade, hand-made}
 use Rattle.rules.proofs.Demands.{OneRefinement, one-refinement}
-use Rattle.records.specs.Records.{layout, isGood, bad, Good}
+use Rattle.records.specs.Records.{layout}
 use Rattle.records.specs.Library.{callTree}
 use Rattle.records.specs.declared.Tree.{Tree}
 use Rattle.records.proofs.Positions.{length-places}
 use Rattle.records.proofs.History.{layout-count}
-use Rattle.records.proofs.Sixteen.{good-sure}
 use Rattle.records.proofs.Seen.{seen-kind, seen-interval}
-use Rattle.records.proofs.ByTheRules.{call-tree}
 use Rattle.dtree.specs.Promises.{numberOf, Called, LeafSeen, OneMore, Refining}
-use Rattle.dtree.proofs.Calling.{free, number-is}
+use Rattle.dtree.proofs.Calling.{by-the-rules}
 use Rattle.dtree.proofs.ByHand.{made-one}
 
 -- A leaf of the tree of a series is seen as one.
@@ -61,20 +59,14 @@ on-series t ns n a bs e =
     }
 
 one-more : (t : Table) (x : Tree) (bs : List ℕ) (k : Kind) → numberOf t x (byHand bs k) ≡ 0 → OneMore x bs k (callTree t x (byHand bs k))
-unfolding bad callNumber
-one-more t x bs k z =
-    let f = free t x (byHand bs k) z in
-    let g : Good t x = good-sure t x (not-false (isGood t x) (f .1)) in
-    let zeroed : handNumber t false (tree (g .made)) bs k ≡ 0 = sym (number-is t (g .made) (g .accepted) x (g .is) (f .1) (byHand bs k)) ∙ z in
-    let m : HandMade t (tree (g .made)) bs k = hand-made t (f .0) (tree (g .made)) bs k zeroed in
-    moved t (g .made) (g .accepted) bs k (record { place = m .place; kind = k }) (made-one t (tree (g .made)) bs k _ zeroed (m .made)) x (g .is)
-    (on-series t (g .made) (record { place = m .place; kind = k }) (m .fine) bs (m .named))
+unfolding callNumber
+one-more t x bs k z = by-the-rules t (byHand bs k) (λ y w o. OneMore y bs k w) on x z
   where
-    moved : (t : Table) (ns : List Refinement) → series t ns ≡ true → (bs : List ℕ) (k : Kind) (n : Refinement) → makes t (tree ns) (byHand bs k) ≡ n ∷ [] → (x : Tree)
-        → x ≡ layout t ns → OneMore (layout t ns) bs k (layout t (ns ++ (n ∷ []))) → OneMore x bs k (callTree t x (byHand bs k))
-    moved t ns h bs k n e x i w =
-        subst (λ (y : Tree). OneMore y bs k (callTree t y (byHand bs k))) (sym i)
-        (subst (OneMore (layout t ns) bs k) (sym (call-tree t ns h (byHand bs k) ∙ ap (λ (ms : List Refinement). layout t (ns ++ ms)) e)) w)
+    on : Accepted t → (ns : List Refinement) → series t ns ≡ true → handNumber t false (tree ns) bs k ≡ 0
+        → OneMore (layout t ns) bs k (layout t (ns ++ makes t (tree ns) (byHand bs k)))
+    on ok ns h n =
+        let m : HandMade t (tree ns) bs k = hand-made t ok (tree ns) bs k n in
+        rw (made-one t (tree ns) bs k _ n (m .made)) (on-series t ns (record { place = m .place; kind = k }) (m .fine) bs (m .named))
 
 -- The promise of a hand refinement, from that of a call.
 pub refining : (t : Table) (x : Tree) (bs : List ℕ) (k : Kind) (y : Tree) (a : Answer) → Called t x (byHand bs k) y (handed a) → Refining t x bs k y a

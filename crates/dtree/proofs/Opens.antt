@@ -4,7 +4,7 @@ use mathlib.Core.Path.{_≡_, refl, sym, ap, subst, _∙_}
 use mathlib.Core.List.{[]}
 use Prim.Native.Nat.{ℕ, zero, suc}
 use Rattle.rules.specs.Table.{Table, ways}
-use Rattle.rules.specs.Tree.{leaf, root, low, high, tree, kindAt, subtree, descend, interval, seriesFrom, grow}
+use Rattle.rules.specs.Tree.{leaf, root, low, high, kindAt, subtree, descend, seriesFrom, grow}
 use Rattle.rules.specs.Refusals.{tableNumber, Accepted}
 use Rattle.rules.specs.Answers.{refused, answerReply}
 use Rattle.rules.specs.Calls.{openAnswer, answerBy, figures}

@@ -5,7 +5,6 @@ use mathlib.Core.List.{List, []}
 use Prim.Native.Nat.{ℕ, zero, suc, _+_, _<_}
 use native.Mathlib.Omega.{arith}
 use Rattle.rules.specs.Table.{Table}
-use Rattle.rules.specs.Tree.{tree}
 use Rattle.rules.specs.Refusals.{refusal, first, tableRefusals, wayRefusals, limitRefusals, tableNumber, Accepted}
 use Rattle.rules.specs.Calls.{handNumber, runNumber, handRefusals, runRefusals, Call, byHand, byRun}
 use Rattle.rules.specs.declared.Kind.{Kind}

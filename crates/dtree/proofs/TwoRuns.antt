@@ -6,7 +6,7 @@ use mathlib.Core.List.{List, _++_, append-assoc}
 use Prim.Native.Nat.{ℕ, _+_}
 use Rattle.rules.specs.Table.{Table}
 use Rattle.rules.specs.Tree.{Refinement, DTree, leaf, tree, series}
-use Rattle.rules.specs.Run.{picks, verdict}
+use Rattle.rules.specs.Run.{picks}
 use Rattle.rules.specs.Refusals.{Accepted}
 use Rattle.rules.specs.Calls.{byRun, runNumber}
 use Rattle.rules.specs.declared.Limits.{Limits}

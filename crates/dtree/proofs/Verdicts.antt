@@ -1,15 +1,15 @@
 -- What an accepted run says and how much it makes. Rests on `rules`, Runs, where each verdict is what it says.
-use mathlib.Core.Path.{_≡_, sym, ap, subst, _∙_}
+use mathlib.Core.Path.{_≡_, ap, _∙_}
 use mathlib.Core.Bool.{true, false}
 use mathlib.Core.List.{List, _++_}
 use mathlib.Core.Logic.{_↔_}
 use mathlib.Core.Option.{Option, none, some, Option·some-injective}
 use Prim.Native.Nat.{ℕ, _-_, _≤_}
-use borrow.Author.Tests.{not-false}
 use Rattle.rules.specs.Table.{Table}
 use Rattle.rules.specs.Tree.{Refinement, DTree, leaf, tree, grow, low, high, series}
 use Rattle.rules.specs.Run.{picks, verdict}
 use Rattle.rules.specs.Answers.{runVerdict}
+use Rattle.rules.specs.Refusals.{Accepted}
 use Rattle.rules.specs.Calls.{runNumber, runAnswer, runAnswerBy, Outcome, handed, ran, reply, byRun, runMakes, figures, callNumber, outcome, makes}
 use Rattle.rules.specs.declared.Limits.{Limits}
 use Rattle.rules.specs.declared.Verdict.{Verdict}
@@ -17,13 +17,11 @@ use Rattle.rules.specs.declared.Verdict.the-variants.{Met}
 use Rattle.rules.specs.declared.RunAnswer.{RunAnswer}
 use Rattle.rules.proofs.Series.{grow-append}
 use Rattle.rules.proofs.Runs.{verdict-exactly, picks-budget}
-use Rattle.records.specs.Records.{layout, isGood, bad, Good}
+use Rattle.records.specs.Records.{layout}
 use Rattle.records.specs.Library.{callTree, callOutcome}
 use Rattle.records.specs.declared.Tree.{Tree}
-use Rattle.records.proofs.Sixteen.{good-sure}
-use Rattle.records.proofs.ByTheRules.{call-tree, call-outcome}
 use Rattle.dtree.specs.Promises.{rootOf, numberOf, Called, Running}
-use Rattle.dtree.proofs.Calling.{free, number-is, root-low, root-high}
+use Rattle.dtree.proofs.Calling.{by-the-rules, root-low, root-high}
 use Rattle.dtree.proofs.ByRun.{made-picks}
 
 -- The verdict of what a call hands back.
@@ -57,19 +55,12 @@ on-series t ns m z =
     }
 
 says : (t : Table) (x : Tree) (m : Limits) → numberOf t x (byRun m) ≡ 0 → Says m (callTree t x (byRun m)) (callOutcome t x (byRun m))
-unfolding bad callNumber
-says t x m z =
-    let f = free t x (byRun m) z in
-    let g : Good t x = good-sure t x (not-false (isGood t x) (f .1)) in
-    let zeroed : runNumber t false m ≡ 0 = sym (number-is t (g .made) (g .accepted) x (g .is) (f .1) (byRun m)) ∙ z in
-    moved t (g .made) (g .accepted) m (made-picks t (tree (g .made)) m zeroed) x (g .is) (on-series t (g .made) m zeroed)
+unfolding callNumber
+says t x m z = by-the-rules t (byRun m) (λ y w o. Says m w o) on x z
   where
-    moved : (t : Table) (ns : List Refinement) → series t ns ≡ true → (m : Limits)
-        → makes t (tree ns) (byRun m) ≡ picks t (m .allowance) (m .budget) (tree ns) → (x : Tree) → x ≡ layout t ns
-        → Says m (layout t (ns ++ picks t (m .allowance) (m .budget) (tree ns))) (outcome t (tree ns) (byRun m)) → Says m (callTree t x (byRun m)) (callOutcome t x (byRun m))
-    moved t ns h m e x i w =
-        subst (λ (y : Tree). Says m (callTree t y (byRun m)) (callOutcome t y (byRun m))) (sym i)
-        (rw (call-tree t ns h (byRun m) ∙ ap (λ (ms : List Refinement). layout t (ns ++ ms)) e, call-outcome t ns h (byRun m)) w)
+    on : Accepted t → (ns : List Refinement) → series t ns ≡ true → runNumber t false m ≡ 0
+        → Says m (layout t (ns ++ makes t (tree ns) (byRun m))) (outcome t (tree ns) (byRun m))
+    on ok ns h n = rw (made-picks t (tree ns) m n) (on-series t ns m n)
 
 -- The promise of a run, from that of a call.
 pub running : (t : Table) (x : Tree) (m : Limits) (y : Tree) (a : RunAnswer) → Called t x (byRun m) y (ran a) → Running t x m y a

@@ -13,10 +13,11 @@ use Rattle.rules.specs.declared.Kind.{Kind}
 use Rattle.rules.proofs.Booleans.{and-left}
 use Rattle.rules.proofs.Places.{leaf-has}
 use Rattle.rules.proofs.Series.{In, acceptable-leaf, series-back, only-done}
-use Rattle.records.specs.Records.{children, places, position, above, leftCode, childRecord, recordAt, recordsOf, layout}
+use Rattle.records.specs.Records.{children, places, position, above, leftCode, childRecord, recordsOf, layout}
 use Rattle.records.specs.declared.Node.{Node}
 use Rattle.records.proofs.Positions.{Held, position-inside, held-at, position-of, above-child, places-append, length-places, position-lt, child-held, has-held, places-once, right-next}
 use Rattle.records.proofs.InPlace.{few-places, record-of, record-at, parent-of}
+use Rattle.records.proofs.Seen.{left-link}
 use Rattle.pick.specs.Picks.{recordIn, Linked}
 
 module _ (t : Table) (ns : List Refinement) (whole : series t ns ≡ true) where
@@ -64,11 +65,6 @@ module _ (t : Table) (ns : List Refinement) (whole : series t ns ≡ true) where
     abbrev i : ℕ
     i = position p (places ns)
 
-    -- The left link by what was done at the place.
-    pub left-link : (o : Option Kind) → kindAt p (tree ns) ≡ o → recordIn xs i .left ≡ leftCode o p (places ns)
-    unfolding recordAt
-    left-link o d = ap (λ (x : Node). x .left) (record-at t ns p held) ∙ ap (λ (o : Option Kind). leftCode o p (places ns)) d
-
     module _ (k : Kind) (d : kindAt p (tree ns) ≡ some k) where
       made : In (record { place = p; kind = k }) ns
       made = only-done ns p k d
@@ -80,8 +76,8 @@ module _ (t : Table) (ns : List Refinement) (whole : series t ns ≡ true) where
       -- The links of a refined place's record lead to the records of its children.
       pub child-at : (b : Side) → childRecord b (recordIn xs i .left) ≡ position (p ++ (b ∷ [])) (places ns)
       unfolding leftCode
-      child-at left = left-link (some k) d
-      child-at right = ap suc (left-link (some k) d) ∙ sym (right-next p k ns made)
+      child-at left = left-link t ns p (some k) d held
+      child-at right = ap suc (left-link t ns p (some k) d held) ∙ sym (right-next p k ns made)
 
       -- And these lead back.
       child-back : (b : Side) → recordIn xs (childRecord b (recordIn xs i .left)) .parent ≡ i
@@ -104,7 +100,7 @@ module _ (t : Table) (ns : List Refinement) (whole : series t ns ≡ true) where
       by : (o : Option Kind) → kindAt p (tree ns) ≡ o
           → (suc (recordIn xs (position p (places ns)) .left) < length (places ns))
           × ((b : Side) → recordIn xs (childRecord b (recordIn xs (position p (places ns)) .left)) .parent ≡ position p (places ns))
-      by none d = absurd (q (left-link p held none d))
+      by none d = absurd (q (left-link t ns p none d held))
       by (some k) d = (omega (arith, child-at p held k d right, position-lt ns (p ++ (right ∷ [])) (child-there p held k d right)), child-back p held k d)
 
   down : (j : ℕ) → j < length (places ns) → Down j

@@ -24,11 +24,12 @@ use Rattle.records.specs.Growing.{recordWidth}
 use Rattle.records.specs.declared.Node.{Node}
 use Rattle.records.proofs.Positions.{Held, position-lt, position-get, has-held, position-child}
 use Rattle.records.proofs.InPlace.{record-at}
+use Rattle.records.proofs.Seen.{left-link}
 use Rattle.records.proofs.Live.{Holds, refined, unrefined, holds}
 use Rattle.pick.specs.declared.Found.{Found}
 use Rattle.pick.specs.declared.Found.the-variants.{At, Nothing}
 use Rattle.pick.specs.Picks.{recordIn, ownFound, wider, pickFrom, pickOf}
-use Rattle.pick.proofs.Layouts.{left-link, child-at}
+use Rattle.pick.proofs.Layouts.{child-at}
 
 -- ---- a candidate of the rules as the search would show it
 
@@ -100,7 +101,7 @@ module _ (t : Table) (ns : List Refinement) (whole : series t ns ≡ true) where
   found-below leaf zero p y e deep = absurd (omega arith)
   found-below leaf (suc f) p y e deep =
       let d = subtree-kind p (root t) (tree ns) (record { node = y; below = leaf }) e in
-      rw (eq-eqb (recordIn xs (position p (places ns)) .left) 0 (left-link t ns whole p (stands-held p y leaf e) none d), pickFrom) (own-leaf p y e d)
+      rw (eq-eqb (recordIn xs (position p (places ns)) .left) 0 (left-link t ns p none d (stands-held p y leaf e)), pickFrom) (own-leaf p y e d)
   found-below (inner k l r) zero p y e deep = absurd (omega arith)
   found-below (inner k l r) (suc f) p y e deep =
       rw (ne-eqb (recordIn xs i .left) 0 has-left, pickFrom)
@@ -122,7 +123,7 @@ module _ (t : Table) (ns : List Refinement) (whole : series t ns ≡ true) where
       d = subtree-kind p (root t) (tree ns) (record { node = y; below = inner k l r }) e
 
       has-left : recordIn xs i .left ≡ 0 → ⊥
-      has-left z = omega (arith, z, left-link t ns whole p held (some k) d, position-child p left ns)
+      has-left z = omega (arith, z, left-link t ns p (some k) d held, position-child p left ns)
 
   -- The search finds the rules' widest leaf.
   pick-widest : pickOf xs ≡ shown ns [] (widest (t .weights) (ways t) (tree ns))

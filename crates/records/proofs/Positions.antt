@@ -1,7 +1,7 @@
 -- Places and their positions in the list of places: which record a place has, that no place has two, and what lies above it.
 -- Rests on the rules' Places.antt and Series.antt.
 use mathlib.Core.Path.{_≡_, refl, sym, ap, _∙_, subst}
-use mathlib.Core.Bool.{Bool, true, false, not, true≢false}
+use mathlib.Core.Bool.{Bool, true, false, true≢false}
 use mathlib.Core.List.{List, [], _∷_, _++_, append-nil, List·Memᴰ, List·Memᴰ·head, List·Memᴰ·tail, List·Memᴰ·cases-cons}
 use mathlib.Core.Option.{none, some, Option·none-ne-some}
 use mathlib.Core.Logic.{_⊎_, inl, inr}

@@ -1,16 +1,13 @@
 -- The library's calls on records, as their contracts cite them: the tree and the answer of each, for every input.
 -- A list of calls hands each the tree last returned. Rests on Records.antt and on the rules' calls.
-use mathlib.Core.Bool.{Bool, true, false}
 use mathlib.Core.List.{List, [], _∷_, _++_}
 use Prim.Native.Nat.{ℕ, zero, suc}
 use Rattle.rules.specs.Table.{Table}
-use Rattle.rules.specs.Tree.{DTree, Refinement, tree}
+use Rattle.rules.specs.Tree.{Refinement, tree}
 use Rattle.rules.specs.Refusals.{tableNumber}
 use Rattle.rules.specs.Calls.{handNumber, runNumber, handMakes, runMakes, handAnswer, runAnswer, Call, byHand, byRun, Outcome, handed, ran}
 use Rattle.rules.specs.declared.Kind.{Kind}
 use Rattle.rules.specs.declared.Limits.{Limits}
-use Rattle.rules.specs.declared.Answer.{Answer}
-use Rattle.rules.specs.declared.RunAnswer.{RunAnswer}
 use Rattle.records.specs.Records.{layout, noNodes, history, bad}
 use Rattle.records.specs.declared.Tree.{Tree}
 

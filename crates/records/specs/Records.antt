@@ -1,10 +1,10 @@
 -- What the records of a tree hold: `layout` of a series of refinements, and `history`, the series read back off any records.
 -- This names what 01 leaves free: which record holds a place, the blank, and the codes. Rests on the rules alone.
 use mathlib.Core.Path.{_≡_}
-use mathlib.Core.Bool.{Bool, true, false, not, _&&_, _||_}
+use mathlib.Core.Bool.{Bool, true, false, not, _&&_}
 use mathlib.Core.List.{List, [], _∷_, _++_, map}
 use mathlib.Core.Option.{Option, none, some}
-use Prim.Native.Nat.{ℕ, zero, suc, _+_, _-_, _*_, _/_, _^_}
+use Prim.Native.Nat.{ℕ, zero, suc, _+_, _-_, _/_, _^_}
 use lib.ListN.{length, getD, drop, replicate}
 use lib.Dec.{eqb, ltb}
 use lib.Bits.{bitOr}

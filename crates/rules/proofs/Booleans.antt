@@ -1,6 +1,6 @@
 -- Small laws of Boolean tests, and of tests over a list of ways. Rests on nothing but the definitions.
 use mathlib.Core.Path.{_≡_, refl, sym, _∙_}
-use mathlib.Core.Bool.{Bool, true, false, not, _&&_, _||_, true≢false}
+use mathlib.Core.Bool.{Bool, true, false, _&&_, _||_, true≢false}
 use mathlib.Core.List.{List, _∷_}
 use Rattle.rules.specs.Table.{Way}
 use Rattle.rules.specs.Leaf.{any}

@@ -8,9 +8,8 @@ use mathlib.Core.Logic.{_↔_}
 use Prim.Native.Nat.{ℕ, suc, _+_, _-_, _≤_, _<_}
 use native.Mathlib.Omega.{arith}
 use lib.ListN.{length, take}
-use Rattle.rules.specs.Rounding.{S}
 use Rattle.rules.specs.Table.{Table, ways}
-use Rattle.rules.specs.Tree.{Side, Place, DTree, leaf, low, high, inners, nodes, Refinement, refine, tree, leafAt, onPath, kindAt, Subtree, subtree, root, intervalAt, Interval, interval, acceptable, series}
+use Rattle.rules.specs.Tree.{Side, Place, DTree, inners, nodes, Refinement, refine, tree, leafAt, onPath, kindAt, Subtree, subtree, root, intervalAt, Interval, interval, acceptable, series}
 use Rattle.rules.specs.Run.{next, picks, verdict, ran}
 use Rattle.rules.specs.Refusals.{Accepted}
 use Rattle.rules.specs.declared.Kind.{Kind}

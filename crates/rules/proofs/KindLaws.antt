@@ -11,7 +11,7 @@ use lib.ListN.{length, set, getD}
 use lib.Dec.{leb}
 use lib.Bits.{bitOr, or-zero-l, or-zero-r}
 use borrow.Author.Tests.{leb-false, eqb-false, eq-eqb, ne-eqb}
-use Rattle.rules.specs.Rounding.{S, Dir, down, Le}
+use Rattle.rules.specs.Rounding.{S, Dir, Le}
 use Rattle.rules.specs.Table.{bit, Way, faults, Assignment, happens}
 use Rattle.rules.specs.Leaf.{any, hasNumber, ofSet, dropped, remaining, isEmpty}
 use Rattle.rules.specs.Group.{groupFaults, part, group, others, nonempty, fallApart}

@@ -1,7 +1,7 @@
 -- Which refusals concern which call, in 01's order, and what each says of an input that it is for: worked examples as one list with one claim.
 -- The checker computes both from the definitions (01, "Refused, by number").
 use mathlib.Core.Path.{_≡_, refl}
-use mathlib.Core.Bool.{Bool, true, not, _&&_}
+use mathlib.Core.Bool.{Bool, true, _&&_}
 use mathlib.Core.List.{List, [], _∷_, _++_}
 use Prim.Native.Nat.{ℕ}
 use lib.ListN.{length, take, drop, replicate}

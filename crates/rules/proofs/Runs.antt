@@ -1,7 +1,7 @@
 -- Runs: what a run makes is a series of acceptable refinements, two runs in a row are one run, and what each verdict says.
 -- Rests on Widest.antt for the leaf, on Levels.antt for the fault, on Series.antt for counting.
 use mathlib.Core.Path.{_≡_, refl, sym, ap, _∙_, subst}
-use mathlib.Core.Bool.{Bool, true, false, not}
+use mathlib.Core.Bool.{Bool, true, false}
 use mathlib.Core.List.{List, [], _∷_, _++_}
 use mathlib.Core.Option.{Option, none, some, Option·some-injective, Option·none-ne-some}
 use mathlib.Core.Logic.{_↔_}

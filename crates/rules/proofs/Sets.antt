@@ -1,7 +1,7 @@
 -- A leaf's set of ways, by number: any part of the remaining ways is what remains of the table's ways with those numbers.
 -- So the ways that a tree hands down are the remaining ways by set and fixed faults, as 01 words them. Rests on specs/Leaf.antt.
 use mathlib.Core.Path.{_≡_, refl, sym, ap, ap₂, _∙_, subst}
-use mathlib.Core.Bool.{Bool, true, false, not, _||_, true≢false, Bool·beq}
+use mathlib.Core.Bool.{Bool, true, false, _||_, true≢false, Bool·beq}
 use mathlib.Core.List.{List, [], _∷_}
 use mathlib.Core.Logic.{_⊎_, inl, inr}
 use Prim.Native.Nat.{ℕ, suc, _≤_, _<_}

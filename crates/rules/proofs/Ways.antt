@@ -1,7 +1,7 @@
 -- Ways and assignments: what a way asks, fault by fault, and that ways look at no fault that they do not name.
 -- Rests on Bits.antt and on independence as Sum.antt has it.
 use mathlib.Core.Path.{_≡_, refl, sym, ap, ap₂, _∙_}
-use mathlib.Core.Bool.{Bool, true, false, not, _&&_, _||_, true≢false}
+use mathlib.Core.Bool.{Bool, true, false, _&&_, _||_, true≢false}
 use mathlib.Core.List.{List, [], _∷_}
 use mathlib.Core.Logic.{_⊎_, inl, inr}
 use Prim.Native.Nat.{ℕ, zero, suc, _/_, _<_}

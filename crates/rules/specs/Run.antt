@@ -1,6 +1,6 @@
 -- A run: when it stops, which leaf it takes and what it does there (01, "Refining": "A run takes an allowance ..").
 -- The allowance is an absolute error on the whole width: 01 does not double it as 003, Proposition 11 does.
-use mathlib.Core.Bool.{Bool, true, false, not}
+use mathlib.Core.Bool.{Bool, true, false}
 use mathlib.Core.List.{List, [], _∷_}
 use mathlib.Core.Option.{Option, none, some}
 use Prim.Native.Nat.{ℕ, zero, suc, _-_}

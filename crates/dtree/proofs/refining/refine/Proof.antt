@@ -9,10 +9,14 @@ use borrow.Author.Tests.{not-true, not-false}
 use Rattle.rules.specs.Table.{Table}
 use Rattle.rules.specs.declared.Kind.{Kind}
 use Rattle.rules.proofs.Accepted.{few-faults, few-ways, paired-words, light}
+use Rattle.rules.specs.declared.Answer.{Answer}
+use Rattle.rules.specs.Calls.{byHand}
 use Rattle.records.specs.declared.Tree.{Tree}
 use Rattle.find.specs.Finds.{leafNumber, Refinable, Tells}
 use Rattle.find.specs.declared.Named.{Named}
 use Rattle.find.specs.declared.Named.the-variants.{Leaf, Refused}
+use Rattle.dtree.specs.Promises.{numberOf, Refining}
+use Rattle.dtree.specs.declared.Refined.{Refined}
 use Rattle.dtree.proofs.Refuses.{refused-call, by-table, hand-sixteen, found-bad, found-good, not-bad, odd-room, safe-within}
 use Rattle.dtree.proofs.ByHand.{by-leaf, made}
 use Rattle.dtree.proofs.One.{refining}
@@ -28,23 +32,36 @@ refusable : (t : Table) (x : Tree) (bs : List ℕ) (k : Kind) (r : Named) (n : �
 unfolding Tells
 refusable t x bs k r n e h = rw e at h
 
+-- A refused call is one that meets its promise.
+turned-away : (t : Table) (x : Tree) (bs : List ℕ) (k : Kind) (n : ℕ) → numberOf t x (byHand bs k) ≡ n → (n ≡ 0 → ⊥) → (r : Refined)
+    → r ≡ record { tree = x; answer = Answer.Refused n } → Refining t x bs k (r .tree) (r .answer)
+turned-away t x bs k n e f r i = rw i (refining t x bs k x _ (refused-call t x (byHand bs k) n e f))
+
 table-number-requires : tie.Need-table-number-requires
 table-number-requires c κs = search needs
 
+refused-requires : tie.Need-refused-requires
+refused-requires c κs = search needs
+
 returns : tie.Need-returns
 returns c =
-    let n = c .before .table-number .ensures in
-    refining _ _ _ _ _ _ (refused-call _ _ _ _ (by-table _ _ _ _ n (c .if1 .taken)) (c .if1 .taken))
+    let b = c .before in
+    turned-away _ _ _ _ _ (by-table _ _ _ _ (b .before .table-number .ensures) (b .if1 .taken)) (b .if1 .taken) _ (c .refused .ensures)
 
 is-good-requires : tie.Need-is-good-requires
 is-good-requires c κs = sym (c .before .table-number .ensures) ∙ c .if1 .left
 
+refused-requires-2 : tie.Need-refused-requires-2
+refused-requires-2 c κs = search needs
+
 returns-2 : tie.Need-returns-2
 returns-2 c =
-    let i = c .before in
+    let b = c .before in
+    let i = b .before in
     let o = i .before in
     let ok = sym (o .before .table-number .ensures) ∙ o .if1 .left in
-    refining _ _ _ _ _ _ (refused-call _ _ _ _ (hand-sixteen _ _ _ _ ok (found-bad _ _ _ (i .is-good .ensures .0) (not-true _ (c .if2 .taken)))) (λ e. omega (arith, e)))
+    let bad = found-bad _ _ _ (i .is-good .ensures .0) (not-true _ (b .if2 .taken)) in
+    turned-away _ _ _ _ _ (hand-sixteen _ _ _ _ ok bad) (λ e. omega (arith, e)) _ (c .refused2 .ensures)
 
 leaf-at-requires : tie.Need-leaf-at-requires
 leaf-at-requires c κs =
@@ -55,6 +72,9 @@ leaf-at-requires c κs =
 
 enum-known-n : tie.Need-enum-known-n
 enum-known-n c = search needs
+
+refused-requires-3 : tie.Need-refused-requires-3
+refused-requires-3 c κs = search needs
 
 enum-known-j : tie.Need-enum-known-j
 enum-known-j c = search needs
@@ -77,15 +97,16 @@ element-copy-out-root c = search needs
 
 returns-3 : tie.Need-returns-3
 returns-3 c =
-    let l = c .before .before .before in
+    let b = c .before in
+    let l = b .before .before .before in
     let e = l .before in
     let i = e .before in
     let o = i .before in
     let ok = sym (o .before .table-number .ensures) ∙ o .if1 .left in
     let yes = not-false _ (e .if2 .left) in
     let g = i .is-good .ensures .0 in
-    let told = refusable _ _ _ _ _ _ (c .before .n .given .1) (l .leaf-at .ensures) in
-    refining _ _ _ _ _ _ (refused-call _ _ _ _ (by-leaf _ ok _ (found-good _ _ _ g yes) (not-bad _ _ _ g yes) _ _ _ (told .0)) (told .1))
+    let told = refusable _ _ _ _ _ _ (b .before .n .given .1) (l .leaf-at .ensures) in
+    turned-away _ _ _ _ _ (by-leaf _ ok _ (found-good _ _ _ g yes) (not-bad _ _ _ g yes) _ _ _ (told .0)) (told .1) _ (c .refused3 .ensures)
 
 returns-4 : tie.Need-returns-4
 returns-4 c =
@@ -105,11 +126,14 @@ refine-spec =
     tie.close
     (tie.spec
     table-number-requires
+    refused-requires
     returns
     is-good-requires
+    refused-requires-2
     returns-2
     leaf-at-requires
     enum-known-n
+    refused-requires-3
     enum-known-j
     grow-requires
     element-copy-out-root
