@@ -18,7 +18,7 @@ use Rattle.records.specs.Records.{layout, treeKind, treeInterval, treeCo
 use Rattle.records.specs.Library.{openTree, callTree, callOutcome, treeAfter, outcomesAfter}
 use Rattle.records.specs.declared.Tree.{Tree}
 use Rattle.records.proofs.Seen.{seen-kind, seen-interval, seen-count}
-use Rattle.records.proofs.ByTheRules.{call-tree, call-outcome, by-the-rules}
+use Rattle.records.proofs.ByTheRules.{call-tree, call-outcome, ByTheRules, by-the-rules}
 
 -- The tree after a list of calls from a fresh opening, and what the calls handed back.
 abbrev pub after : Table → List Call → Tree
@@ -57,14 +57,16 @@ pub record RootWithin (x y : Tree) : Type 0 where
 -- reported), and the outcome of every further run on equal allowance and budget. Along every such list no refinement, by hand or
 -- within a run, widens the interval at the root: its low end never falls, its high end never rises."
 pub record Demand-3 (t : Table) : Type 0 where
-  -- both lists note the same refinements
+  -- A. after every list the tree is that of the refinements noted by the rules, each call has said what the rules say, and 16 does not apply
+  pub goes-by-the-rules : (cs : List Call) → ByTheRules t cs
+  -- B. two lists that note the same refinements
   pub shared : (cs cs′ : List Call) → Same (noted t cs) (noted t cs′) → Shared t cs cs′
   -- what is noted is what the tree shows, and no place is noted twice
   pub noted-read : (cs : List Call) (n : Refinement) → In n (noted t cs) ↔ (treeKind (after t cs) (n .place) ≡ some (n .kind))
   pub noted-once : (cs : List Call) (before later : List Refinement) (n m : Refinement) → noted t cs ≡ before ++ n ∷ later → In m before → m .place ≡ n .place → ⊥
   -- so whether both note the same may be read off the two trees
   pub same-read : (cs cs′ : List Call) → ((p : Place) → treeKind (after t cs) p ≡ treeKind (after t cs′) p) → Same (noted t cs) (noted t cs′)
-  -- each single refinement along a list, and each call
+  -- C. each single refinement along a list, and each call
   pub never-wider : (cs : List Call) (before later : List Refinement) (n : Refinement) → noted t cs ≡ before ++ n ∷ later → RootWithin (layout t before) (layout t (before ++ n ∷ []))
   pub call-never-widens : (cs : List Call) (c : Call) → RootWithin (after t cs) (callTree t (after t cs) c)
 
@@ -153,6 +155,7 @@ module _ (t : Table) (ok : Accepted t) where
 pub demand-3 : (t : Table) → Accepted t → Demand-3 t
 demand-3 t ok =
     record {
+      goes-by-the-rules = by-the-rules t ok;
       shared = λ cs cs′ e. share-trees t ok cs cs′ (same-share t ok cs cs′ e);
       noted-read = noted-is t ok;
       noted-once = λ cs before later n m. places-differ t (noted t cs) before later n m (noted-series t ok cs);

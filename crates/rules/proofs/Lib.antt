@@ -32,6 +32,7 @@ pub mod Sheets
 pub mod CueTables
 pub mod RoundTrip
 pub mod ReaderCalls
+pub mod Replies
 pub mod Decimal
 pub mod TextLength
 pub mod Demands

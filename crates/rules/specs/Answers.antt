@@ -1,7 +1,7 @@
 -- What each case of each answer says in 01's terms: number, low, high and count (01, "Refused, by number").
 -- Every contract speaks of its answer through these definitions.
 use mathlib.Core.Option.{Option, none, some}
-use Prim.Native.Nat.{ℕ, suc}
+use Prim.Native.Nat.{ℕ, zero, suc}
 use Rattle.rules.specs.Rounding.{S}
 use Rattle.rules.specs.declared.Verdict.{Verdict}
 use Rattle.rules.specs.declared.Figures.{Figures}
@@ -30,6 +30,11 @@ accepted f = record { number = 0; low = f .low; high = f .high; count = f .count
 -- An accepted call on a sheet, which has no interval to tell: nought to the full billion says nothing.
 abbrev pub counted : ℕ → Reply
 counted n = record { number = 0; low = 0; high = S; count = n }
+
+-- A call on a sheet by its number: refused, or accepted with the count k.
+unfoldable pub countedBy : ℕ → ℕ → Reply
+countedBy zero k = counted k
+countedBy (suc n) k = refused (suc n)
 
 -- An opening or a hand refinement.
 abbrev pub answerReply : Answer → Reply

@@ -1,0 +1,43 @@
+-- What the answers of reading, of a reader's call and of the writer say in 01's terms, for every input.
+-- Rests on the definitions of Answers.antt and Sheet.antt.
+use mathlib.Core.Path.{_≡_, refl}
+use mathlib.Core.Bool.{Bool, true, false}
+use mathlib.Core.List.{List}
+use Prim.Native.Nat.{ℕ, zero, suc}
+use lib.ListN.{length}
+use lib.Dec.{ltb}
+use Rattle.rules.specs.Answers.{countedBy, readReply, cueReply, writeReply}
+use Rattle.rules.specs.Sheet.{Lists, sheetOf, encode, readNumber, headIn, readAnswerBy, readAnswer, cuesIn, entryIn, cueAnswerBy, cueAnswer, writeNumber, writeAnswerBy, writeAnswer}
+use Rattle.rules.specs.declared.Head.{Head}
+use Rattle.rules.specs.declared.Entry.{Entry}
+
+read-by : (n : ℕ) (h : Head) → readReply (readAnswerBy n h) ≡ countedBy n 0
+unfolding readAnswerBy countedBy
+read-by zero h = refl
+read-by (suc n) h = refl
+
+-- Reading a whole sheet.
+pub read-reply : (bs : List ℕ) → readReply (readAnswer bs) ≡ countedBy (readNumber bs) 0
+unfolding readAnswer
+read-reply bs = read-by (readNumber bs) (headIn bs)
+
+cue-by : (n : ℕ) (b : Bool) (e : Entry) → cueReply (cueAnswerBy n b e) ≡ countedBy n 0
+unfolding cueAnswerBy countedBy
+cue-by zero true e = refl
+cue-by zero false e = refl
+cue-by (suc n) b e = refl
+
+-- A reader's call, at any position.
+pub cue-reply : (bs : List ℕ) (i : ℕ) → cueReply (cueAnswer bs i) ≡ countedBy (readNumber bs) 0
+unfolding cueAnswer
+cue-reply bs i = cue-by (readNumber bs) (ltb i (cuesIn bs)) (entryIn bs i)
+
+write-by : (n k : ℕ) → writeReply (writeAnswerBy n k) ≡ countedBy n k
+unfolding writeAnswerBy countedBy
+write-by zero k = refl
+write-by (suc n) k = refl
+
+-- The writer.
+pub write-reply : (x : Lists) (space : ℕ) → writeReply (writeAnswer x space) ≡ countedBy (writeNumber x space) (length (encode (sheetOf x)))
+unfolding writeAnswer
+write-reply x space = write-by (writeNumber x space) (length (encode (sheetOf x)))
