@@ -3,7 +3,7 @@
 mod Halves
 mod Columns
 mod WayRows
-mod Sized
+pub mod Sized
 mod Entries
-mod Accepted
+pub mod Accepted
 pub mod Tables

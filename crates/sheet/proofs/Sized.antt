@@ -28,7 +28,7 @@ sized-none zero = refl
 sized-none (suc m) = ap (λ (r : List ℕ). 0 ∷ r) (sized-none m)
 
 -- The next number goes behind the others.
-sized-next : (m : ℕ) (xs : List ℕ) (x : ℕ) → length xs < m → set (sized m xs) (length xs) x ≡ sized m (xs ++ (x ∷ []))
+pub sized-next : (m : ℕ) (xs : List ℕ) (x : ℕ) → length xs < m → set (sized m xs) (length xs) x ≡ sized m (xs ++ (x ∷ []))
 unfolding sized
 sized-next zero xs x h = absurd (omega arith)
 sized-next (suc m) [] x h = refl

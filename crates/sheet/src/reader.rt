@@ -2,7 +2,8 @@
 //! A refused sheet is refused at every call, also past its last cue; `body` takes any entry, and reads nothing beyond the end.
 ghost use mathlib.Core.Path.{_≡_};
 ghost use Prim.Native.Nat.{_<_, _≤_};
-ghost use Rattle.rules.specs.Sheet.{cuesIn, entryIn, readAnswer, cueAnswer};
+ghost use Rattle.rules.specs.Answers.{countedBy, readReply, cueReply};
+ghost use Rattle.rules.specs.Sheet.{cuesIn, entryIn, readNumber, readAnswer, cueAnswer};
 ghost use Rattle.sheet.specs.Handed.{bodyOr};
 use super::contents::ways_of;
 use super::fields::u16_at;
@@ -17,6 +18,7 @@ use rules::ReadAnswer;
 /// Reading a whole sheet.
 pub fn read(s: &[u8]) -> ReadAnswer
     ensures { λ r. ⌜ r ≡ readAnswer (now (s .entry)) ⌝ }
+    ensures { λ r. ⌜ readReply r ≡ countedBy (readNumber (now (s .entry))) 0 ⌝ }
 {
     let number = sheet_number(s);
     if number != 0 {
@@ -25,8 +27,8 @@ pub fn read(s: &[u8]) -> ReadAnswer
     ReadAnswer::Sheet(head_in(s))
 }
 
-/// The cue at position i of the contents. Its body's start is counted on from the weights.
-fn entry_at(s: &[u8], i: usize) -> Entry
+/// The cue at position i of the contents, where there is one. Its body's start is counted on from the weights.
+pub fn entry_at(s: &[u8], i: usize) -> Entry
     requires { ⌜ (i < cuesIn (now s)) × (cuesIn (now s) ≤ 24) ⌝ }
     ensures { λ r. ⌜ r ≡ entryIn (now (s .entry)) i ⌝ }
 {
@@ -40,6 +42,7 @@ fn entry_at(s: &[u8], i: usize) -> Entry
 /// A reader's call at position i: past the last cue there is none, and a refused sheet is refused there too.
 pub fn cue_at(s: &[u8], i: usize) -> CueAnswer
     ensures { λ r. ⌜ r ≡ cueAnswer (now (s .entry)) i ⌝ }
+    ensures { λ r. ⌜ cueReply r ≡ countedBy (readNumber (now (s .entry))) 0 ⌝ }
 {
     let number = sheet_number(s);
     if number != 0 {

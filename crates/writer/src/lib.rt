@@ -2,7 +2,8 @@
 //! `refusals` finds the number of a call, `pieces` writes the bytes. Rests on the definitions of `rules`, Sheet.
 ghost use mathlib.Core.Path.{_≡_};
 ghost use lib.ListN.{length};
-ghost use Rattle.rules.specs.Sheet.{writeAnswer, written};
+ghost use Rattle.rules.specs.Answers.{countedBy, writeReply};
+ghost use Rattle.rules.specs.Sheet.{sheetOf, encode, writeNumber, writeAnswer, written};
 ghost use Rattle.writer.specs.Given.{given};
 use pieces::put_sheet;
 use refusals::write_number;
@@ -23,6 +24,7 @@ pub fn write(
     space: &mut [u8],
 ) -> WriteAnswer
     ensures { λ r. ⌜ r ≡ writeAnswer (given (now (weights .entry)) (now (numbers .entry)) (now (counts .entry)) (now (present .entry)) (now (absent .entry)) limits) (length (now (space .entry))) ⌝ }
+    ensures { λ r. ⌜ writeReply r ≡ countedBy (writeNumber (given (now (weights .entry)) (now (numbers .entry)) (now (counts .entry)) (now (present .entry)) (now (absent .entry)) limits) (length (now (space .entry)))) (length (encode (sheetOf (given (now (weights .entry)) (now (numbers .entry)) (now (counts .entry)) (now (present .entry)) (now (absent .entry)) limits)))) ⌝ }
     ensures { λ _. ⌜ now (space .exit) ≡ written (given (now (weights .entry)) (now (numbers .entry)) (now (counts .entry)) (now (present .entry)) (now (absent .entry)) limits) (now (space .entry)) ⌝ }
 {
     let number = write_number(

@@ -1,12 +1,15 @@
 -- `write` meets its contract: a call whose number is 0 writes the sheet, and any other writes nothing.
 -- Rests on Over.antt, Accepted.antt and the contracts of `write_number` and `put_sheet`.
 use mathlib.Core.Path.{_≡_, sym, ap, _∙_}
+use Prim.Native.Nat.{ℕ}
 use native.Mathlib.Nat.{zero-add}
 use borrow.Author.Needs.{needs}
 use lib.ListN.{length}
 use Rattle.rules.specs.declared.WriteAnswer.{WriteAnswer}
+use Rattle.rules.specs.Answers.{countedBy, writeReply}
 use Rattle.rules.specs.Refusals.{first}
 use Rattle.rules.specs.Sheet.{Lists, sheetOf, encode, listsRefusals, writeNumber, writeAnswerBy, writeAnswer, writtenBy, written}
+use Rattle.rules.proofs.Replies.{write-reply}
 use Rattle.writer.specs.Given.{given}
 use Rattle.writer.specs.Pieces.{Room}
 use Rattle.writer.proofs.Over.{over-front, wrote-long}
@@ -21,6 +24,11 @@ abbrev lists : tie.After-write-number → Lists
 lists p =
     let a = start p .args in
     given (a .weights .now) (a .numbers .now) (a .counts .now) (a .present .now) (a .absent .now) (a .limits)
+
+-- The answer, with it the reply, and the space.
+all : (x : Lists) (space : ℕ) (a : WriteAnswer) {P : Type 0} → a ≡ writeAnswer x space → P
+    → (a ≡ writeAnswer x space) × ((writeReply a ≡ countedBy (writeNumber x space) (length (encode (sheetOf x)))) × P)
+all x space a e p = (e, (ap writeReply e ∙ write-reply x space, p))
 
 write-number-requires : tie.Need-write-number-requires
 write-number-requires c κs = search needs
@@ -50,18 +58,14 @@ returns c =
     let s = c .before .before in
     let w = s .put-sheet .ensures in
     let z = zeroed (s .before .before) in
-    let out = encode (sheetOf (lists (s .before .before .before))) in (
-      rw z (ap WriteAnswer.Written (w .ends ∙ zero-add (length out))),
-      rw z (w .holds ∙ over-front _ out),
-    )
+    let out = encode (sheetOf (lists (s .before .before .before))) in
+    all _ _ _ (rw z (ap WriteAnswer.Written (w .ends ∙ zero-add (length out)))) (rw z (w .holds ∙ over-front _ out))
 
 returns-2 : tie.Need-returns-2
 unfolding writeAnswer written
 returns-2 c =
-    let e = c .before .write-number .ensures in (
-      rw (← e) (sym (refused-answer _ _ (c .if1 .left))),
-      rw (← e) (sym (refused-space _ _ _ (c .if1 .left))),
-    )
+    let e = c .before .write-number .ensures in
+    all _ _ _ (rw (← e) (sym (refused-answer _ _ (c .if1 .left)))) (rw (← e) (sym (refused-space _ _ _ (c .if1 .left))))
 
 pub write-spec : {M : Type 1} → statement M
 write-spec =

@@ -2,14 +2,17 @@
 -- Rests on Accepted.antt and the contracts of `sheet_number`, `cues_in` and `entry_at`.
 use mathlib.Core.Path.{_≡_, refl, sym, ap, _∙_}
 use mathlib.Core.Bool.{Bool}
+use mathlib.Core.List.{List}
 use Prim.Native.Nat.{ℕ, zero, suc, _<_, _≤_}
 use native.Mathlib.Omega.{arith}
 use borrow.Author.Needs.{needs}
 use lib.Dec.{ltb}
 use borrow.Author.Tests.{lt-ltb, le-ltb}
+use Rattle.rules.specs.Answers.{countedBy, cueReply}
 use Rattle.rules.specs.Sheet.{cuesIn, cueAnswer, cueAnswerBy, readNumber, entryIn}
 use Rattle.rules.specs.declared.Entry.{Entry}
 use Rattle.rules.specs.declared.CueAnswer.{CueAnswer}
+use Rattle.rules.proofs.Replies.{cue-reply}
 use Rattle.sheet.proofs.Accepted.{accepted-few}
 use Rattle.sheet.proofs.reader.cue_at.Statement.{statement}
 use Rattle.sheet.proofs.reader.cue_at.Tie as tie
@@ -20,6 +23,10 @@ unfolding cueAnswerBy
 refuses zero b e some = absurd (some refl)
 refuses (suc n) b e some = refl
 
+-- The answer, and with it the reply.
+both : (bs : List ℕ) (i : ℕ) (a : CueAnswer) → a ≡ cueAnswer bs i → (a ≡ cueAnswer bs i) × (cueReply a ≡ countedBy (readNumber bs) 0)
+both bs i a e = (e, ap cueReply e ∙ cue-reply bs i)
+
 sheet-number-requires : tie.Need-sheet-number-requires
 sheet-number-requires c κs = search needs
 
@@ -28,8 +35,9 @@ unfolding cueAnswer
 returns c =
     let a = c .before .before .before .args in
     let s = a .s .now in
-    refuses (c .before .sheet-number .result) (ltb (a .i) (cuesIn s)) (entryIn s (a .i)) (c .if1 .taken)
-    ∙ ap (λ (n : ℕ). cueAnswerBy n (ltb (a .i) (cuesIn s)) (entryIn s (a .i))) (c .before .sheet-number .ensures)
+    both s (a .i) _
+    (refuses (c .before .sheet-number .result) (ltb (a .i) (cuesIn s)) (entryIn s (a .i)) (c .if1 .taken)
+    ∙ ap (λ (n : ℕ). cueAnswerBy n (ltb (a .i) (cuesIn s)) (entryIn s (a .i))) (c .before .sheet-number .ensures))
 
 cues-in-requires : tie.Need-cues-in-requires
 cues-in-requires c κs = search needs
@@ -50,7 +58,7 @@ returns-2 c =
     let s = a .s .now in
     let none : readNumber s ≡ 0 = sym (n .sheet-number .ensures) ∙ t .before .if1 .left in
     let inside : a .i < cuesIn s = omega (arith, t .cues-in .ensures .0, c .before .if2 .taken) in
-    rw (none, lt-ltb (a .i) (cuesIn s) inside) (ap CueAnswer.Cue (c .entry-at .ensures))
+    both s (a .i) _ (rw (none, lt-ltb (a .i) (cuesIn s) inside) (ap CueAnswer.Cue (c .entry-at .ensures)))
 
 returns-3 : tie.Need-returns-3
 unfolding cueAnswer cueAnswerBy
@@ -61,7 +69,7 @@ returns-3 c =
     let s = a .s .now in
     let none : readNumber s ≡ 0 = sym (n .sheet-number .ensures) ∙ t .before .if1 .left in
     let past : cuesIn s ≤ a .i = omega (arith, t .cues-in .ensures .0, c .if2 .left) in
-    rw (none, le-ltb (a .i) (cuesIn s) past)
+    both s (a .i) _ (rw (none, le-ltb (a .i) (cuesIn s) past))
 
 pub cue-at-spec : {M : Type 1} → statement M
 cue-at-spec =

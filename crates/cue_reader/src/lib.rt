@@ -1,0 +1,70 @@
+//! A reader of a sheet: it keeps the sheet it was opened on and its place in the contents (01, "The sheet").
+//! The work is `call_at`'s, on a slice and a number. Whatever takes or makes a `Reader`, which holds a reference, is proved by hand.
+ghost use mathlib.Core.Path.{_≡_};
+ghost use Rattle.rules.specs.Answers.{placeAfter};
+ghost use Rattle.rules.specs.Sheet.{cueAnswer};
+ghost use Rattle.cue_reader.specs.Driven.{callAnswer};
+ghost use Rattle.cue_reader.specs.Promises.{Called};
+use rules::CueAnswer;
+use sheet::reader::cue_at;
+
+/// The sheet, and the position in its contents of the cue that the next call hands over.
+pub struct Reader<'a> {
+    pub sheet: &'a [u8],
+    pub at: usize,
+}
+
+/// What a call gives: its answer, and the reader's place after it.
+pub struct Call {
+    pub answer: CueAnswer,
+    pub at: usize,
+}
+
+/// How far an answer moves the reader: one place for a cue, else not at all.
+fn step(a: CueAnswer) -> usize
+    ensures { λ r. ⌜ r ≡ placeAfter 0 a ⌝ }
+{
+    match a {
+        CueAnswer::Cue(e) => 1,
+        CueAnswer::Past => 0,
+        CueAnswer::Refused(n) => 0,
+    }
+}
+
+/// A reader's call, on the slice and the place that the reader holds.
+pub fn call_at(s: &[u8], at: usize) -> Call
+    ensures { λ r. ⌜ (r .answer ≡ cueAnswer (now (s .entry)) at) × (r .at ≡ placeAfter at (cueAnswer (now (s .entry)) at)) ⌝ }
+{
+    let answer = cue_at(s, at);
+    let after = at + step(answer);
+    Call { answer, at: after }
+}
+
+/// Opens a reader: its place is the first cue.
+pub fn open_reader<'a>(sheet: &'a [u8]) -> Reader<'a>
+    ensures { λ r. ⌜ (r .sheet ≡ sheet .entry) × (r .at ≡ 0) ⌝ }
+{
+    Reader { sheet, at: 0 }
+}
+
+/// The next cue. Past the last the answer says so, and on a refused sheet it is the number; both keep the place.
+pub fn next<'s, 'a>(r: &'s mut Reader<'a>) -> CueAnswer
+    ensures { λ a. ⌜ Called (now (r .entry)) a (now (r .exit)) ⌝ }
+{
+    let call = call_at(r.sheet, r.at);
+    r.at = call.at;
+    call.answer
+}
+
+/// The answer of the call that follows so many calls of a reader opened on the sheet.
+pub fn call_after(s: &[u8], calls: usize) -> CueAnswer
+    ensures { λ a. ⌜ a ≡ callAnswer (now (s .entry)) calls ⌝ }
+{
+    let mut r = open_reader(s);
+    let mut made: usize = 0;
+    while made < calls {
+        next(&mut r);
+        made += 1;
+    }
+    next(&mut r)
+}

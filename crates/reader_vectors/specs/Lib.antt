@@ -1,0 +1,2 @@
+-- What a printed line says in the rules' terms.
+pub mod Lines

@@ -1,0 +1,62 @@
+-- `entry_answer` meets its contract.
+-- Rests on the contracts of `table` and `cue_answer`; the parts of the arrays are `sheet`'s partsOf.
+use mathlib.Core.Path.{_≡_, ap, _∙_}
+use mathlib.Core.Bool.{false}
+use lib.ListN.{length-take}
+use native.Mathlib.Omega.{arith}
+use borrow.Author.Needs.{needs}
+use Rattle.rules.specs.Tree.{leaf}
+use Rattle.rules.specs.Calls.{runAnswer}
+use Rattle.rules.specs.declared.Limits.{Limits}
+use Rattle.rules.specs.declared.RunAnswer.{RunAnswer}
+use Rattle.sheet.specs.declared.table.CueTable.{CueTable}
+use Rattle.sheet.proofs.Tables.{partsOf}
+use Rattle.report.proofs.lines.entry_answer.Statement.{statement}
+use Rattle.report.proofs.lines.entry_answer.Tie as tie
+
+-- What is answered on the parts of a table is answered on those of an equal one.
+carried : (m : Limits) {t u : CueTable} {r : RunAnswer} → t ≡ u → r ≡ runAnswer (partsOf t) false leaf m → r ≡ runAnswer (partsOf u) false leaf m
+carried m e q = q ∙ ap (λ (x : CueTable). runAnswer (partsOf x) false leaf m) e
+
+table-requires : tie.Need-table-requires
+table-requires c κs = search needs
+
+array-share-prefix-weights : tie.Need-array-share-prefix-weights
+array-share-prefix-weights c = search needs
+
+slice-aggregate-cue-answer : tie.Need-slice-aggregate-cue-answer
+slice-aggregate-cue-answer c = simp length-take (omega arith)
+
+array-share-prefix-present : tie.Need-array-share-prefix-present
+array-share-prefix-present c = search needs
+
+slice-aggregate-cue-answer-2 : tie.Need-slice-aggregate-cue-answer-2
+slice-aggregate-cue-answer-2 c = simp length-take (omega arith)
+
+array-share-prefix-absent : tie.Need-array-share-prefix-absent
+array-share-prefix-absent c = search needs
+
+slice-aggregate-cue-answer-3 : tie.Need-slice-aggregate-cue-answer-3
+slice-aggregate-cue-answer-3 c = simp length-take (omega arith)
+
+cue-answer-requires : tie.Need-cue-answer-requires
+cue-answer-requires c κs = search needs
+
+returns : tie.Need-returns
+returns c =
+    let read = c .before .before .before .before .before .before .before in
+    carried (read .before .before .args .limits) (read .table .ensures .table) (c .cue-answer .ensures)
+
+pub entry-answer-spec : {M : Type 1} → statement M
+entry-answer-spec =
+    tie.close
+    (tie.spec
+    table-requires
+    array-share-prefix-weights
+    slice-aggregate-cue-answer
+    array-share-prefix-present
+    slice-aggregate-cue-answer-2
+    array-share-prefix-absent
+    slice-aggregate-cue-answer-3
+    cue-answer-requires
+    returns)

@@ -1,0 +1,48 @@
+-- The table that is taken from the arrays of an entry, and the text of a line.
+-- Rests on `rules`, Text, for numbers and words as text, and on `sheet`, Handed, for the arrays.
+use mathlib.Core.List.{List, _++_}
+use Prim.Native.Nat.{ℕ}
+use lib.ListN.{take}
+use Rattle.rules.specs.Table.{Table}
+use Rattle.rules.specs.Text.{bytes, decimal, word}
+use Rattle.rules.specs.declared.Entry.{Entry}
+use Rattle.rules.specs.declared.Figures.{Figures}
+use Rattle.rules.specs.declared.RunAnswer.{RunAnswer}
+use Rattle.rules.specs.declared.Verdict.{Verdict}
+use Rattle.sheet.specs.Handed.{tableAt}
+use Rattle.report.specs.declared.lines.Line.{Line}
+
+-- The parts of the arrays that are in use.
+abbrev pub tableIn : List ℕ → Entry → Table
+tableIn bs e =
+    record {
+      weights = take (tableAt bs e .faults) (tableAt bs e .weights);
+      present = take (tableAt bs e .ways) (tableAt bs e .present);
+      absent = take (tableAt bs e .ways) (tableAt bs e .absent);
+    }
+
+-- The line of a refusal.
+unfoldable pub refusedText : ℕ → List ℕ
+refusedText n = bytes "refused " ++ decimal n ++ bytes "\n"
+
+-- The line of a run that ended: the cue's number, low, high, refinements made, verdict.
+unfoldable pub endedText : ℕ → Verdict → Figures → List ℕ
+endedText n v f =
+    decimal n
+    ++ bytes " "
+    ++ decimal (f .low)
+    ++ bytes " "
+    ++ decimal (f .high)
+    ++ bytes " "
+    ++ decimal (f .count)
+    ++ bytes " "
+    ++ word v
+    ++ bytes "\n"
+
+-- A cue's number with a run's answer.
+unfoldable pub answerText : ℕ → RunAnswer → List ℕ
+answerText n (RunAnswer.Ended v f) = endedText n v f
+answerText n (RunAnswer.Refused k) = refusedText k
+
+abbrev pub lineText : Line → List ℕ
+lineText l = answerText (l .cue) (l .answer)
