@@ -3,8 +3,8 @@
 mod lines;
 
 ghost use Prim.Native.Nat.{_<_, _≤_};
-use lines::print_answer;
 use cue_reader::call_after;
+use lines::print_answer;
 
 /// Prints the answers of the first calls of a reader opened on the bytes.
 fn drive(s: &[u8], calls: usize) {

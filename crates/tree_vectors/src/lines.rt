@@ -1,10 +1,11 @@
 //! The printed line of an answer: number, low, high and count, and for a run its verdict, 0 if it has none.
 //! Rests on the answers of `rules`.
 ghost use mathlib.Core.Path.{_≡_};
-ghost use Rattle.rules.specs.Answers.{answerReply, runReply};
+ghost use Rattle.rules.specs.Answers.{accepted, refused, answerReply, runReply};
 ghost use Rattle.tree_vectors.specs.Lines.{lineReply, verdictNumber, endNumber};
 use super::input::wide;
 use rules::Answer;
+use rules::Figures;
 use rules::RunAnswer;
 use rules::Verdict;
 
@@ -16,23 +17,37 @@ pub struct Line {
     pub count: u64,
 }
 
+/// The line of an accepted call.
+fn accepted_line(f: Figures) -> Line
+    ensures { λ r. ⌜ lineReply r ≡ accepted f ⌝ }
+{
+    Line {
+        number: 0,
+        low: f.low,
+        high: f.high,
+        count: f.count,
+    }
+}
+
+/// The line of a refused call.
+fn refused_line(n: u8) -> Line
+    ensures { λ r. ⌜ lineReply r ≡ refused n ⌝ }
+{
+    Line {
+        number: wide(n),
+        low: 0,
+        high: 1000000000,
+        count: 0,
+    }
+}
+
 /// What the answer of an opening or a hand refinement says in the rules' terms.
 pub fn reply(a: Answer) -> Line
     ensures { λ r. ⌜ lineReply r ≡ answerReply a ⌝ }
 {
     match a {
-        Answer::Accepted(f) => Line {
-            number: 0,
-            low: f.low,
-            high: f.high,
-            count: f.count,
-        },
-        Answer::Refused(n) => Line {
-            number: wide(n),
-            low: 0,
-            high: 1000000000,
-            count: 0,
-        },
+        Answer::Accepted(f) => accepted_line(f),
+        Answer::Refused(n) => refused_line(n),
     }
 }
 
@@ -41,18 +56,8 @@ fn run_reply(a: RunAnswer) -> Line
     ensures { λ r. ⌜ lineReply r ≡ runReply a ⌝ }
 {
     match a {
-        RunAnswer::Ended(v, f) => Line {
-            number: 0,
-            low: f.low,
-            high: f.high,
-            count: f.count,
-        },
-        RunAnswer::Refused(n) => Line {
-            number: wide(n),
-            low: 0,
-            high: 1000000000,
-            count: 0,
-        },
+        RunAnswer::Ended(_, f) => accepted_line(f),
+        RunAnswer::Refused(n) => refused_line(n),
     }
 }
 
@@ -73,13 +78,13 @@ fn end_number(a: RunAnswer) -> u64
     ensures { λ r. ⌜ r ≡ endNumber a ⌝ }
 {
     match a {
-        RunAnswer::Ended(v, f) => verdict_number(v),
-        RunAnswer::Refused(n) => 0,
+        RunAnswer::Ended(v, _) => verdict_number(v),
+        RunAnswer::Refused(_) => 0,
     }
 }
 
 /// Prints a number and the byte after it.
-fn print_field(n: u64, after: u8) {
+pub fn print_field(n: u64, after: u8) {
     io::print_decimal(1, n);
     io::write_all(1, &[after]);
 }

@@ -1,8 +1,13 @@
-//! A test: makes each script of standard input, a table and the calls on its tree, and prints a line for each answer.
+//! A test: works through each script of standard input, a table and calls on its tree, and prints a line for each answer and each place.
 //! Rests on `dtree`. An independent implementation of the rules writes the input and the expected lines.
+mod damage;
 mod input;
 mod lines;
+mod places;
 
+use damage::Damage;
+use damage::damaged;
+use damage::undoing;
 use dtree::opening::open;
 use dtree::refining::refine;
 use dtree::runs::run;
@@ -17,6 +22,7 @@ use lines::print_line;
 use lines::print_run;
 use lines::reply;
 use node::no_nodes;
+use places::show;
 use records::Tree;
 use rules::Kind;
 use rules::Limits;
@@ -60,21 +66,51 @@ fn counted(weights: &[u32], present: &[u64], absent: &[u64], tree: Tree) -> Tree
     advanced.tree
 }
 
-/// Makes the next call, 0 for a hand refinement and 1 for a run; gives the tree.
-fn call(weights: &[u32], present: &[u64], absent: &[u64], tree: Tree) -> Tree {
-    if number() == 0 {
+/// Makes the call of this code, 0 for a hand refinement and 1 for a run; gives the tree.
+fn call(code: u64, weights: &[u32], present: &[u64], absent: &[u64], tree: Tree) -> Tree {
+    if code == 0 {
         return hand(weights, present, absent, tree);
     }
     counted(weights, present, absent, tree)
 }
 
-/// Reads how many calls there are and makes them, each with the tree that the one before gave; gives the last.
-fn calls(weights: &[u32], present: &[u64], absent: &[u64], handed: Tree) -> Tree {
+/// Reads a damage and a call, makes the call on the damaged tree; gives the tree that it hands back, with the damage undone.
+fn on_damaged(weights: &[u32], present: &[u64], absent: &[u64], tree: Tree) -> Tree {
+    let record = number() as usize;
+    let field = number();
+    let by = number();
+    let d = Damage { record, field, by };
+    let code = number();
+    let after = call(code, weights, present, absent, damaged(tree, d));
+    damaged(after, undoing(d))
+}
+
+/// Does what the next line asks for: 0 or 1 a call, 2 a call on a damaged tree, 3 all places printed, else a call and all places then,
+/// with the tree kept as it was; gives the tree.
+fn request(weights: &[u32], present: &[u64], absent: &[u64], tree: Tree) -> Tree {
+    let code = number();
+    if code < 2 {
+        return call(code, weights, present, absent, tree);
+    }
+    if code == 2 {
+        return on_damaged(weights, present, absent, tree);
+    }
+    if code == 3 {
+        show(tree);
+    } else {
+        let next = number();
+        show(call(next, weights, present, absent, tree));
+    }
+    tree
+}
+
+/// Reads how many lines there are and does what they ask for, each with the tree that the one before gave; gives the last.
+fn requests(weights: &[u32], present: &[u64], absent: &[u64], handed: Tree) -> Tree {
     let count = number();
     let mut tree = handed;
     let mut done: u64 = 0;
     while done < count {
-        tree = call(weights, present, absent, tree);
+        tree = request(weights, present, absent, tree);
         done += 1;
     }
     tree
@@ -93,7 +129,7 @@ fn script(handed: Tree) -> Tree {
     if opens != 0 {
         tree = opening(&weights[..faults], &present[..presents], &absent[..absents]);
     }
-    calls(
+    requests(
         &weights[..faults],
         &present[..presents],
         &absent[..absents],

@@ -2,8 +2,11 @@
 //! the other side of randomized comparisons with the verified library.
 //! Trees live on the heap and every interval is worked out from scratch.
 
+pub mod damages;
+pub mod figures;
 pub mod leaf;
 pub mod natural;
+pub mod orders;
 pub mod paper;
 pub mod random;
 pub mod report;

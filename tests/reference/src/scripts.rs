@@ -1,6 +1,10 @@
 //! Scripts for the library's test program: a table and the calls on its tree, written by
 //! hand at the edges of the rules, with the answers they must have, and seeded random ones.
+//! The papers' figures by name, damaged trees and lists in several orders have modules of their own.
 
+use crate::damages::damages;
+use crate::figures::figures;
+use crate::orders::orders_of_refinement;
 use crate::paper::{
     cases, chain, easy_to_get_wrong, limits, most_named, orders, p3, p4, p6, p7, ring, widest, H,
     THIRD,
@@ -24,11 +28,32 @@ pub enum Call {
     Run(u64, u64),
 }
 
-/// A table and calls: on its opened tree, or on the tree of the script before.
+/// One number of a tree's records, or of those in use, and what is added to it.
+#[derive(Clone, Copy, Debug)]
+pub struct Damage {
+    pub record: u64,
+    pub field: u64,
+    pub by: u64,
+}
+
+/// What a script asks for after its table.
+#[derive(Clone, Debug)]
+pub enum Line {
+    /// A call on the tree at hand.
+    Call(Call),
+    /// A call on the tree with a damage, which is undone on the tree that it hands back.
+    Damaged(Damage, Call),
+    /// What stands at every place.
+    Show,
+    /// A call and what then stands at every place; the tree at hand stays as it was.
+    Try(Call),
+}
+
+/// A table and lines: on its opened tree, or on the tree of the script before.
 pub struct Script {
     pub opens: bool,
     pub table: Table,
-    pub calls: Vec<Call>,
+    pub lines: Vec<Line>,
 }
 
 /// All scripts, in order.
@@ -49,14 +74,23 @@ pub fn scripts() -> Vec<Script> {
     scripts.extend((0..RANDOM).map(|_| drawn(&mut random, |random| random.table_within(8, 10))));
     scripts.extend((0..RANDOM_ANY_SIZE).map(|_| drawn(&mut random, Random::table)));
     scripts.push(largest());
+    scripts.extend(figures());
+    scripts.extend(damages());
+    scripts.extend(orders_of_refinement());
     scripts
 }
 
+/// The opened table and calls on its tree.
 fn opened(table: Table, calls: Vec<Call>) -> Script {
+    lined(table, calls.into_iter().map(Line::Call).collect())
+}
+
+/// The opened table and lines on its tree.
+pub(crate) fn lined(table: Table, lines: Vec<Line>) -> Script {
     Script {
         opens: true,
         table,
-        calls,
+        lines,
     }
 }
 
@@ -207,13 +241,15 @@ fn full() -> Script {
             by_hand(leaf(State::Open), Act::Independence, 19),
             by_hand(leaf(State::Closed), Act::Fault(64), 18),
             by_hand(vec![2], Act::Fault(64), 17),
+            (Call::Run(0, 256), 15, NONE),
+            (Call::Run(0, 255), 0, FULL),
             (Call::Run(0, 0), 0, FULL),
             (Call::Run(S, 0), 0, MET),
         ],
     )
 }
 
-/// Runs of a and then b against a run of a + b: the same interval, and the counts add up.
+/// Runs of a and then b against a run of a + b: the same places, verdict and further runs, and the counts add up.
 fn cut_in_two(random: &mut Random) -> Vec<Script> {
     let mut tables = vec![widest(), most_named(), p4(), ring()];
     tables.extend((0..6).map(|_| random.table_within(8, 10)));
@@ -222,15 +258,20 @@ fn cut_in_two(random: &mut Random) -> Vec<Script> {
         .flat_map(|table| {
             let (a, b) = (random.between(1, 4) as u64, random.between(1, 8) as u64);
             let (mut cut, mut whole) = (open(&table).1, open(&table).1);
-            let calls = vec![Call::Run(0, a), Call::Run(0, b)];
+            let calls = [Call::Run(0, a), Call::Run(0, b)];
             let first = make(&table, &mut cut, &calls[0]);
             let second = make(&table, &mut cut, &calls[1]);
             let once = make(&table, &mut whole, &Call::Run(0, a + b));
+            assert_eq!(cut, whole);
             assert_eq!((second.low, second.high), (once.low, once.high));
             assert_eq!(first.count + second.count, once.count);
             assert_eq!(second.verdict, once.verdict);
-            let whole = opened(table.clone(), vec![Call::Run(0, a + b)]);
-            [opened(table, calls), whole]
+            let and_then = |calls: &[Call]| {
+                let then = [Line::Show, Line::Try(Call::Run(0, 2))];
+                let calls = calls.iter().cloned().map(Line::Call);
+                lined(table.clone(), calls.chain(then).collect())
+            };
+            [and_then(&calls), and_then(&[Call::Run(0, a + b)])]
         })
         .collect()
 }
@@ -243,10 +284,11 @@ fn handed(tree: &mut Tree, table: Table, calls: &[(Call, u64)]) -> Script {
         let answer = make(&table, tree, call);
         assert_eq!(answer.number, *number, "{call:?} of {table:?}");
     }
+    let calls = calls.iter().map(|(call, _)| Line::Call(call.clone()));
     Script {
         opens: false,
         table,
-        calls: calls.iter().map(|(call, _)| call.clone()).collect(),
+        lines: calls.collect(),
     }
 }
 
@@ -309,7 +351,8 @@ fn mostly_open(random: &mut Random, table: fn(&mut Random) -> Table) -> Table {
     }
 }
 
-fn any_call(random: &mut Random, table: &Table, tree: &Tree) -> Call {
+/// Any call, about half of them such as the rules accept.
+pub(crate) fn any_call(random: &mut Random, table: &Table, tree: &Tree) -> Call {
     match random.below(6) {
         0 => Call::Run(random.allowance(), random.budget()),
         1 => Call::Run(0, random.between(0, 3) as u64),

@@ -4,9 +4,9 @@
 
 use crate::paper::{cases, limits, orders};
 use crate::run::run;
-use crate::scripts::{scripts, Call, Script};
+use crate::scripts::{scripts, Call, Damage, Line, Script};
 use crate::table::Count;
-use crate::tree::{open, refine_by_hand};
+use crate::tree::{open, refine_by_hand, Entry, State};
 use crate::{Act, Answer, Table, Tree, LONGEST_PLACE};
 
 /// Up to so many faults an interval is set beside a count over all assignments.
@@ -23,10 +23,13 @@ pub struct Vectors {
 
 /// The input: how many scripts, then for each a line with 1 if its table is opened or 0 if
 /// the tree of the script before is handed on, the lengths of the three lists, the
-/// weights, the present and the absent words and how many calls there are, then a line for
-/// each call: 0, the length of the place, its steps, 0 for independence or 1 for a fault
-/// and the fault; or 1, allowance and budget. The expected lines: number, low, high and
-/// count, and a run's verdict. Panics where an answer breaks the paper.
+/// weights, the present and the absent words and how many lines follow. A line is a call: 0,
+/// the length of the place, its steps, 0 for independence or 1 for a fault and the fault; or
+/// 1, allowance and budget. Or it is 2, the record, the field and what is added there, and a
+/// call; or 3, all places; or 4 and a call, with all places then and the tree kept as it was.
+/// The expected lines: number, low, high and count, and a run's verdict; of a place 1 for a
+/// leaf, 2 for independence, 3 for a fault, the fault, 1 for an open leaf, low and high, a
+/// node before those below it, left before right. Panics where an answer breaks the paper.
 pub fn vectors() -> Vectors {
     check_paper();
     let scripts = scripts();
@@ -47,28 +50,64 @@ impl Vectors {
         let Script {
             opens,
             table,
-            calls,
+            lines,
         } = script;
         let mut head = vec![u64::from(*opens)];
         head.extend(table_numbers(table));
-        head.push(calls.len() as u64);
-        self.input.push_str(&line(&head));
+        head.push(lines.len() as u64);
+        self.input.push_str(&text(&head));
         let counted = Counted::new(table);
         if *opens {
             let (answer, opened) = open(table);
             *tree = opened;
             counted.check(&answer);
-            self.expected.push_str(&line(&figures(&answer)));
+            self.expected.push_str(&text(&figures(&answer)));
         }
-        for call in calls {
-            self.input.push_str(&line(&call_numbers(call)));
-            let answer = make(table, tree, call);
-            counted.check(&answer);
-            let mut told = figures(&answer).to_vec();
-            if let Call::Run(..) = call {
-                told.push(answer.verdict);
+        for line in lines {
+            self.input.push_str(&text(&line_numbers(line)));
+            self.answer(&counted, tree, line);
+        }
+    }
+
+    /// Adds what a line must print, and brings the tree where it leads.
+    fn answer(&mut self, counted: &Counted, tree: &mut Tree, line: &Line) {
+        let table = counted.table;
+        match line {
+            Line::Call(call) => self.tell(counted, call, make(table, tree, call)),
+            Line::Damaged(damage, call) => {
+                let answer = make_damaged(table, tree, *damage, call);
+                self.tell(counted, call, answer);
             }
-            self.expected.push_str(&line(&told));
+            Line::Show => self.show(counted, tree),
+            Line::Try(call) => {
+                let mut tried = tree.clone();
+                self.tell(counted, call, make(table, &mut tried, call));
+                self.show(counted, &tried);
+            }
+        }
+    }
+
+    fn tell(&mut self, counted: &Counted, call: &Call, answer: Answer) {
+        counted.check(&answer);
+        let mut told = figures(&answer).to_vec();
+        if let Call::Run(..) = call {
+            told.push(answer.verdict);
+        }
+        self.expected.push_str(&text(&told));
+    }
+
+    fn show(&mut self, counted: &Counted, tree: &Tree) {
+        for entry in tree.places(counted.table) {
+            counted.check_place(&entry);
+            let (kind, fault, open) = match entry.state {
+                State::Closed => (1, 0, 0),
+                State::Open => (1, 0, 1),
+                State::Refined(Act::Independence) => (2, 0, 0),
+                State::Refined(Act::Fault(fault)) => (3, fault, 0),
+            };
+            let interval = entry.interval;
+            let told = [kind, fault, open, interval.low, interval.high];
+            self.expected.push_str(&text(&told));
         }
     }
 }
@@ -81,12 +120,35 @@ pub fn make(table: &Table, tree: &mut Tree, call: &Call) -> Answer {
     }
 }
 
+/// Makes a call on a tree with a damage. A changed number leaves no tree that 16 spares (`damages`
+/// says why), so the answer is that for a tree without nodes, and the tree stays as it was.
+fn make_damaged(table: &Table, tree: &mut Tree, damage: Damage, call: &Call) -> Answer {
+    if damage.by == 0 {
+        make(table, tree, call)
+    } else {
+        make(table, &mut Tree::default(), call)
+    }
+}
+
 fn table_numbers(table: &Table) -> Vec<u64> {
     let lengths = [table.faults(), table.present.len(), table.absent.len()];
     let lengths = lengths.iter().map(|&length| length as u64);
     let weights = table.weights.iter().map(|&weight| u64::from(weight));
     let words = table.present.iter().chain(&table.absent).copied();
     lengths.chain(weights).chain(words).collect()
+}
+
+fn line_numbers(line: &Line) -> Vec<u64> {
+    let (mut numbers, call) = match line {
+        Line::Call(call) => (vec![], Some(call)),
+        Line::Damaged(Damage { record, field, by }, call) => {
+            (vec![2, *record, *field, *by], Some(call))
+        }
+        Line::Show => (vec![3], None),
+        Line::Try(call) => (vec![4], Some(call)),
+    };
+    numbers.extend(call.into_iter().flat_map(call_numbers));
+    numbers
 }
 
 /// Panics at a number that its type in the library does not hold.
@@ -114,7 +176,7 @@ fn figures(answer: &Answer) -> [u64; 4] {
     [answer.number, answer.low, answer.high, answer.count]
 }
 
-fn line(numbers: &[u64]) -> String {
+fn text(numbers: &[u64]) -> String {
     let words: Vec<String> = numbers.iter().map(u64::to_string).collect();
     words.join(" ") + "\n"
 }
@@ -139,6 +201,13 @@ impl Counted<'_> {
             let encloses = count.encloses(answer.low, answer.high, &self.table.ways());
             assert!(encloses, "{answer:?} does not enclose: {:?}", self.table);
         }
+    }
+
+    /// A place's interval encloses the chance of its remaining ways.
+    fn check_place(&self, entry: &Entry) {
+        let Some(count) = &self.count else { return };
+        let encloses = count.encloses(entry.interval.low, entry.interval.high, &entry.ways);
+        assert!(encloses, "{entry:?} does not enclose: {:?}", self.table);
     }
 }
 

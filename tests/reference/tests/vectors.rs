@@ -18,12 +18,13 @@ fn the_stored_files_are_this_implementations_own() {
     assert!(stored("stdout") == vectors.expected.as_bytes());
 }
 
-/// Every number from 9 to 20 and every verdict is among the stored lines.
+/// Every number from 9 to 20 and every verdict is among the stored lines. The line of a place starts with 1, 2 or 3.
 #[test]
 fn every_number_and_verdict_occurs() {
     let expected = String::from_utf8(stored("stdout")).expect("decimal digits");
     let lines = expected.lines().map(|line| line.split(' ').collect());
-    let lines: Vec<Vec<&str>> = lines.collect();
+    let of_call = |line: &Vec<&str>| !["1", "2", "3"].contains(&line[0]);
+    let lines: Vec<Vec<&str>> = lines.filter(of_call).collect();
     for number in (9..=20).chain([0]) {
         let number = number.to_string();
         assert!(lines.iter().any(|line| line[0] == number), "{number}");

@@ -1,9 +1,9 @@
--- `calls` is safe and ends. Nothing has to hold from turn to turn; the measure is the calls that are left.
--- Rests on the contracts of `number` and `call`.
+-- `requests` is safe and ends. Nothing has to hold from turn to turn; the measure is the lines that are left.
+-- Rests on the contracts of `number` and `request`.
 use Prim.Native.Nat.{_-_}
 use borrow.Author.Needs.{needs}
-use Rattle.tree_vectors.proofs.calls.Statement.{statement}
-use Rattle.tree_vectors.proofs.calls.Tie as tie
+use Rattle.tree_vectors.proofs.requests.Statement.{statement}
+use Rattle.tree_vectors.proofs.requests.Tie as tie
 
 abbrev Inv-loop : tie.InvT-loop
 Inv-loop weights present absent count tree₀ done₀ tree done = Unit {0}
@@ -17,8 +17,8 @@ number-requires c κs = search needs
 loop-holds : tie.Need-loop-holds Inv-loop μ-loop
 loop-holds c = search needs
 
-call-requires : tie.Need-call-requires Inv-loop μ-loop
-call-requires c κs = search needs
+request-requires : tie.Need-request-requires Inv-loop μ-loop
+request-requires c κs = search needs
 
 add-done : tie.Need-add-done Inv-loop μ-loop
 add-done c = search needs
@@ -32,15 +32,15 @@ loop-again c = search needs
 returns : tie.Need-returns Inv-loop μ-loop
 returns c = search needs
 
-pub calls-spec : {M : Type 1} → statement M
-calls-spec =
+pub requests-spec : {M : Type 1} → statement M
+requests-spec =
     tie.close
     (tie.spec
     Inv-loop
     μ-loop
     number-requires
     loop-holds
-    call-requires
+    request-requires
     add-done
     loop-less
     loop-again

@@ -1,0 +1,185 @@
+//! The figures that are easy to get wrong and those to be run in the tests, each by name and typed by hand: the
+//! root leaf's interval, then for each call number, low, high, count and verdict.
+
+use crate::paper::{
+    chain, equal_ways, most_named, one_division, one_pass, own_interval, p3, p4, p6, p7, p8,
+    skipped, widest, with_empty_way, H,
+};
+use crate::scripts::{lined, Call, Line, Script};
+use crate::tree::{open, State};
+use crate::vectors::make;
+use crate::{Act, Answer, Table, DONE, MET, NONE, S, SPENT};
+
+/// A name, a table, its root leaf's interval, and calls with all that they must answer.
+type Figures = (&'static str, Table, (u64, u64), Vec<(Call, [u64; 5])>);
+
+/// All of them as scripts, every place shown at the end.
+pub fn figures() -> Vec<Script> {
+    let mut scripts: Vec<Script> = roots_and_widths().into_iter().map(held).collect();
+    scripts.extend(stops().into_iter().map(held));
+    scripts.push(counted_thrice());
+    scripts
+}
+
+fn run(allowance: u64, budget: u64, answer: [u64; 5]) -> (Call, [u64; 5]) {
+    (Call::Run(allowance, budget), answer)
+}
+
+fn by_hand(place: &[u8], act: Act, answer: [u64; 5]) -> (Call, [u64; 5]) {
+    (Call::Hand(place.to_vec(), act), answer)
+}
+
+fn roots_and_widths() -> Vec<Figures> {
+    let q3 = 750_000_000;
+    let half = 500_000_000;
+    let end = |low, high, count, verdict| run(0, 255, [0, low, high, count, verdict]);
+    let own = run(0, 1, [0, 625_000_000, q3, 1, SPENT]);
+    let narrow = run(50_000_000, 255, [0, 156_250_000, 203_125_000, 6, MET]);
+    let closed = by_hand(&[], Act::Fault(0), [18, 0, S, 0, NONE]);
+    let nothing = Table::of(&[H], &[]);
+    vec![
+        (
+            "one pass, both senses mixed",
+            one_pass(),
+            (49_999_999, 50_000_000),
+            vec![end(49_999_999, 50_000_000, 0, DONE)],
+        ),
+        (
+            "never compared with a skipped way",
+            skipped(),
+            (q3, S),
+            vec![],
+        ),
+        (
+            "groups through chains",
+            chain(),
+            (q3, S),
+            vec![end(q3, q3, 2, MET)],
+        ),
+        (
+            "the leaf's own width",
+            widest(),
+            (121_093_750, 250_000_000),
+            vec![narrow],
+        ),
+        (
+            "overlap with the own interval",
+            own_interval(),
+            (625_000_000, 750_000_001),
+            vec![own],
+        ),
+        (
+            "one division for a node",
+            one_division(),
+            (499_999_999, half + 1),
+            vec![end(half, half, 1, MET)],
+        ),
+        (
+            "an empty way",
+            with_empty_way(),
+            (S, S),
+            vec![closed.clone(), end(S, S, 0, MET)],
+        ),
+        ("no ways", nothing, (0, 0), vec![closed, end(0, 0, 0, MET)]),
+        (
+            "equal ways",
+            equal_ways(),
+            (half, S),
+            vec![end(half, half, 1, MET)],
+        ),
+    ]
+}
+
+fn stops() -> Vec<Figures> {
+    let of_p3 = (111_111_110, 111_111_111);
+    let of_p4 = (250_000_000, 350_000_000);
+    vec![
+        (
+            "P3 with allowance 0 is done",
+            p3(),
+            of_p3,
+            vec![run(0, 255, [0, of_p3.0, of_p3.1, 0, DONE])],
+        ),
+        (
+            "P3 with allowance 1 is met",
+            p3(),
+            of_p3,
+            vec![run(1, 255, [0, of_p3.0, of_p3.1, 0, MET])],
+        ),
+        (
+            "met after the last budgeted refinement",
+            p6(),
+            (500_000_000, S),
+            vec![run(0, 1, [0, S, S, 1, MET])],
+        ),
+        (
+            "done after the last budgeted refinement",
+            p8(),
+            (555_555_555, 666_666_666),
+            vec![run(0, 1, [0, 555_555_555, 555_555_556, 1, DONE])],
+        ),
+        (
+            "spent counts this run",
+            p4(),
+            of_p4,
+            vec![
+                run(0, 0, [0, of_p4.0, of_p4.1, 0, SPENT]),
+                run(0, 1, [0, 300_000_000, 350_000_000, 1, SPENT]),
+                run(0, 0, [0, 300_000_000, 350_000_000, 0, SPENT]),
+                run(0, 1, [0, 300_000_000, 300_000_000, 1, MET]),
+            ],
+        ),
+        (
+            "the whole sheet's cue 7",
+            p4(),
+            of_p4,
+            vec![run(10_000_000, 40, [0, 300_000_000, 300_000_000, 2, MET])],
+        ),
+        (
+            "a fault by hand where the ways fall apart",
+            p7(),
+            (840_000_000, S),
+            vec![by_hand(
+                &[],
+                Act::Fault(1),
+                [0, 840_000_000, 840_000_000, 1, NONE],
+            )],
+        ),
+    ]
+}
+
+/// A script whose answers are the typed ones.
+fn held((name, table, root, calls): Figures) -> Script {
+    let (opened, mut tree) = open(&table);
+    assert_eq!(told(&opened), [0, root.0, root.1, 0, NONE], "{name}");
+    for (call, answer) in &calls {
+        assert_eq!(told(&make(&table, &mut tree, call)), *answer, "{name}");
+    }
+    let mut lines: Vec<Line> = calls
+        .into_iter()
+        .map(|(call, _)| Line::Call(call))
+        .collect();
+    lines.push(Line::Show);
+    lined(table, lines)
+}
+
+fn told(answer: &Answer) -> [u64; 5] {
+    let Answer {
+        number,
+        low,
+        high,
+        count,
+        verdict,
+    } = *answer;
+    [number, low, high, count, verdict]
+}
+
+/// The fault named in most ways counts equal ways each: a run takes fault 1.
+fn counted_thrice() -> Script {
+    let table = most_named();
+    let (_, mut tree) = open(&table);
+    make(&table, &mut tree, &Call::Run(0, 1));
+    let root = &tree.places(&table)[0];
+    assert_eq!(root.state, State::Refined(Act::Fault(1)));
+    lined(table, vec![Line::Call(Call::Run(0, 1)), Line::Show])
+}
