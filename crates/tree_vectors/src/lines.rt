@@ -3,7 +3,7 @@
 ghost use mathlib.Core.Path.{_≡_};
 ghost use Rattle.rules.specs.Answers.{accepted, refused, answerReply, runReply};
 ghost use Rattle.tree_vectors.specs.Lines.{lineReply, verdictNumber, endNumber};
-use super::input::wide;
+use numbers::wide;
 use rules::Answer;
 use rules::Figures;
 use rules::RunAnswer;

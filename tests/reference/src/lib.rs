@@ -4,6 +4,7 @@
 
 pub mod damages;
 pub mod figures;
+pub mod files;
 pub mod leaf;
 pub mod natural;
 pub mod orders;
@@ -13,9 +14,11 @@ pub mod report;
 pub mod run;
 pub mod scripts;
 pub mod sheet;
+pub mod sheets;
 pub mod table;
 pub mod tree;
 pub mod vectors;
+pub mod writes;
 
 pub use table::Table;
 pub use tree::{Act, Tree};

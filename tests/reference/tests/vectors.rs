@@ -1,27 +1,34 @@
-//! The stored input and expected output of the test program that opens tables and refines
-//! trees are just what this implementation writes.
+//! The stored input and expected output of the test programs are just what this implementation writes, and
+//! between them every number and every verdict occurs.
 
+use reference::files::{stored, stored_text};
+use reference::sheets::sheets;
 use reference::vectors::vectors;
-use std::{fs, path::Path};
-
-/// A file of the test program's crate.
-fn stored(name: &str) -> Vec<u8> {
-    let root = Path::new(env!("CARGO_MANIFEST_DIR")).join("../..");
-    let file = root.join("crates/tree_vectors").join(name);
-    fs::read(&file).unwrap_or_else(|error| panic!("{}: {error}", file.display()))
-}
+use reference::writes::writes;
 
 #[test]
-fn the_stored_files_are_this_implementations_own() {
+fn the_stored_trees_are_this_implementations_own() {
     let vectors = vectors();
-    assert!(stored("stdin") == vectors.input.as_bytes());
-    assert!(stored("stdout") == vectors.expected.as_bytes());
+    assert!(stored("crates/tree_vectors/stdin") == vectors.input.as_bytes());
+    assert!(stored("crates/tree_vectors/stdout") == vectors.expected.as_bytes());
 }
 
-/// Every number from 9 to 20 and every verdict is among the stored lines. The line of a place starts with 1, 2 or 3.
 #[test]
-fn every_number_and_verdict_occurs() {
-    let expected = String::from_utf8(stored("stdout")).expect("decimal digits");
+fn the_stored_sheets_are_this_implementations_own() {
+    assert!(stored("crates/sheet_vectors/stdout") == sheets().as_bytes());
+}
+
+#[test]
+fn the_stored_writes_are_this_implementations_own() {
+    let writes = writes();
+    assert!(stored("crates/writer_vectors/stdin") == writes.input.as_bytes());
+    assert!(stored("crates/writer_vectors/stdout") == writes.expected.as_bytes());
+}
+
+/// Every number from 9 to 20 and every verdict is among the lines of the trees. The line of a place starts with 1, 2 or 3.
+#[test]
+fn every_number_and_verdict_of_trees_occurs() {
+    let expected = stored_text("crates/tree_vectors/stdout");
     let lines = expected.lines().map(|line| line.split(' ').collect());
     let of_call = |line: &Vec<&str>| !["1", "2", "3"].contains(&line[0]);
     let lines: Vec<Vec<&str>> = lines.filter(of_call).collect();
@@ -33,5 +40,34 @@ fn every_number_and_verdict_occurs() {
         let verdict = verdict.to_string();
         let told = |line: &Vec<&str>| line.get(4) == Some(&&verdict[..]);
         assert!(lines.iter().any(told), "verdict {verdict}");
+    }
+}
+
+/// Every number that reading knows is among the reports, and the paper's lines with budget 40 and with budget 1.
+#[test]
+fn every_number_of_reading_occurs() {
+    let expected = stored_text("crates/sheet_vectors/stdout");
+    let told = |wanted: &str| expected.lines().any(|line| line == wanted);
+    for number in (1..=8).chain([10]).chain(12..=15) {
+        assert!(told(&format!("refused {number}")), "{number}");
+    }
+    for line in [
+        "7 300000000 300000000 2 met",
+        "7 300000000 350000000 1 spent",
+    ] {
+        assert!(told(line), "{line}");
+    }
+}
+
+/// Every number that writing knows is among the answers; a case's line has its name before a colon.
+#[test]
+fn every_number_of_writing_occurs() {
+    let expected = stored_text("crates/writer_vectors/stdout");
+    let answers = expected.lines().filter_map(|line| line.split_once(": "));
+    let numbers: Vec<&str> = answers
+        .filter_map(|(_, answer)| answer.split(' ').next())
+        .collect();
+    for number in [0, 2, 5, 6, 10, 12, 13, 14, 15, 21, 22] {
+        assert!(numbers.contains(&&number.to_string()[..]), "{number}");
     }
 }

@@ -1,16 +1,16 @@
--- `weight_list` meets its contract. The loop's invariant: i is at most the count, and the array keeps its length.
--- Rests on the contract of `half`.
+-- `word_list` meets its contract. The loop's invariant: i is at most the count, and the array keeps its length.
+-- Rests on the contract of `number`.
 use mathlib.Core.Path.{_≡_, sym}
 use Prim.Native.Nat.{_≤_, _-_}
 use lib.ListN.{length}
 use lib.Seq.{length-take-le}
 use native.Mathlib.Omega.{arith}
 use borrow.Author.Needs.{needs}
-use Rattle.tree_vectors.proofs.input.weight_list.Statement.{statement}
-use Rattle.tree_vectors.proofs.input.weight_list.Tie as tie
+use Rattle.writer_vectors.proofs.input.word_list.Statement.{statement}
+use Rattle.writer_vectors.proofs.input.word_list.Tie as tie
 
 abbrev Inv-loop : tie.InvT-loop
-Inv-loop count list₀ i₀ list i = (i ≤ count) × (length list ≡ 65)
+Inv-loop count list₀ i₀ list i = (i ≤ count) × (length list ≡ 3073)
 
 abbrev μ-loop : tie.MeasureT-loop
 μ-loop count list₀ i₀ list i = count - i
@@ -18,8 +18,8 @@ abbrev μ-loop : tie.MeasureT-loop
 loop-holds : tie.Need-loop-holds Inv-loop μ-loop
 loop-holds c = search needs
 
-half-requires : tie.Need-half-requires Inv-loop μ-loop
-half-requires c κs = search needs
+number-requires : tie.Need-number-requires Inv-loop μ-loop
+number-requires c κs = search needs
 
 mul-list : tie.Need-mul-list Inv-loop μ-loop
 mul-list c = search needs
@@ -41,14 +41,14 @@ returns c =
     let h : c .before .before .args .count ≤ length (c .before .loop .list) = omega arith in
     (h, sym (length-take-le _ _ h))
 
-pub weight-list-spec : {M : Type 1} → statement M
-weight-list-spec =
+pub word-list-spec : {M : Type 1} → statement M
+word-list-spec =
     tie.close
     (tie.spec
     Inv-loop
     μ-loop
     loop-holds
-    half-requires
+    number-requires
     mul-list
     array-write-list
     add-i

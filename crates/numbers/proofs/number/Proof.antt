@@ -2,8 +2,8 @@
 -- Rests on the contracts of `byte` and `longer`.
 use Prim.Native.Nat.{_-_}
 use borrow.Author.Needs.{needs}
-use Rattle.tree_vectors.proofs.input.number.Statement.{statement}
-use Rattle.tree_vectors.proofs.input.number.Tie as tie
+use Rattle.numbers.proofs.number.Statement.{statement}
+use Rattle.numbers.proofs.number.Tie as tie
 
 abbrev Inv-loop : tie.InvT-loop
 Inv-loop n₀ digits₀ n digits = Unit {0}

@@ -1,0 +1,147 @@
+//! Runs the program on many inputs, each through a pipe, and stops at the first output that is not the reference's own:
+//! `cargo run --bin run_program -- PROGRAM COUNT FAILED`. COUNT of the inputs are seeded sheets; the others are always
+//! the same. The input that fails is left in the file FAILED.
+
+use reference::files::stored;
+use reference::paper::{ring, whole_sheet};
+use reference::random::Random;
+use reference::report::report;
+use reference::sheet::{encode, Sheet};
+use std::io::Write;
+use std::process::{Command, Stdio};
+use std::{env, fs, io};
+
+/// The program under test, where a failing input goes, and how many inputs it was run on.
+struct Program<'a> {
+    path: &'a str,
+    failed: &'a str,
+    runs: usize,
+}
+
+impl Program<'_> {
+    /// What the program prints for an input. It may end before it has read all of a long one.
+    fn printed(&self, bytes: &[u8]) -> io::Result<Vec<u8>> {
+        let mut child = Command::new(self.path)
+            .stdin(Stdio::piped())
+            .stdout(Stdio::piped())
+            .spawn()?;
+        if let Some(mut input) = child.stdin.take() {
+            match input.write_all(bytes) {
+                Err(error) if error.kind() != io::ErrorKind::BrokenPipe => return Err(error),
+                _ => {}
+            }
+        }
+        let output = child.wait_with_output()?;
+        if !output.status.success() {
+            return Err(io::Error::other(format!("{}", output.status)));
+        }
+        Ok(output.stdout)
+    }
+
+    fn check(&mut self, name: &str, bytes: &[u8]) -> io::Result<()> {
+        self.runs += 1;
+        let expected = report(bytes);
+        match self.printed(bytes) {
+            Ok(printed) if printed == expected.as_bytes() => Ok(()),
+            other => {
+                fs::write(self.failed, bytes)?;
+                let printed = other.map(|text| String::from_utf8_lossy(&text).into_owned());
+                let told = format!("{name}: expected {expected:?}, the program: {printed:?}");
+                Err(io::Error::other(told))
+            }
+        }
+    }
+}
+
+/// A sheet whose one cue takes all 255 refinements, so that its run ends full.
+fn full() -> Sheet {
+    let table = ring();
+    Sheet {
+        cues: vec![1],
+        counts: vec![table.present.len() as u16],
+        weights: table.weights,
+        present: table.present,
+        absent: table.absent,
+        allowance: 0,
+        budget: 255,
+    }
+}
+
+/// The i-th seeded input: two sound sheets to a damaged one, most of the sound ones small, a few of the longest kind.
+fn sheet(random: &mut Random, i: usize) -> Vec<u8> {
+    match i {
+        _ if i % 600 == 599 => encode(&random.longest_sheet()),
+        _ if i % 3 == 2 => random.damaged_sheet(),
+        _ if i % 10 == 0 => encode(&random.sheet()),
+        _ => encode(&random.sheet_within(12, 6, 8)),
+    }
+}
+
+/// Every beginning of a sheet, the whole included.
+fn cut(program: &mut Program, name: &str, bytes: &[u8]) -> io::Result<()> {
+    for length in 0..=bytes.len() {
+        program.check(&format!("{name}, {length} bytes"), &bytes[..length])?;
+    }
+    Ok(())
+}
+
+/// Every byte of a sheet set to values that are often special.
+fn damage(program: &mut Program, name: &str, bytes: &[u8]) -> io::Result<()> {
+    for at in 0..bytes.len() {
+        for value in [0, 1, 2, 64, 127, 128, 255] {
+            let mut damaged = bytes.to_vec();
+            damaged[at] = value;
+            program.check(&format!("{name}, byte {at} is {value}"), &damaged)?;
+        }
+    }
+    Ok(())
+}
+
+/// Inputs of many lengths, up to far above the longest sheet, that are no sheets.
+fn noise(program: &mut Program, random: &mut Random) -> io::Result<()> {
+    let steps = (1..60).map(|thousands| 1000 * thousands);
+    let edges = [4095, 4096, 4097, 49_611, 49_612, 49_613, 49_614, 60_000];
+    for length in (0..64).chain(steps).chain(edges) {
+        program.check(&format!("{length} zeros"), &vec![0; length])?;
+        program.check(&format!("{length} bytes 255"), &vec![255; length])?;
+        let mut bytes: Vec<u8> = (0..length).map(|_| random.draw() as u8).collect();
+        program.check(&format!("{length} random bytes"), &bytes)?;
+        // The same behind a head that is in order: 64 faults, 24 cues.
+        for (place, byte) in bytes.iter_mut().zip([64, 0, 24, 0, 0, 0, 0, 0, 9, 0, 0, 0]) {
+            *place = byte;
+        }
+        program.check(&format!("a head, {length} bytes in all"), &bytes)?;
+    }
+    Ok(())
+}
+
+fn main() -> io::Result<()> {
+    let words: Vec<String> = env::args().skip(1).collect();
+    let [path, count, failed] = &words[..] else {
+        return Err(io::Error::other("usage: run_program PROGRAM COUNT FAILED"));
+    };
+    let count: usize = count.parse().map_err(io::Error::other)?;
+    let mut program = Program {
+        path,
+        failed,
+        runs: 0,
+    };
+    let mut random = Random::new(20);
+    for i in 0..count {
+        program.check(&format!("seeded sheet {i}"), &sheet(&mut random, i))?;
+    }
+    program.check("full", &encode(&full()))?;
+    let paper = encode(&whole_sheet(40));
+    cut(&mut program, "paper", &paper)?;
+    damage(&mut program, "paper", &paper)?;
+    cut(&mut program, "show", &stored("samples/show.sheet"))?;
+    let mut longer = encode(&random.longest_sheet());
+    longer.resize(60_000, 0);
+    program.check("longest with zeros behind", &longer)?;
+    noise(&mut program, &mut random)?;
+    println!(
+        "{} inputs: the program prints what the reference does",
+        program.runs
+    );
+    Ok(())
+}
