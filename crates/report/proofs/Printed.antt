@@ -16,17 +16,13 @@ use Rattle.rules.specs.Text.{line}
 use Rattle.rules.specs.declared.Limits.{Limits}
 use Rattle.rules.specs.declared.Entry.{Entry}
 use Rattle.rules.specs.declared.RunAnswer.{RunAnswer}
+use Rattle.rules.proofs.Bytes.{each-below}
 use Rattle.rules.proofs.First.{none-applies, first-later, first-none}
 use Rattle.rules.proofs.Demand3.{run-number}
 use Rattle.rules.proofs.CueTables.{In, read-cue-accepted}
 use Rattle.rules.proofs.ReaderCalls.{cues-decoded, hands-over}
 use Rattle.sheet.proofs.Tables.{entry-parts}
 use Rattle.report.specs.Lines.{tableIn, answerText, endedText}
-
--- Each element is below a limit, so all are.
-pub each-below : (m : ℕ) (xs : List ℕ) → ((i : ℕ) → getD xs i 0 < m) → AllBelow m xs
-each-below m [] h = tt
-each-below m (x ∷ xs) h = (h 0, each-below m xs (λ i. h (suc i)))
 
 -- A cue before the last is one of the list.
 listed : (cs : List Cue) (i : ℕ) (d : Cue) → i < length cs → In (getD cs i d) cs

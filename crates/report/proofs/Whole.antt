@@ -19,7 +19,8 @@ use Rattle.report.specs.Appended.{held, appended}
 use Rattle.report.specs.Lines.{refusedText}
 use Rattle.report.specs.Reported.{Reported}
 use Rattle.report.proofs.Appending.{said, then, held-both}
-use Rattle.report.proofs.Printed.{noCue, each-below}
+use Rattle.rules.proofs.Bytes.{each-below}
+use Rattle.report.proofs.Printed.{noCue}
 
 -- ---- the lines of all cues
 

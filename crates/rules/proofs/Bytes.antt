@@ -5,13 +5,18 @@ use mathlib.Core.List.{List, [], _∷_, _++_}
 use Prim.Native.Nat.{ℕ, zero, suc, _+_, _*_, _/_, _%_, _^_, _<_, _≤_}
 use native.Mathlib.Nat.{add-zero, pow-suc, mul-suc, zero-lt-suc, one-le-pow}
 use native.Mathlib.Omega.{arith}
-use lib.ListN.{length, take, drop, length-drop}
+use lib.ListN.{length, getD, take, drop, length-drop}
 use lib.Seq.{take-add, drop-drop, take-take, length-take-le}
 use Rattle.rules.specs.Sheet.{little, value, field, column, AllBelow}
 
 -- ---- numbers below a limit
 
 -- Two lists below a limit, joined.
+-- Each element is below a limit, so all are.
+pub each-below : (m : ℕ) (xs : List ℕ) → ((i : ℕ) → getD xs i 0 < m) → AllBelow m xs
+each-below m [] h = tt
+each-below m (x ∷ xs) h = (h 0, each-below m xs (λ i. h (suc i)))
+
 pub below-append : (m : ℕ) (xs ys : List ℕ) → AllBelow m xs → AllBelow m ys → AllBelow m (xs ++ ys)
 below-append m [] ys h k = k
 below-append m (x ∷ xs) ys h k = (h .0, below-append m xs ys (h .1) k)

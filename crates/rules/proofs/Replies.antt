@@ -32,7 +32,8 @@ pub cue-reply : (bs : List ℕ) (i : ℕ) → cueReply (cueAnswer bs i) ≡ coun
 unfolding cueAnswer
 cue-reply bs i = cue-by (readNumber bs) (ltb i (cuesIn bs)) (entryIn bs i)
 
-write-by : (n k : ℕ) → writeReply (writeAnswerBy n k) ≡ countedBy n k
+-- The writer's answer by its number; the report's goes by it too.
+pub write-by : (n k : ℕ) → writeReply (writeAnswerBy n k) ≡ countedBy n k
 unfolding writeAnswerBy countedBy
 write-by zero k = refl
 write-by (suc n) k = refl

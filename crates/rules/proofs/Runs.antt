@@ -42,7 +42,7 @@ choice-possible ws vs h o = by (fallApart vs) refl
         named-occurs _ vs (omega (arith, occurs-named (r .0) vs (r .2), most-named (length ws) (r .0) vs (r .1)))
 
 -- The ways of a leaf name no fault beyond the table's.
-leaf-inside : (n : ℕ) (p : Place) (vs : List Way) (s : DTree) (us : List Way) → namesBeyond n vs ≡ false → leafWays p vs s ≡ some us → namesBeyond n us ≡ false
+pub leaf-inside : (n : ℕ) (p : Place) (vs : List Way) (s : DTree) (us : List Way) → namesBeyond n vs ≡ false → leafWays p vs s ≡ some us → namesBeyond n us ≡ false
 unfolding leafWays
 leaf-inside n [] vs leaf us h e = subst (λ (x : List Way). namesBeyond n x ≡ false) (Option·some-injective vs us e) h
 leaf-inside n [] vs (inner k l r) us h e = absurd (Option·none-ne-some _ e)

@@ -11,12 +11,16 @@ use crate::vectors::make;
 use crate::{Act, Answer, Table, DONE, MET, NONE, S, SPENT};
 
 /// A name, a table, its root leaf's interval, and calls with all that they must answer.
-type Figures = (&'static str, Table, (u64, u64), Vec<(Call, [u64; 5])>);
+pub type Figures = (&'static str, Table, (u64, u64), Vec<(Call, [u64; 5])>);
+
+/// All of them.
+pub fn typed() -> Vec<Figures> {
+    [roots_and_widths(), stops()].concat()
+}
 
 /// All of them as scripts, every place shown at the end.
 pub fn figures() -> Vec<Script> {
-    let mut scripts: Vec<Script> = roots_and_widths().into_iter().map(held).collect();
-    scripts.extend(stops().into_iter().map(held));
+    let mut scripts: Vec<Script> = typed().into_iter().map(held).collect();
     scripts.push(counted_thrice());
     scripts
 }

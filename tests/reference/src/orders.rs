@@ -97,7 +97,7 @@ fn further_runs(table: &Table, tree: &Tree) -> Vec<Call> {
 
 /// Calls in an order of their own that lead from the opening to the same places refined: hand
 /// refinements, refused calls, and runs where one takes only what is wanted.
-fn toward(random: &mut Random, table: &Table, target: &Tree, runs: bool) -> Vec<Call> {
+pub fn toward(random: &mut Random, table: &Table, target: &Tree, runs: bool) -> Vec<Call> {
     let wanted = refined(table, target);
     let mut tree = open(table).1;
     let mut calls = Vec::new();

@@ -140,6 +140,16 @@ pub fn ring() -> Table {
     Table::of(&[THIRD / 3; 24], &ways)
 }
 
+/// Another, with 12 faults, so that it can be counted over all assignments: triples in a ring.
+pub fn triples() -> Table {
+    let triples: Vec<[i64; 3]> = [(1, 3), (2, 5)]
+        .iter()
+        .flat_map(|&(d, e)| (0..12).map(move |a| [a, (a + d) % 12, (a + e) % 12]))
+        .collect();
+    let ways: Vec<&[i64]> = triples.iter().map(|triple| &triple[..]).collect();
+    Table::of(&[THIRD; 12], &ways)
+}
+
 // Tables of the largest size
 
 /// Every fault is certain, and way i names the faults from i on, twice over.

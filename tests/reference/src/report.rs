@@ -1,9 +1,10 @@
 //! The program's printed text for any bytes on its standard input: a heading and a line
-//! for each cue, or the one line of a refused sheet.
+//! for each cue, or the one line of a refused sheet; and the same into lent space.
 
 use crate::run::{run, verdict_word};
-use crate::sheet::{cue_table, decode};
+use crate::sheet::{cue_table, decode, lay};
 use crate::tree::open;
+use crate::Answer;
 
 pub fn report(bytes: &[u8]) -> String {
     let sheet = match decode(bytes) {
@@ -29,4 +30,9 @@ pub fn report(bytes: &[u8]) -> String {
         );
     }
     text
+}
+
+/// The text at the front of the space, the rest left as it was; refused 22 if the space is shorter.
+pub fn report_into(bytes: &[u8], space: &mut [u8]) -> Answer {
+    lay(report(bytes).as_bytes(), space)
 }

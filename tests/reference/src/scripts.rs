@@ -204,7 +204,7 @@ fn refused_by_hand() -> Vec<Script> {
 }
 
 /// A leaf 64 steps from the root: 64 ways apart, each twice.
-fn deep() -> Script {
+pub fn deep() -> Script {
     let each: Vec<[i64; 1]> = (0..128).map(|i| [i % 64]).collect();
     let ways: Vec<&[i64]> = each.iter().map(|way| &way[..]).collect();
     let table = Table::of(&[1_000_000; MOST_FAULTS], &ways);
@@ -222,7 +222,7 @@ fn deep() -> Script {
 }
 
 /// A tree with all 255 refinements: 17 and 18 come before 19, and 20 after it.
-fn full() -> Script {
+pub fn full() -> Script {
     let table = ring();
     let mut tree = open(&table).1;
     make(&table, &mut tree, &Call::Run(0, 255));
@@ -341,7 +341,7 @@ fn drawn(random: &mut Random, table: fn(&mut Random) -> Table) -> Script {
 }
 
 /// A table, seven in eight of them with an open root.
-fn mostly_open(random: &mut Random, table: fn(&mut Random) -> Table) -> Table {
+pub fn mostly_open(random: &mut Random, table: fn(&mut Random) -> Table) -> Table {
     let any = random.one_in(8);
     loop {
         let table = table(random);
@@ -352,7 +352,7 @@ fn mostly_open(random: &mut Random, table: fn(&mut Random) -> Table) -> Table {
 }
 
 /// Any call, about half of them such as the rules accept.
-pub(crate) fn any_call(random: &mut Random, table: &Table, tree: &Tree) -> Call {
+pub fn any_call(random: &mut Random, table: &Table, tree: &Tree) -> Call {
     match random.below(6) {
         0 => Call::Run(random.allowance(), random.budget()),
         1 => Call::Run(0, random.between(0, 3) as u64),

@@ -333,11 +333,19 @@ pub fn encode(sheet: &Sheet) -> Vec<u8> {
 
 /// Writing a sheet: fills the front of the space and leaves the rest; refused, it leaves all.
 pub fn write(sheet: &Sheet, space: &mut [u8]) -> Answer {
-    let number = writing_number(sheet, space.len());
-    if number != 0 {
-        return Answer::refused(number);
+    match writing_number(sheet, space.len()) {
+        0 => lay(&encode(sheet), space),
+        number => Answer::refused(number),
     }
-    let bytes = encode(sheet);
-    space[..bytes.len()].copy_from_slice(&bytes);
-    Answer::accepted(Interval { low: 0, high: S }, bytes.len() as u64, NONE)
+}
+
+/// An output laid into lent space, with the bytes counted; refused 22 if the space is shorter.
+pub fn lay(output: &[u8], space: &mut [u8]) -> Answer {
+    match space.get_mut(..output.len()) {
+        None => Answer::refused(22),
+        Some(front) => {
+            front.copy_from_slice(output);
+            Answer::accepted(Interval { low: 0, high: S }, output.len() as u64, NONE)
+        }
+    }
 }

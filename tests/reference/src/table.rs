@@ -143,7 +143,12 @@ impl Count {
 
     /// low × S^n ≤ S × E ≤ high × S^n.
     pub fn encloses(&self, low: u64, high: u64, ways: &[Way]) -> bool {
-        let exact = self.exact_sum(ways).times_s_to(1);
+        self.encloses_sum(low, high, &self.exact_sum(ways))
+    }
+
+    /// The same for a sum counted before.
+    pub fn encloses_sum(&self, low: u64, high: u64, sum: &Natural) -> bool {
+        let exact = sum.times_s_to(1);
         let at_least = Natural::new(low).times_s_to(self.faults) <= exact;
         let at_most = exact <= Natural::new(high).times_s_to(self.faults);
         at_least && at_most

@@ -135,8 +135,9 @@ impl Tree {
     }
 
     /// Whether refusal 16 does not apply: some accepted refinements from this table's root
-    /// leaf give the same places, acts, intervals and sets. With the table the tree was
-    /// grown by there is nothing to ask; with another, its refinements are made again.
+    /// leaf give the same places, acts, sets and intervals, each node's own as a leaf too.
+    /// With the table the tree was grown by there is nothing to ask; with another, its
+    /// refinements are made again.
     pub fn belongs_to(&self, table: &Table) -> bool {
         if self.root.is_none() {
             return false;
@@ -151,8 +152,15 @@ impl Tree {
             State::Open | State::Closed => true,
         });
         let same = |(a, b): (&Entry, &Entry)| {
-            (&a.place, a.state, a.interval, numbers(&a.ways))
-                == (&b.place, b.state, b.interval, numbers(&b.ways))
+            let own = leaf_interval(&self.table.weights, &a.ways);
+            (&a.place, a.state, a.interval, own, numbers(&a.ways))
+                == (
+                    &b.place,
+                    b.state,
+                    b.interval,
+                    leaf_interval(&table.weights, &b.ways),
+                    numbers(&b.ways),
+                )
         };
         let again = again.places(table);
         repeated && own.len() == again.len() && own.iter().zip(&again).all(same)

@@ -8,7 +8,7 @@ use lib.ListN.{length}
 use Rattle.rules.specs.Sheet.{decode}
 use Rattle.rules.proofs.ReaderCalls.{cues-decoded}
 use Rattle.report.specs.Lines.{lineText}
-use Rattle.report.proofs.Printed.{each-below}
+use Rattle.rules.proofs.Bytes.{each-below}
 use Rattle.report.proofs.Whole.{LinesLeft, lines-next, lines-none}
 use Rattle.report.proofs.append_lines.Statement.{statement}
 use Rattle.report.proofs.append_lines.Tie as tie

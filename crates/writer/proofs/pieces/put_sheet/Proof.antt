@@ -12,7 +12,7 @@ use Rattle.writer.specs.Given.{given}
 use Rattle.writer.specs.Pieces.{Room, Wrote}
 use Rattle.writer.proofs.Over.{wrote-long, room-first, room-second, wrote-both}
 use Rattle.writer.proofs.Accepted.{agreed, ends-by, laid, laid-length}
-use Rattle.writer.proofs.Walk.{each-below}
+use Rattle.rules.proofs.Bytes.{each-below}
 use Rattle.writer.proofs.pieces.put_sheet.Statement.{statement}
 use Rattle.writer.proofs.pieces.put_sheet.Tie as tie
 

@@ -12,7 +12,7 @@ use Rattle.rules.proofs.First.{first-none, first-here, first-later}
 use Rattle.writer.specs.Given.{given}
 use Rattle.writer.proofs.Numbers.{group-refuses, group-passes}
 use Rattle.writer.proofs.Accepted.{agreed, ends-by, laid-length}
-use Rattle.writer.proofs.Walk.{each-below}
+use Rattle.rules.proofs.Bytes.{each-below}
 use Rattle.writer.proofs.refusals.write_number.Statement.{statement}
 use Rattle.writer.proofs.refusals.write_number.Tie as tie
 

@@ -1,0 +1,169 @@
+//! Figures that are easy to get wrong, each by name, and the order of the refusals of calls on trees.
+
+use super::{make, run_told, scripts::play, told_number};
+use crate::bench::Bench;
+use crate::session::{Outcome, Session};
+use crate::step::{Field, Step};
+use reference::figures::typed;
+use reference::paper::{every_fault_named, most_named, orders as refusals, p4, ring, singles, stairs, whole_sheet, H};
+use reference::scripts::{deep, full};
+use reference::sheet::{encode, Sheet};
+use reference::{Act, Table, FULL, MET, NONE, S, SPENT};
+
+pub fn easy_to_get_wrong(bench: &mut Bench) -> Outcome {
+    for (name, table, root, calls) in typed() {
+        bench.case(name, |session, _| {
+            session.opened(table)?;
+            session.told(0, root, 0, NONE)?;
+            for (call, answer) in calls {
+                make(session, call)?;
+                session.make(Step::Told(answer.map(Some)))?;
+            }
+            Ok(())
+        })?;
+    }
+    let largest = [
+        ("certain faults, 64 of them", stairs(), (S, S)),
+        ("the sum is more than 32 bits", singles(), (999_999_999, S)),
+        ("all 64 faults in every way", every_fault_named(S as u32), (S, S)),
+    ];
+    for (name, table, root) in largest {
+        bench.case(name, |session, _| {
+            session.opened(table)?;
+            session.told(0, root, 0, NONE)
+        })?;
+    }
+    for weight in [H, 999_999_999, 1] {
+        bench.case("all 64 faults in every way, grown", |session, _| {
+            session.opened(every_fault_named(weight))?;
+            session.run(0, 2)
+        })?;
+    }
+    bench.case("equal ways count in what is named most", |session, _| {
+        session.opened(most_named())?;
+        session.run(0, 1)?;
+        // Fault 1 is fixed on both sides now, so that it no longer occurs.
+        session.refine(vec![0], Act::Fault(1))?;
+        told_number(session, 20)
+    })?;
+    bench.case("full counts the tree, spent the run", |session, _| {
+        session.opened(ring())?;
+        run_told(session, (0, 254), 0, SPENT)?;
+        run_told(session, (0, 255), 0, FULL)?;
+        run_told(session, (0, 0), 0, FULL)?;
+        run_told(session, (S, 0), 0, MET)
+    })?;
+    bench.case("a place of length 64, and of 65", |session, _| play(session, deep()))?;
+    bench.case("17 and 18 before 19, 20 after it", |session, _| play(session, full()))?;
+    bench.case("where a sheet is cut", |session, _| cut_sheet(session))
+}
+
+/// Before the bodies 4, in the bodies 8; a cue without ways still needs its place.
+fn cut_sheet(session: &mut Session) -> Outcome {
+    let bytes = encode(&whole_sheet(40));
+    for length in 0..=bytes.len() {
+        session.make(Step::Sheet(bytes[..length].to_vec()))?;
+        session.make(Step::Check)?;
+        let number = match length {
+            0..12 => 1,
+            12..40 => 4,
+            40..72 => 8,
+            _ => 0,
+        };
+        told_number(session, number)?;
+    }
+    let mut moved = bytes;
+    moved[24] += 1;
+    session.make(Step::Sheet(moved))?;
+    session.make(Step::Check)?;
+    told_number(session, 7)
+}
+
+pub fn orders(bench: &mut Bench) -> Outcome {
+    for (number, table) in refusals() {
+        bench.case("a table that several numbers concern", |session, _| {
+            session.opened(table)?;
+            told_number(session, number)?;
+            session.run(S + 1, 256)?;
+            told_number(session, number)?;
+            session.refine(vec![2], Act::Fault(64))?;
+            told_number(session, number)
+        })?;
+    }
+    bench.case("14 and 15 before 16", |session, _| {
+        session.opened(p4())?;
+        session.make(Step::Poke(Field::Used, 2))?;
+        run_told(session, (S + 1, 256), 14, NONE)?;
+        run_told(session, (S, 256), 15, NONE)?;
+        run_told(session, (S, 255), 16, NONE)
+    })?;
+    bench.case("16 before 17, 18 and 20", |session, _| {
+        session.opened(p4())?;
+        let open = Field::Of { record: 0, number: 2 };
+        session.make(Step::Poke(open, 0))?;
+        for (place, act) in [(vec![0; 65], Act::Fault(0)), (vec![], Act::Fault(9))] {
+            session.refine(place, act)?;
+            told_number(session, 16)?;
+        }
+        Ok(())
+    })?;
+    bench.case("17, 18 and 20 in turn", |session, _| by_hand(session))?;
+    bench.case("far too long", |session, _| far_too_long(session))
+}
+
+/// Lengths that would be within the limits if they were cut to 8 or 16 bits.
+fn far_too_long(session: &mut Session) -> Outcome {
+    for more in [1 << 8, 1 << 16] {
+        session.opened(Table { weights: vec![H; more + 1], ..Table::default() })?;
+        told_number(session, 9)?;
+        session.opened(Table { weights: vec![H], present: vec![1; more + 2], absent: vec![0; more + 2] })?;
+        told_number(session, 11)?;
+        session.opened(p4())?;
+        session.refine(vec![0; more], Act::Fault(0))?;
+        told_number(session, 17)?;
+        let mut bytes = encode(&whole_sheet(40));
+        bytes.resize(bytes.len() + more, 0);
+        session.make(Step::Sheet(bytes))?;
+        session.make(Step::Check)?;
+        told_number(session, 8)?;
+        let longer: [fn(&mut Sheet, usize); 4] = [
+            |lists, more| lists.weights.resize(3 + more, 0),
+            |lists, more| lists.counts.resize(2 + more, 0),
+            |lists, more| lists.present.resize(2 + more, 0),
+            |lists, more| lists.absent.resize(2 + more, 0),
+        ];
+        for (number, longer) in [2, 2, 21, 21].into_iter().zip(longer) {
+            let mut lists = whole_sheet(40);
+            longer(&mut lists, more);
+            session.make(Step::Write(lists, 4000))?;
+            told_number(session, number)?;
+        }
+    }
+    Ok(())
+}
+
+/// On P4, whose right child is closed once fault 0 is fixed.
+fn by_hand(session: &mut Session) -> Outcome {
+    session.opened(p4())?;
+    let steps: [(&[u8], u8, u32, u64); 14] = [
+        (&[0; 65], 1, 9, 17),
+        (&[0; 64], 1, 9, 17),
+        (&[0], 1, 0, 17),
+        (&[2], 1, 0, 17),
+        (&[], 0, 0, 20),
+        (&[], 2, 0, 20),
+        (&[], 255, 0, 20),
+        (&[], 1, 3, 20),
+        (&[], 1, u32::MAX, 20),
+        (&[], 1, 0, 0),
+        (&[], 1, 1, 17),
+        (&[1], 1, 9, 18),
+        (&[0], 1, 0, 20),
+        (&[0], 0, 7, 0),
+    ];
+    for (place, what, fault, number) in steps {
+        session.make(Step::Refine(place.to_vec(), what, fault))?;
+        told_number(session, number)?;
+    }
+    Ok(())
+}

@@ -1,0 +1,164 @@
+//! A case as it goes: each step is made on both sides and every answer, place and byte compared.
+//! `trees` has the steps on trees, `bytes` the search and the steps on sheets.
+
+mod bytes;
+mod trees;
+
+use crate::calls;
+use crate::exact::Exact;
+use crate::step::{parse, Field, Step};
+use crate::tally::Tally;
+use reference::{Act, Answer, Table, Tree};
+use std::fmt::Debug;
+use trees::Held;
+
+/// A disagreement, in words.
+pub struct Mismatch(pub String);
+
+pub type Outcome = Result<(), Mismatch>;
+
+pub struct Session {
+    pub steps: Vec<Step>,
+    pub tally: Tally,
+    table: Table,
+    exact: Option<Exact>,
+    held: [Held; 2],
+    at: usize,
+    sheet: Vec<u8>,
+    printed: Vec<u8>,
+}
+
+impl Session {
+    pub fn new() -> Session {
+        Session {
+            steps: Vec::new(),
+            tally: Tally::default(),
+            table: Table::default(),
+            exact: None,
+            held: [Held::new(), Held::new()],
+            at: 0,
+            sheet: Vec::new(),
+            printed: Vec::new(),
+        }
+    }
+
+    // For those who draw the next step.
+
+    pub fn table(&self) -> &Table {
+        &self.table
+    }
+
+    /// The reference's tree.
+    pub fn tree(&self) -> &Tree {
+        &self.held[self.at].tree
+    }
+
+    /// The library's tree.
+    pub fn records(&self) -> &calls::Tree {
+        &self.held[self.at].lent.tree
+    }
+
+    /// One field of the library's tree.
+    pub fn field(&self, field: Field) -> u64 {
+        match field {
+            Field::Used => self.records().used as u64,
+            Field::Of { record, number } => self.records().nodes[record].fields()[number],
+        }
+    }
+
+    pub fn answer(&self) -> Answer {
+        self.held[self.at].answer
+    }
+
+    // Steps, made and kept.
+
+    pub fn opened(&mut self, table: Table) -> Outcome {
+        self.make(Step::Table(table))?;
+        self.make(Step::Open)
+    }
+
+    /// Panics at a fault that is no 32-bit number.
+    pub fn refine(&mut self, place: Vec<u8>, act: Act) -> Outcome {
+        let (what, fault) = match act {
+            Act::Independence => (0, 0),
+            Act::Fault(fault) => (1, u32::try_from(fault).expect("a 32-bit fault")),
+        };
+        self.make(Step::Refine(place, what, fault))
+    }
+
+    /// Panics at limits that are no 32-bit and 16-bit numbers.
+    pub fn run(&mut self, allowance: u64, budget: u64) -> Outcome {
+        let allowance = u32::try_from(allowance).expect("a 32-bit allowance");
+        let budget = u16::try_from(budget).expect("a 16-bit budget");
+        self.make(Step::Run(allowance, budget))
+    }
+
+    pub fn told(&mut self, number: u64, interval: (u64, u64), count: u64, verdict: u64) -> Outcome {
+        let (low, high) = interval;
+        self.make(Step::Told([number, low, high, count, verdict].map(Some)))
+    }
+
+    pub fn make(&mut self, step: Step) -> Outcome {
+        debug_assert_eq!(parse(&step.to_string()), Ok(vec![step.clone()]), "its text is the step");
+        self.steps.push(step.clone());
+        match step {
+            Step::Table(table) => self.lend_table(table),
+            Step::Tree(which) => self.at = which.min(1),
+            Step::Copy => self.held[1 - self.at] = self.held[self.at].clone(),
+            Step::Poke(field, value) => self.poke(field, value),
+            Step::Sheet(bytes) => self.sheet = bytes,
+            Step::Open => self.make_open()?,
+            Step::Refine(place, what, fault) => self.make_refine(&place, what, fault)?,
+            Step::Run(allowance, budget) => self.make_run(allowance, budget)?,
+            Step::Widest(count) => {
+                let records = self.records().nodes[..count.min(calls::RECORDS)].to_vec();
+                self.make_search(&records)?;
+            }
+            Step::Records(records) => self.make_search(&records)?,
+            Step::Check => self.make_check()?,
+            Step::Cue(position) => self.make_cue(position)?,
+            Step::Report(space) => self.make_report(space)?,
+            Step::Write(lists, space) => self.make_write(&lists, space)?,
+            Step::Told(figures) => self.claim_told(figures)?,
+            Step::Printed(text) => self.claim_printed(&text)?,
+            Step::Alike => self.claim_alike()?,
+            Step::Agree => self.claim_agree()?,
+            Step::Equal => self.claim_equal()?,
+        }
+        Ok(())
+    }
+
+    /// One comparison: an answer, a place, or a whole output.
+    fn same<T: PartialEq + Debug + ?Sized>(&mut self, what: &str, due: &T, got: &T) -> Outcome {
+        self.tally.compared += 1;
+        must(what, due, got)
+    }
+
+    /// The library's answer, beside the reference's.
+    fn same_answer(&mut self, due: Answer, got: Answer) -> Outcome {
+        self.keep_answer(got);
+        self.same("the answer", &due, &got)
+    }
+
+    fn keep_answer(&mut self, answer: Answer) {
+        self.held[self.at].answer = answer;
+        self.tally.answered(answer.number, answer.verdict);
+    }
+
+    /// Figures typed from the paper; only all five together are a comparison.
+    fn claim_told(&mut self, figures: [Option<u64>; 5]) -> Outcome {
+        let Answer { number, low, high, count, verdict } = self.answer();
+        let got = [number, low, high, count, verdict];
+        let due = [0, 1, 2, 3, 4].map(|i| figures[i].unwrap_or(got[i]));
+        self.tally.compared += u64::from(figures.iter().all(Option::is_some));
+        must("the paper's figures", &due, &got)
+    }
+}
+
+/// What goes with a comparison and is not counted as one.
+fn must<T: PartialEq + Debug + ?Sized>(what: &str, due: &T, got: &T) -> Outcome {
+    if due == got {
+        return Ok(());
+    }
+    Err(Mismatch(format!("{what}: due {due:?}, but got {got:?}")))
+}

@@ -1,0 +1,205 @@
+//! The steps of a case, and a case as text, a step to a line: what a disagreement is written as and `--replay` reads.
+
+use crate::calls::{Node, FIELDS};
+use reference::sheet::Sheet;
+use reference::Table;
+use std::fmt::{self, Display, Formatter};
+use std::str::{FromStr, SplitWhitespace};
+
+#[derive(Clone, Debug, PartialEq)]
+pub enum Step {
+    // What the next calls are handed.
+    /// The table.
+    Table(Table),
+    /// Which of two trees.
+    Tree(usize),
+    /// The other tree becomes a copy of this one.
+    Copy,
+    /// A field of a record, or how many are in use, is overwritten.
+    Poke(Field, u64),
+    /// The bytes of a sheet.
+    Sheet(Vec<u8>),
+
+    // Calls, made on both sides.
+    Open,
+    /// Place, what to do and the fault.
+    Refine(Vec<u8>, u8, u32),
+    /// Allowance and budget.
+    Run(u32, u16),
+    /// The search of the first so many records of the tree.
+    Widest(usize),
+    /// The search of these records.
+    Records(Vec<Node>),
+    Check,
+    /// The reader's call at a position.
+    Cue(usize),
+    /// The report into a space of this length.
+    Report(usize),
+    /// Lists for the writer, and the length of the space.
+    Write(Sheet, usize),
+
+    // Claims about the library alone.
+    /// Figures that the last answer must have: number, low, high, count, verdict.
+    Told([Option<u64>; 5]),
+    /// The text that the last report must be.
+    Printed(Vec<u8>),
+    /// Both trees have the same places, with what was done there and the intervals, and the same sum of counts.
+    Alike,
+    /// The last answers on both trees are the same.
+    Agree,
+    /// Both trees are the same byte for byte, the last answers too but for their counts, whose sums are the same.
+    Equal,
+}
+
+/// A field that can be overwritten.
+#[derive(Clone, Copy, Debug, PartialEq)]
+pub enum Field {
+    Used,
+    Of { record: usize, number: usize },
+}
+
+impl Display for Step {
+    fn fmt(&self, f: &mut Formatter<'_>) -> fmt::Result {
+        match self {
+            Step::Table(Table { weights, present, absent }) => {
+                write!(f, "table {} {} {}", list(weights), list(present), list(absent))
+            }
+            Step::Tree(which) => write!(f, "tree {which}"),
+            Step::Copy => write!(f, "copy"),
+            Step::Poke(Field::Used, value) => write!(f, "used {value}"),
+            Step::Poke(Field::Of { record, number }, value) => {
+                write!(f, "poke {record} {number} {value}")
+            }
+            Step::Sheet(bytes) => write!(f, "sheet {}", hex(bytes)),
+            Step::Open => write!(f, "open"),
+            Step::Refine(place, what, fault) => write!(f, "refine {} {what} {fault}", list(place)),
+            Step::Run(allowance, budget) => write!(f, "run {allowance} {budget}"),
+            Step::Widest(count) => write!(f, "widest {count}"),
+            Step::Records(records) => {
+                let fields: Vec<u64> = records.iter().flat_map(Node::fields).collect();
+                write!(f, "records {}", list(&fields))
+            }
+            Step::Check => write!(f, "check"),
+            Step::Cue(position) => write!(f, "cue {position}"),
+            Step::Report(space) => write!(f, "report {space}"),
+            Step::Write(lists, space) => {
+                let Sheet { weights, cues, counts, present, absent, allowance, budget } = lists;
+                write!(f, "write {} {} {}", list(weights), list(cues), list(counts))?;
+                write!(f, " {} {} {allowance} {budget} {space}", list(present), list(absent))
+            }
+            Step::Told(figures) => {
+                let figures = figures.map(|figure| figure.map_or("-".into(), |figure| figure.to_string()));
+                write!(f, "told {}", figures.join(" "))
+            }
+            Step::Printed(text) => write!(f, "printed {}", hex(text)),
+            Step::Alike => write!(f, "alike"),
+            Step::Agree => write!(f, "agree"),
+            Step::Equal => write!(f, "equal"),
+        }
+    }
+}
+
+/// Numbers with commas between; a stroke for none.
+fn list<T: Display>(numbers: &[T]) -> String {
+    if numbers.is_empty() {
+        return "-".into();
+    }
+    numbers.iter().map(T::to_string).collect::<Vec<_>>().join(",")
+}
+
+fn hex(bytes: &[u8]) -> String {
+    if bytes.is_empty() {
+        return "-".into();
+    }
+    bytes.iter().map(|byte| format!("{byte:02x}")).collect()
+}
+
+/// The steps of a case's text; lines that begin with # say nothing.
+pub fn parse(text: &str) -> Result<Vec<Step>, String> {
+    let lines = text.lines().filter(|line| !line.starts_with('#') && !line.is_empty());
+    lines.map(|line| step(line).ok_or_else(|| format!("not a step: {line}"))).collect()
+}
+
+fn step(line: &str) -> Option<Step> {
+    let mut words = Words(line.split_whitespace());
+    let step = match words.word()? {
+        "table" => Step::Table(Table { weights: words.list()?, present: words.list()?, absent: words.list()? }),
+        "tree" => Step::Tree(words.number()?),
+        "copy" => Step::Copy,
+        "used" => Step::Poke(Field::Used, words.number()?),
+        "poke" => {
+            let field = Field::Of { record: words.number()?, number: words.number()? };
+            Step::Poke(field, words.number()?)
+        }
+        "sheet" => Step::Sheet(words.bytes()?),
+        "open" => Step::Open,
+        "refine" => Step::Refine(words.list()?, words.number()?, words.number()?),
+        "run" => Step::Run(words.number()?, words.number()?),
+        "widest" => Step::Widest(words.number()?),
+        "records" => Step::Records(words.records()?),
+        "check" => Step::Check,
+        "cue" => Step::Cue(words.number()?),
+        "report" => Step::Report(words.number()?),
+        "write" => {
+            let lists = Sheet {
+                weights: words.list()?,
+                cues: words.list()?,
+                counts: words.list()?,
+                present: words.list()?,
+                absent: words.list()?,
+                allowance: words.number()?,
+                budget: words.number()?,
+            };
+            Step::Write(lists, words.number()?)
+        }
+        "told" => {
+            let mut figures = [None; 5];
+            for figure in &mut figures {
+                let word = words.word()?;
+                *figure = if word == "-" { None } else { Some(word.parse().ok()?) };
+            }
+            Step::Told(figures)
+        }
+        "printed" => Step::Printed(words.bytes()?),
+        "alike" => Step::Alike,
+        "agree" => Step::Agree,
+        "equal" => Step::Equal,
+        _ => return None,
+    };
+    words.word().is_none().then_some(step)
+}
+
+/// The words of a line that are still to be read.
+struct Words<'a>(SplitWhitespace<'a>);
+
+impl<'a> Words<'a> {
+    fn word(&mut self) -> Option<&'a str> {
+        self.0.next()
+    }
+
+    fn number<T: FromStr>(&mut self) -> Option<T> {
+        self.word()?.parse().ok()
+    }
+
+    fn list<T: FromStr>(&mut self) -> Option<Vec<T>> {
+        match self.word()? {
+            "-" => Some(Vec::new()),
+            numbers => numbers.split(',').map(|number| number.parse().ok()).collect(),
+        }
+    }
+
+    fn bytes(&mut self) -> Option<Vec<u8>> {
+        let digits = match self.word()? {
+            "-" => "",
+            digits => digits,
+        };
+        let byte = |at| u8::from_str_radix(digits.get(at..at + 2)?, 16).ok();
+        (0..digits.len()).step_by(2).map(byte).collect()
+    }
+
+    fn records(&mut self) -> Option<Vec<Node>> {
+        let fields: Vec<u64> = self.list()?;
+        let record = |fields: &[u64]| Some(Node::of_fields(fields.try_into().ok()?));
+        fields.chunks(FIELDS).map(record).collect()
+    }
+}

@@ -1,0 +1,8 @@
+#!/bin/bash
+# Sets the library, linked through its C interface, beside the reference, over seeded cases: every answer, every place of every
+# tree, every byte written. Usage: tests/run_outside.sh [--seed N] [--long]; a case that fails is left in target/outside.
+set -e
+cd "$(dirname "$0")/.."
+rt staticlib capi
+mkdir -p target/outside
+cargo run --quiet --release --offline --manifest-path tests/outside/Cargo.toml -- --folder target/outside "$@"
