@@ -1,5 +1,6 @@
 //! Refusal 16: whether a tree, whatever it holds, is one that the table and some series of accepted refinements gives.
 //! The refinements that the records tell are made again from the root leaf, and the outcome is compared (`records`, Growing and Rebuilt).
+//! The tree that is built stays where it is, as in a run: handed to a function by value it would be copied.
 ghost use mathlib.Core.Path.{_≡_};
 ghost use mathlib.Core.Bool.{true, _&&_};
 ghost use mathlib.Core.List.{List};
@@ -16,10 +17,12 @@ use super::opening::root_leaf;
 use compare::kind_told;
 use compare::possible_told;
 use compare::same_nodes;
-use grow::refine::grow;
+use grow::join::joined;
+use grow::refine::branch_of;
 use grow::refine::ways_of;
 use records::Node;
 use records::Tree;
+use running::turn::left_above;
 
 /// The leaf of record y is open and may be refined as record n says.
 fn may(present: &[u64], absent: &[u64], y: Node, n: Node) -> bool
@@ -59,7 +62,27 @@ pub fn is_good(weights: &[u32], present: &[u64], absent: &[u64], x: Tree) -> boo
         if !may(present, absent, y.nodes[j], n) {
             return false;
         }
-        y = grow(weights, present, absent, y, j, kind_told(n));
+        let leaf = y.nodes[j];
+        let c = ways_of(present, absent, leaf);
+        let b = branch_of(weights, leaf, c, kind_told(n), j, next);
+        let node = b.node;
+        let below = b.left;
+        let beside = b.right;
+        y.nodes[j] = node;
+        y.nodes[next] = below;
+        y.nodes[next + 1] = beside;
+        y.used = next + 2;
+        let mut i = j;
+        let mut rest: usize = 64;
+        while 0 < rest {
+            let m = y.nodes[i];
+            let first = m.left;
+            let l = y.nodes[first];
+            let r = y.nodes[first + 1];
+            y.nodes[i] = joined(weights, m, l, r);
+            rest = left_above(i, rest);
+            i = m.parent;
+        }
         left -= 1;
     }
     same_nodes(x, y)

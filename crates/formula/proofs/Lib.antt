@@ -2,6 +2,7 @@
 -- Those marked pub are for the proofs of callers too.
 mod Append
 pub mod Below
+mod Counted
 mod KeptWords
 mod Lowest
 mod Rows

@@ -17,17 +17,17 @@ use Rattle.rules.proofs.Bits.{bit-and, bit-or, bits-ext}
 -- ---- a word without its lowest bit
 
 -- The word without its lowest bit is even.
-rest-even : (m : ℕ) → 0 < m → bitAnd m (m - 1) % 2 ≡ 0
+pub rest-even : (m : ℕ) → 0 < m → bitAnd m (m - 1) % 2 ≡ 0
 rest-even m h = omega (arith, and-step m (m - 1))
 
 -- Where bit 0 is the lowest, what stands above it stays.
-rest-odd-half : (m : ℕ) → m % 2 ≡ 1 → bitAnd m (m - 1) / 2 ≡ m / 2
+pub rest-odd-half : (m : ℕ) → m % 2 ≡ 1 → bitAnd m (m - 1) / 2 ≡ m / 2
 rest-odd-half m e =
     let h : (m - 1) / 2 ≡ m / 2 = omega arith in
     omega (arith, and-step m (m - 1), ap (bitAnd (m / 2)) h, and-self (m / 2))
 
 -- Where it is not, the lowest bit of the half goes.
-rest-even-half : (m : ℕ) → 0 < m → m % 2 ≡ 0 → bitAnd m (m - 1) / 2 ≡ bitAnd (m / 2) (m / 2 - 1)
+pub rest-even-half : (m : ℕ) → 0 < m → m % 2 ≡ 0 → bitAnd m (m - 1) / 2 ≡ bitAnd (m / 2) (m / 2 - 1)
 rest-even-half m l e =
     let h : (m - 1) / 2 ≡ m / 2 - 1 = omega arith in
     omega (arith, and-step m (m - 1), ap (bitAnd (m / 2)) h)

@@ -1,25 +1,27 @@
 //! The fault that is named in most ways, the lowest number if several are: where a run fixes a fault, it fixes this one.
-//! Rests on the definitions of `rules`, Run.
+//! The counts of all faults are made in one pass over the ways, by their set bits. Rests on the definitions of `rules`, Run.
 ghost use mathlib.Core.Path.{_≡_};
-ghost use Prim.Native.Nat.{_<_, _≤_};
+ghost use Prim.Native.Nat.{ℕ, _<_, _≤_};
+ghost use lib.ListN.{getD};
 ghost use Rattle.rules.specs.Run.{named, mostNamed};
 ghost use Rattle.formula.specs.Clauses.{waysOf};
 use super::Clauses;
-use super::chance::has;
 use super::leaf::faults;
 
-/// In how many of the ways fault f is named.
-pub fn count_named(f: usize, c: Clauses) -> usize
-    requires { ⌜ f < 64 ⌝ }
+/// In how many of the ways each fault is named: every way adds one to the count of each fault that it names.
+pub fn counts(c: Clauses) -> [u64; 64]
     requires { ⌜ c .len ≤ 128 ⌝ }
-    ensures { λ r. ⌜ r ≡ named f (waysOf c) ⌝ }
+    ensures { λ r. ⌜ ((f : ℕ) → f < 64 → getD r f 0 ≡ named f (waysOf c)) ⌝ }
 {
-    let mut n: usize = 0;
+    let mut n = [0u64; 64];
     let mut i: usize = 0;
     while i < c.len {
         let v = c.list[i];
-        if has(faults(v), f) {
-            n += 1;
+        let mut m = faults(v);
+        while m != 0 {
+            let f = u64::trailing_zeros(m) as usize;
+            n[f] += 1;
+            m = m & (m - 1);
         }
         i += 1;
     }
@@ -32,11 +34,12 @@ pub fn most_named(n: usize, c: Clauses) -> usize
     requires { ⌜ c .len ≤ 128 ⌝ }
     ensures { λ r. ⌜ r ≡ mostNamed n (waysOf c) ⌝ }
 {
+    let count = counts(c);
     let mut best: usize = 0;
-    let mut most = count_named(0, c);
+    let mut most = count[0];
     let mut i: usize = 0;
     while i < n {
-        let k = count_named(i, c);
+        let k = count[i];
         if most < k {
             best = i;
             most = k;

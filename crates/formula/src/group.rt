@@ -18,21 +18,6 @@ fn absorb(m: u64, v: Way) -> u64
     if m & w == 0 { m } else { m | w }
 }
 
-/// One pass: every way that the word touches adds its faults.
-fn pass(m: u64, c: Clauses) -> u64
-    requires { ⌜ c .len ≤ 128 ⌝ }
-    ensures { λ r. ⌜ r ≡ Group.pass m (waysOf c) ⌝ }
-{
-    let mut word = m;
-    let mut i: usize = 0;
-    while i < c.len {
-        let v = c.list[i];
-        word = absorb(word, v);
-        i += 1;
-    }
-    word
-}
-
 /// The faults of the group of the lowest numbered way. A pass that changes nothing is the last: any further one would change nothing.
 pub fn group_faults(c: Clauses) -> u64
     requires { ⌜ c .len ≤ 128 ⌝ }
@@ -45,11 +30,17 @@ pub fn group_faults(c: Clauses) -> u64
     let mut word = faults(first);
     let mut left = c.len;
     while 0 < left {
-        let next = pass(word, c);
-        if next == word {
+        // One pass: every way that the word touches adds its faults.
+        let before = word;
+        let mut i: usize = 0;
+        while i < c.len {
+            let v = c.list[i];
+            word = absorb(word, v);
+            i += 1;
+        }
+        if word == before {
             return word;
         }
-        word = next;
         left -= 1;
     }
     word

@@ -5,6 +5,7 @@ use mathlib.Core.List.{List}
 use Prim.Native.Nat.{ℕ, zero, suc, _+_, _-_, _≤_, _<_}
 use native.Mathlib.Numerals.{add-one}
 use native.Mathlib.Omega.{arith}
+use native.Mathlib.Decide.{ℕ-discrete}
 use borrow.Author.Tests.{eq-eqb, ne-eqb}
 use lib.ListN.{length, getD, set, length-set}
 use Rattle.records.specs.Records.{blank}
@@ -74,3 +75,18 @@ module _ (ws : List ℕ) (t : Tree) (j : ℕ) (u : Tree) (i k : ℕ) (inv : Clim
 
     pub done : i ≡ 0 → Raised ws t j (record { nodes = set (u .nodes) i x; used = u .used })
     done z = (stored ws (u .nodes) i x (e .0) ∙ sym (at-root ws (u .nodes) i k h z) ∙ inv .rest, inv .same, kept)
+
+    -- Either way, where k′ says how many records are left.
+    pub higher : (k′ : ℕ) → (i ≡ 0 → k′ ≡ 0) × ((i ≡ 0 → ⊥) → k′ ≡ k - 1) → Climb ws t j (record { nodes = set (u .nodes) i x; used = u .used }) (here .parent) k′
+    higher k′ q = by (ℕ-discrete i 0)
+      where
+        by : Dec (i ≡ 0) → Climb ws t j (record { nodes = set (u .nodes) i x; used = u .used }) (here .parent) k′
+        by (yes z) =
+            record {
+              inside = inv .safe .each i .parent-inside;
+              long = length-set (u .nodes) i x ∙ inv .long;
+              safe = kept;
+              same = inv .same;
+              rest = none-left ws (set (u .nodes) i x) (here .parent) k′ (omega (arith, q .0 z)) ∙ done z .0;
+            }
+        by (no z) = rw (q .1 z) (turn z)

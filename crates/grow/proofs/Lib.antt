@@ -1,5 +1,6 @@
 -- Laws on records that the functions' proofs rest on.
 -- Those marked pub are for the proofs of callers too.
-mod Climb
+pub mod Climb
 pub mod Leaves
 pub mod SafeLaws
+pub mod Branches

@@ -1,3 +1,4 @@
 -- What the contracts of this crate cite besides the definitions of `records`.
 -- Rests on those.
 pub mod Safe
+pub mod Branched

@@ -12,12 +12,12 @@ ghost use Rattle.records.specs.Records.{recordWays, kindCode, faultCode};
 ghost use Rattle.records.specs.Growing.{refinedRecord, freshRecord, grownAt};
 ghost use Rattle.formula.specs.Clauses.{waysOf, sideOf, FaultFits, AllNumbersBelow};
 ghost use Rattle.grow.specs.Safe.{SafeNode, Safe};
+ghost use Rattle.grow.specs.Branched.{Branched};
 use super::raise::raise;
 use formula::Clauses;
 use formula::child::child;
-use formula::remaining::restrict;
+use formula::remaining::remaining_of;
 use formula::set::one_bit;
-use formula::set::select;
 use node::leaf_record;
 use records::Node;
 use records::Tree;
@@ -30,8 +30,7 @@ pub fn ways_of(present: &[u64], absent: &[u64], x: Node) -> Clauses
     ensures { λ r. ⌜ ((ws : List ℕ) → waysOf r ≡ recordWays (record { weights = ws; present = now (present .entry); absent = now (absent .entry) }) x)
         × (r .len ≤ 128) × AllNumbersBelow 128 (waysOf r) ⌝ }
 {
-    let c = select(present, absent, x.waysa, x.waysb);
-    restrict(c, x.present, x.absent)
+    remaining_of(present, absent, x.waysa, x.waysb, x.present, x.absent)
 }
 
 /// The word m of the faults fixed present, or absent, in a child. Under a fault the left child fixes it present, the right absent.
@@ -100,6 +99,29 @@ fn refined(x: Node, k: Kind, left: usize) -> Node
     n
 }
 
+/// The records that a refinement of a leaf writes: its own and those of its two leaves.
+pub struct Branch {
+    pub node: Node,
+    pub left: Node,
+    pub right: Node,
+}
+
+/// The records that a refinement of the leaf x in record j writes, where c are its ways and its left leaf goes to record `next`.
+pub fn branch_of(weights: &[u32], x: Node, c: Clauses, k: Kind, j: usize, next: usize) -> Branch
+    requires { ⌜ length (now weights) ≤ 64 ⌝ }
+    requires { ⌜ overweight (now weights) ≡ false ⌝ }
+    requires { ⌜ FaultFits k ⌝ }
+    requires { ⌜ (c .len ≤ 128) × AllNumbersBelow 128 (waysOf c) ⌝ }
+    requires { ⌜ SafeNode x ⌝ }
+    requires { ⌜ (j < 511) × (next + 1 < 511) ⌝ }
+    ensures { λ b. ⌜ Branched (now (weights .entry)) x (waysOf c) k j next b ⌝ }
+{
+    let node = refined(x, k, next);
+    let left = child_record(weights, x, c, k, false, j);
+    let right = child_record(weights, x, c, k, true, j);
+    Branch { node, left, right }
+}
+
 /// The tree with the leaf in record j refined: its leaves in the next two records, and the intervals from j up to the root joined anew.
 pub fn grow(weights: &[u32], present: &[u64], absent: &[u64], tree: Tree, j: usize, k: Kind) -> Tree
     requires { ⌜ length (now weights) ≤ 64 ⌝ }
@@ -116,9 +138,13 @@ pub fn grow(weights: &[u32], present: &[u64], absent: &[u64], tree: Tree, j: usi
     let c = ways_of(present, absent, x);
     let n = tree.used;
     let mut t = tree;
-    t.nodes[j] = refined(x, k, n);
-    t.nodes[n] = child_record(weights, x, c, k, false, j);
-    t.nodes[n + 1] = child_record(weights, x, c, k, true, j);
+    let b = branch_of(weights, x, c, k, j, n);
+    let node = b.node;
+    let left = b.left;
+    let right = b.right;
+    t.nodes[j] = node;
+    t.nodes[n] = left;
+    t.nodes[n + 1] = right;
     t.used = n + 2;
     raise(weights, t, j)
 }

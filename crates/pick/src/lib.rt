@@ -2,9 +2,11 @@
 //! Rests on the records of `records`. specs/ has the search as a definition, proofs/ that on a layout it finds the rules' next leaf.
 ghost use mathlib.Core.Path.{_≡_};
 ghost use Rattle.records.specs.Growing.{recordWidth};
-ghost use Rattle.pick.specs.Picks.{ownFound, wider, pickOf, Linked};
+ghost use mathlib.Core.Bool.{false};
+ghost use Prim.Native.Nat.{_+_, _<_};
+ghost use Rattle.pick.specs.Picks.{ownFound, wider};
+ghost use Rattle.pick.specs.Steps.{view, begun, came, stepped};
 use records::Node;
-use records::Tree;
 
 /// The record of a left child is its parent's `left`, and this more.
 const LEFT: usize = 0;
@@ -25,53 +27,95 @@ fn width(n: Node) -> u64
     if n.low < n.high { n.high - n.low } else { 0 }
 }
 
-/// The wider of what was found and the leaf n in record i. A leaf that is as wide comes too late: it lies to the right.
-fn better(best: Found, i: usize, n: Node) -> Found
-    ensures { λ r. ⌜ r ≡ wider best (ownFound i n) ⌝ }
+/// How far a search has come: the record where it is, whether it goes down there or comes back up, whether it is over, and if it has found
+/// `some` open leaf, the record and the width of the best. Plain numbers, so that a step costs little.
+pub struct Search {
+    pub at: usize,
+    pub down: bool,
+    pub over: bool,
+    pub some: bool,
+    pub leaf: usize,
+    pub width: u64,
+}
+
+/// A search begins at the root, on the way down.
+pub fn begin() -> Search
+    ensures { λ r. ⌜ view r ≡ begun ⌝ }
 {
-    if n.live != 1 {
-        return best;
-    }
-    let w = width(n);
-    match best {
-        Found::At(j, v) => if v < w {
-            Found::At(i, w)
-        } else {
-            Found::At(j, v)
-        },
-        Found::Nothing => Found::At(i, w),
+    Search {
+        at: 0,
+        down: true,
+        over: false,
+        some: false,
+        leaf: 0,
+        width: 0,
     }
 }
 
-/// The leftmost widest open leaf. Down by the left links to a leaf, then up by the parent links until a right child is next.
-pub fn pick(x: Tree) -> Found
-    requires { ⌜ Linked (x .nodes) (x .used) ⌝ }
-    ensures { λ r. ⌜ r ≡ pickOf (x .nodes) ⌝ }
+/// What a search has found.
+pub fn found_by(s: Search) -> Found
+    ensures { λ r. ⌜ r ≡ view s .best ⌝ }
 {
-    let mut best = Found::Nothing;
-    let mut at: usize = 0;
-    let mut down = true;
-    loop {
-        if down {
-            let n = x.nodes[at];
-            if n.left == 0 {
-                best = better(best, at, n);
-                down = false;
-            } else {
-                at = n.left + LEFT;
-            }
-        } else {
-            if at == 0 {
-                return best;
-            }
-            let p = x.nodes[at].parent;
-            let n = x.nodes[p];
-            if n.left == at {
-                at = n.left + RIGHT;
-                down = true;
-            } else {
-                at = p;
-            }
+    if s.some {
+        return Found::At(s.leaf, s.width);
+    }
+    Found::Nothing
+}
+
+/// The search at another record.
+fn moved(s: Search, at: usize, down: bool) -> Search
+    ensures { λ r. ⌜ view r ≡ came at down (view s .best) ⌝ }
+{
+    let mut r = s;
+    r.at = at;
+    r.down = down;
+    r.over = false;
+    r
+}
+
+/// The search after it has entered the leaf n, which it takes if it is open and wider. A leaf that is as wide comes too late: it lies to the right.
+fn entered(s: Search, n: Node) -> Search
+    ensures { λ r. ⌜ view r ≡ came (s .at) false (wider (view s .best) (ownFound (s .at) n)) ⌝ }
+{
+    let at = s.at;
+    if n.live != 1 {
+        return moved(s, at, false);
+    }
+    let w = width(n);
+    if s.some {
+        if w <= s.width {
+            return moved(s, at, false);
         }
     }
+    Search {
+        at,
+        down: false,
+        over: false,
+        some: true,
+        leaf: at,
+        width: w,
+    }
+}
+
+/// One step of a search at record n, below record p. Down by the left links to a leaf, then up by the parent links until a right
+/// child is next. Records are handed over one by one: a tree by value would be copied at every call.
+pub fn onward(s: Search, n: Node, p: Node) -> Search
+    requires { ⌜ (n .left + 1 < 511) × (p .left + 1 < 511) ⌝ }
+    ensures { λ r. ⌜ view r ≡ stepped (view s) n p ⌝ }
+{
+    if s.down {
+        if n.left == 0 {
+            return entered(s, n);
+        }
+        return moved(s, n.left + LEFT, true);
+    }
+    if s.at == 0 {
+        let mut r = s;
+        r.over = true;
+        return r;
+    }
+    if p.left == s.at {
+        return moved(s, p.left + RIGHT, true);
+    }
+    moved(s, n.parent, false)
 }

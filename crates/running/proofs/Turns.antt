@@ -22,7 +22,7 @@ use Rattle.records.specs.Records.{blank, places, recordWays, subtreeOr, recordA
 use Rattle.records.specs.declared.Node.{Node}
 use Rattle.records.specs.declared.Tree.{Tree}
 use Rattle.records.proofs.Positions.{length-places}
-use Rattle.records.proofs.InPlace.{few-places, record-of}
+use Rattle.records.proofs.InPlace.{few-places, records-long, record-of}
 use Rattle.records.proofs.History.{history-layout}
 use Rattle.formula.specs.Clauses.{FaultFits}
 use Rattle.pick.specs.Picks.{pickOf, Linked}
@@ -30,7 +30,6 @@ use Rattle.pick.specs.declared.Found.{Found}
 use Rattle.pick.specs.declared.Found.the-variants.{At, Nothing}
 use Rattle.pick.proofs.Next.{Picked, Meant, picks-next}
 use Rattle.pick.proofs.Layouts.{layout-linked}
-use Rattle.running.specs.Ran.{Goes}
 
 -- ---- the choice
 
@@ -78,6 +77,11 @@ module _ (t : Table) (a : ℕ) (s : DTree) where
 
 -- ---- a good tree, by its own series
 
+-- The rules refine the leaf in record j, by the choice for its ways.
+pub record Goes (t : Table) (allowance : ℕ) (x : Tree) (j : ℕ) : Type 0 where
+  pub inside : j < length (places (history x))
+  pub taken : turn t allowance (tree (history x)) ≡ go (record { place = getD (places (history x)) j []; kind = choice (t .weights) (recordWays t (getD (x .nodes) j blank)) })
+
 module _ (t : Table) (x : Tree) (g : Good t x) where
   pub own : history x ≡ g .made
   own = ap history (g .is) ∙ history-layout t (g .made) (g .accepted)
@@ -98,6 +102,9 @@ module _ (t : Table) (x : Tree) (g : Good t x) where
   used-is : x .used ≡ length (places (history x))
   unfolding layout
   used-is = ap (λ (y : Tree). y .used) is
+
+  pub long-nodes : length (x .nodes) ≡ 511
+  long-nodes = ap length nodes-are ∙ records-long t (history x) whole
 
   -- Record 0 is the root's.
   root-is : getD (x .nodes) 0 blank ≡ recordAt t (history x) []
@@ -145,20 +152,13 @@ module _ (t : Table) (x : Tree) (g : Good t x) where
         picked : Picked t (history x) j
         picked = subst (Meant t (history x)) q meant
 
-        pub inside : j < 511
-        inside = omega (arith, picked .inside, few-places t (history x) whole)
-
         pub is-full : x .used ≡ 511 → turn t a (tree (history x)) ≡ stop Full
         is-full u = turn-full t a (tree (history x)) wide _ (picked .taken) (all-used u)
 
-        -- The kind k is the rules' choice for the ways vs of the leaf's record.
-        pub goes : (x .used ≡ 511 → ⊥) → (vs : List Way) → vs ≡ recordWays t (getD (x .nodes) j blank)
-            → (k : Kind) → k ≡ choice (t .weights) vs → FaultFits k → Goes t a (history x) j k
-        goes u vs v k c f =
-            let d = v ∙ ap (λ (xs : List Node). recordWays t (getD xs j blank)) nodes-are in
+        pub goes : (x .used ≡ 511 → ⊥) → Goes t a x j
+        goes u =
             record {
               inside = picked .inside;
-              fits = f;
               taken = turn-goes t a (tree (history x)) wide _ (picked .taken) (some-left u)
-                  ∙ ap (λ (i : Kind). go (record { place = getD (places (history x)) j []; kind = i })) (sym (c ∙ ap (choice (t .weights)) d));
+                  ∙ ap (λ (xs : List Node). go (record { place = getD (places (history x)) j []; kind = choice (t .weights) (recordWays t (getD xs j blank)) })) (sym nodes-are);
             }

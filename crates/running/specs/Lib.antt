@@ -1,3 +1,4 @@
 -- What the contracts of this crate cite besides the definitions of `rules` and `records`.
 -- Rests on those.
+pub mod Decided
 pub mod Ran

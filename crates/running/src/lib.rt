@@ -1,16 +1,15 @@
 //! A run on the records of a tree: refinements, one after the other, until there is a reason to stop.
-//! `turn` says whether there is one and what is refined otherwise, `run` makes the refinements. Rests on `rules`, Run, and `records`.
+//! `turn` says whether there is one and what is written otherwise, `run` makes the refinements. Rests on `rules`, Run, and `records`.
 pub mod run;
 pub mod turn;
 
 use records::Tree;
-use rules::Kind;
 use rules::Verdict;
 
-/// Before a refinement: the reason to stop, or the record of the leaf to refine and what to do there.
+/// Before a refinement: the reason to stop, or the record of the leaf to refine.
 pub enum Step {
     Stop(Verdict),
-    Go(usize, Kind),
+    Go(usize),
 }
 
 /// What a run leaves: the tree, why it stopped, and how many refinements it made.

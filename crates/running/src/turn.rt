@@ -1,24 +1,24 @@
 //! One turn of a run: the first reason to stop that applies, or the refinement to make. Rests on `rules`, Run.
-//! The widest leaf comes from `pick`, its ways from `grow`; the root's interval is read off record 0.
+//! The leaf comes from the search of `pick`, its ways and the records written from `grow`. All take records by value, none a tree.
 ghost use mathlib.Core.Path.{_≡_};
 ghost use mathlib.Core.List.{List};
-ghost use Prim.Native.Nat.{ℕ, _≤_};
+ghost use Prim.Native.Nat.{ℕ, _+_, _-_, _<_, _≤_};
 ghost use lib.ListN.{length};
 ghost use Rattle.rules.specs.Run;
 ghost use Rattle.rules.specs.Run.{choice};
 ghost use Rattle.rules.specs.Refusals.{Accepted};
-ghost use Rattle.records.specs.Records.{Good, history};
 ghost use Rattle.formula.specs.Clauses.{waysOf, FaultFits};
-ghost use Rattle.running.specs.Ran.{Turned};
+ghost use Rattle.grow.specs.Safe.{SafeNode};
+ghost use Rattle.running.specs.Decided.{decided, ByRule};
 use super::Step;
 use formula::Clauses;
 use formula::choice::most_named;
 use formula::group::falls_apart;
+use grow::refine::Branch;
+use grow::refine::branch_of;
 use grow::refine::ways_of;
 use pick::Found;
-use pick::pick;
 use records::Node;
-use records::Tree;
 use rules::Kind;
 use rules::Verdict;
 
@@ -44,23 +44,50 @@ fn narrow(n: Node, allowance: u64) -> bool
     n.high - n.low <= allowance
 }
 
-/// Met, done and full, in this order; otherwise the refinement that the rule picks.
-pub fn turn(weights: &[u32], present: &[u64], absent: &[u64], x: Tree, allowance: u64) -> Step
-    requires { ⌜ Accepted (record { weights = now weights; present = now present; absent = now absent }) ⌝ }
-    requires { ⌜ Good (record { weights = now weights; present = now present; absent = now absent }) x ⌝ }
-    ensures { λ r. ⌜ Turned (record { weights = now (weights .entry); present = now (present .entry); absent = now (absent .entry) }) allowance (history x) r ⌝ }
+/// Met, done, full and spent, in this order; otherwise the leaf that the search found.
+pub fn decide(root: Node, found: Found, used: usize, allowance: u64, made: u64, budget: u64) -> Step
+    ensures { λ r. ⌜ r ≡ decided allowance root found used made budget ⌝ }
 {
-    if narrow(x.nodes[0], allowance) {
+    if narrow(root, allowance) {
         return Step::Stop(Verdict::Met);
     }
-    match pick(x) {
+    match found {
         Found::Nothing => Step::Stop(Verdict::Done),
         Found::At(j, _) => {
-            if x.used == 511 {
+            if used == 511 {
                 return Step::Stop(Verdict::Full);
             }
-            let c = ways_of(present, absent, x.nodes[j]);
-            Step::Go(j, choose(weights.len(), c))
+            if made == budget {
+                return Step::Stop(Verdict::Spent);
+            }
+            Step::Go(j)
         }
     }
+}
+
+/// The records that the rule's refinement of the leaf x in record j writes, its left leaf in record `next`.
+pub fn branch_by_rule(
+    weights: &[u32],
+    present: &[u64],
+    absent: &[u64],
+    x: Node,
+    j: usize,
+    next: usize,
+) -> Branch
+    requires { ⌜ Accepted (record { weights = now weights; present = now present; absent = now absent }) ⌝ }
+    requires { ⌜ SafeNode x ⌝ }
+    requires { ⌜ (j < 511) × (next + 1 < 511) ⌝ }
+    ensures { λ r. ⌜ ByRule (record { weights = now (weights .entry); present = now (present .entry); absent = now (absent .entry) }) x j next r ⌝ }
+{
+    let c = ways_of(present, absent, x);
+    let k = choose(weights.len(), c);
+    branch_of(weights, x, c, k, j, next)
+}
+
+/// How many records are left to join above record i: none above the root.
+pub fn left_above(i: usize, left: usize) -> usize
+    requires { ⌜ 0 < left ⌝ }
+    ensures { λ r. ⌜ (i ≡ 0 → r ≡ 0) × ((i ≡ 0 → ⊥) → r ≡ left - 1) ⌝ }
+{
+    if i == 0 { 0 } else { left - 1 }
 }

@@ -1,8 +1,8 @@
 -- `grow` meets its contract: the three records are written as the definition says, and then raised.
--- Rests on Leaves.antt and the contracts of `ways_of`, `refined`, `child_record` and `raise`.
+-- Rests on Leaves.antt and the contracts of `ways_of`, `branch_of` and `raise`.
 use mathlib.Core.Path.{_≡_, ap, _∙_}
 use mathlib.Core.List.{List}
-use Prim.Native.Nat.{ℕ}
+use Prim.Native.Nat.{ℕ, _+_, _<_}
 use native.Mathlib.Omega.{arith}
 use borrow.Author.Needs.{needs}
 use lib.ListN.{length}
@@ -32,64 +32,57 @@ element-copy-out-x c = search needs
 ways-of-requires : tie.Need-ways-of-requires
 ways-of-requires c κs = let s = c .before .before .before .before in (s .pre .1 .1 .0, s .pre .1 .1 .1 .0)
 
-refined-requires : tie.Need-refined-requires
-refined-requires c κs =
+branch-of-requires : tie.Need-branch-of-requires
+branch-of-requires c κs =
     let s = c .before .before .before .before .before in
     let p = s .pre .1 .1 .1 .1 in
-    (p .0, (p .1 .0 .each (s .args .j), p .1 .1 .1))
+    let w = c .ways-of .ensures in
+    (s .pre .0, (s .pre .1 .0, (p .0, ((w .1, w .2), (p .1 .0 .each (s .args .j), p .1 .1)))))
 
-mul-t : tie.Need-mul-t
-mul-t c = search needs
+-- Room for the two leaves.
+fits : (c : tie.After-right) → (c .before .before .before .before .before .before .before .before .before .args .j < 511) × (c .before .before .before .before .before .before .before .before .before .args .t4 .used + 1 < 511)
+fits c = c .before .before .before .before .before .before .before .before .before .pre .1 .1 .1 .1 .1 .1
 
-element-set-from-t : tie.Need-element-set-from-t
-element-set-from-t c = search needs
+mul-node : tie.Need-mul-node
+mul-node c = omega (arith, fits c .0)
 
-child-record-requires : tie.Need-child-record-requires
-child-record-requires c κs =
-    let s = c .before .before .before .before .before .before in
-    let p = s .pre .1 .1 .1 .1 in
-    let w = c .before .ways-of .ensures in
-    (s .pre .0, (s .pre .1 .0, (p .0, ((w .1, w .2), p .1 .1 .0))))
+element-set-from-node : tie.Need-element-set-from-node
+element-set-from-node c = omega (arith, fits c .0)
 
-mul-t-2 : tie.Need-mul-t-2
-mul-t-2 c = omega (arith, c .before .before .before .before .before .before .before .pre .1 .1 .1 .1 .1 .1 .1)
+mul-left : tie.Need-mul-left
+mul-left c = omega (arith, fits c .1)
 
-element-set-from-t-2 : tie.Need-element-set-from-t-2
-element-set-from-t-2 c = omega (arith, c .before .before .before .before .before .before .before .pre .1 .1 .1 .1 .1 .1 .1)
+element-set-from-left : tie.Need-element-set-from-left
+element-set-from-left c = omega (arith, fits c .1)
 
-child-record-requires-2 : tie.Need-child-record-requires-2
-child-record-requires-2 c κs =
-    let s = c .before .before .before .before .before .before .before in
-    let p = s .pre .1 .1 .1 .1 in
-    let w = c .before .before .ways-of .ensures in
-    (s .pre .0, (s .pre .1 .0, (p .0, ((w .1, w .2), p .1 .1 .0))))
+add-right : tie.Need-add-right
+add-right c = omega (arith, fits c .1)
 
-add-t12 : tie.Need-add-t12
-add-t12 c = omega (arith, c .before .before .before .before .before .before .before .before .pre .1 .1 .1 .1 .1 .1 .1)
+mul-right : tie.Need-mul-right
+mul-right c = omega (arith, fits c .1)
 
-mul-t21 : tie.Need-mul-t21
-mul-t21 c = omega (arith, c .before .before .before .before .before .before .before .before .pre .1 .1 .1 .1 .1 .1 .1)
-
-element-set-from-t-3 : tie.Need-element-set-from-t-3
-element-set-from-t-3 c = omega (arith, c .before .before .before .before .before .before .before .before .pre .1 .1 .1 .1 .1 .1 .1)
+element-set-from-right : tie.Need-element-set-from-right
+element-set-from-right c = omega (arith, fits c .1)
 
 add-t : tie.Need-add-t
-add-t c = omega (arith, c .before .before .before .before .before .before .before .before .pre .1 .1 .1 .1 .1 .1 .1)
+add-t c = omega (arith, fits c .1)
 
 raise-requires : tie.Need-raise-requires
 raise-requires c κs =
-    let s = c .before .before .before .before .before .before .before .before in
+    let s = c .before .before .before .before .before .before .before .before .before in
+    let b = c .before .before .before .branch-of .ensures in
     let p = s .pre .1 .1 .1 .1 in
-    (s .pre .1 .0, (safe-three (s .args .t4 .nodes) (s .args .t4 .used) (s .args .j) _ _ _ (long s) (p .1 .1 .0) (p .1 .1 .1) (p .1 .0) (c .before .before .refined .ensures .1) (c .before .child-record .ensures .1) (c .child-record2 .ensures .1), p .1 .1 .0))
+    (s .pre .1 .0, (safe-three (s .args .t4 .nodes) (s .args .t4 .used) (s .args .j) _ _ _ (long s) (p .1 .1 .0) (p .1 .1 .1) (p .1 .0) (b .node-safe) (b .left-safe) (b .right-safe), p .1 .1 .0))
 
 returns : tie.Need-returns
 returns c =
-    let a = c .before .before .before .before .before .before .before .before .before .args in
+    let a = c .before .before .before .before .before .before .before .before .before .before .args in
+    let b = c .before .before .before .before .branch-of .ensures in
     let t : Table = record { weights = a .weights .now; present = a .present .now; absent = a .absent .now } in
     let r = c .raise .ensures in (
       then-raised t (a .t4 .nodes) _ _ (a .t4 .used) (a .j) (a .k)
-          (three-refined t (a .t4 .nodes) (a .t4 .used) (a .j) (a .k) _ (c .before .before .before .before .ways-of .ensures .0 (a .weights .now)) _ _ _
-          (c .before .before .before .refined .ensures .0) (c .before .before .child-record .ensures .0) (c .before .child-record2 .ensures .0))
+          (three-refined t (a .t4 .nodes) (a .t4 .used) (a .j) (a .k) _ (c .before .before .before .before .before .ways-of .ensures .0 (a .weights .now)) _ _ _
+          (b .node-is) (b .left-is) (b .right-is))
           (r .0),
       r .1,
       r .2,
@@ -102,16 +95,14 @@ grow-spec =
     mul-x
     element-copy-out-x
     ways-of-requires
-    refined-requires
-    mul-t
-    element-set-from-t
-    child-record-requires
-    mul-t-2
-    element-set-from-t-2
-    child-record-requires-2
-    add-t12
-    mul-t21
-    element-set-from-t-3
+    branch-of-requires
+    mul-node
+    element-set-from-node
+    mul-left
+    element-set-from-left
+    add-right
+    mul-right
+    element-set-from-right
     add-t
     raise-requires
     returns)

@@ -1,0 +1,35 @@
+-- What a turn decides on the root's record and on what the search found, and the records that it writes.
+-- Rests on `rules`, Run, on `pick`, Picks, and on `grow`, Branched.
+use mathlib.Core.Bool.{true, false}
+use Prim.Native.Nat.{ℕ}
+use lib.Dec.{eqb}
+use Rattle.rules.specs.Table.{Table}
+use Rattle.rules.specs.Run.{narrow, choice}
+use Rattle.rules.specs.declared.Verdict.the-variants.{Met, Done, Full, Spent}
+use Rattle.records.specs.Records.{recordWays}
+use Rattle.records.specs.declared.Node.{Node}
+use Rattle.grow.specs.Branched.{Branched}
+use Rattle.grow.specs.declared.refine.Branch.{Branch}
+use Rattle.pick.specs.declared.Found.{Found}
+use Rattle.pick.specs.declared.Found.the-variants.{At, Nothing}
+use Rattle.running.specs.declared.Step.{Step}
+use Rattle.running.specs.declared.Step.the-variants.{Stop, Go}
+
+-- With a leaf found: full, spent, or on.
+unfoldable pub withLeaf : ℕ → ℕ → ℕ → ℕ → Step
+withLeaf j used made budget =
+    elim (eqb used 511) as (λ b. Step) [ true ↦ Stop Full | false ↦ elim (eqb made budget) as (λ b. Step) [ true ↦ Stop Spent | false ↦ Go j ] ]
+
+-- Where the root is wide: done, or as the leaf found says.
+unfoldable pub whenWide : Found → ℕ → ℕ → ℕ → Step
+whenWide Nothing used made budget = Stop Done
+whenWide (At j w) used made budget = withLeaf j used made budget
+
+-- Met first.
+unfoldable pub decided : ℕ → Node → Found → ℕ → ℕ → ℕ → Step
+decided allowance root found used made budget =
+    elim (narrow allowance (root .low) (root .high)) as (λ b. Step) [ true ↦ Stop Met | false ↦ whenWide found used made budget ]
+
+-- The records of the leaf x in record j and of its two leaves, refined as the rule says.
+abbrev pub ByRule : Table → Node → ℕ → ℕ → Branch → Type 0
+ByRule t x j next b = Branched (t .weights) x (recordWays t x) (choice (t .weights) (recordWays t x)) j next b

@@ -1,0 +1,10 @@
+//! The rules of cue risk a second time, with the library's own loops, written for speed: the other side of the benchmark.
+//! Flat arrays and records in a fixed array, refined in place; no heap in the run.
+
+pub mod clock;
+pub mod formula;
+pub mod library;
+pub mod run;
+pub mod sheet;
+pub mod sheets;
+pub mod tree;

@@ -1,0 +1,123 @@
+//! A table opened and run, with every refusal that the call tries.
+
+use crate::formula::*;
+use crate::tree::*;
+
+#[repr(C)]
+#[derive(Clone, Copy, Debug, PartialEq, Eq)]
+pub struct Answer {
+    pub number: u64,
+    pub low: u64,
+    pub high: u64,
+    pub count: u64,
+    pub verdict: u64,
+}
+
+pub const MET: u64 = 1;
+pub const DONE: u64 = 2;
+pub const FULL: u64 = 3;
+pub const SPENT: u64 = 4;
+
+fn refused(number: u64) -> Answer {
+    Answer {
+        number,
+        low: 0,
+        high: S,
+        count: 0,
+        verdict: 0,
+    }
+}
+
+/// 9 to 13, or 0.
+fn table_number(table: &Table) -> u64 {
+    let Table {
+        weights,
+        present,
+        absent,
+    } = *table;
+    if weights.is_empty() || weights.len() > MOST_FAULTS {
+        return 9;
+    }
+    if weights.iter().any(|&weight| u64::from(weight) > S) {
+        return 10;
+    }
+    if present.len() > MOST_WAYS || present.len() != absent.len() {
+        return 11;
+    }
+    let ways = || present.iter().zip(absent);
+    if weights.len() < MOST_FAULTS && ways().any(|(p, a)| (p | a) >> weights.len() != 0) {
+        return 12;
+    }
+    if ways().any(|(p, a)| p & a != 0) {
+        return 13;
+    }
+    0
+}
+
+pub fn open(tree: &mut Tree, table: &Table) -> Answer {
+    let number = table_number(table);
+    if number != 0 {
+        *tree = Tree::new();
+        return refused(number);
+    }
+    tree.open(table);
+    Answer {
+        number: 0,
+        low: tree.nodes[0].low,
+        high: tree.nodes[0].high,
+        count: 0,
+        verdict: 0,
+    }
+}
+
+fn choose(weights: &[u32], ways: &[Way]) -> Kind {
+    let word = group_faults(ways);
+    if ways.iter().any(|way| way.faults() & word == 0) {
+        return Kind::IndependentOr(word);
+    }
+    Kind::Shannon(most_named(weights.len(), ways))
+}
+
+pub fn run(tree: &mut Tree, table: &Table, allowance: u32, budget: u16) -> Answer {
+    let number = table_number(table);
+    if number != 0 {
+        return refused(number);
+    }
+    if u64::from(allowance) > S {
+        return refused(14);
+    }
+    if budget > 255 {
+        return refused(15);
+    }
+    if !tree.is_good(table) {
+        return refused(16);
+    }
+    let mut ways = Ways::new();
+    let mut count = 0;
+    let verdict = loop {
+        let root = &tree.nodes[0];
+        if root.high.saturating_sub(root.low) <= u64::from(allowance) {
+            break MET;
+        }
+        let Some(at) = tree.widest() else {
+            break DONE;
+        };
+        if tree.used == MOST_NODES {
+            break FULL;
+        }
+        if count == u64::from(budget) {
+            break SPENT;
+        }
+        tree.ways(table, at, &mut ways);
+        let kind = choose(table.weights, ways.all());
+        tree.grow(table.weights, at, ways.all(), kind);
+        count += 1;
+    };
+    Answer {
+        number: 0,
+        low: tree.nodes[0].low,
+        high: tree.nodes[0].high,
+        count,
+        verdict,
+    }
+}

@@ -1,0 +1,243 @@
+//! The tree as 511 records in a fixed array, refined in place: records, the widest open leaf, growing, and refusal 16.
+//! The layout is the library's, so that trees can be compared record by record.
+
+use crate::formula::*;
+
+pub const MOST_NODES: usize = 511;
+pub const BLANK: u64 = 0;
+pub const LEAF: u64 = 1;
+pub const INDEPENDENT_OR: u64 = 2;
+pub const SHANNON: u64 = 3;
+
+#[repr(C)]
+#[derive(Clone, Copy, PartialEq, Eq)]
+pub struct Node {
+    pub kind: u64,
+    pub fault: u64,
+    pub live: u64,
+    pub parent: usize,
+    pub left: usize,
+    pub ways: [u64; 2],
+    pub present: u64,
+    pub absent: u64,
+    pub low: u64,
+    pub high: u64,
+    pub own_low: u64,
+    pub own_high: u64,
+}
+
+#[repr(C)]
+#[derive(Clone, PartialEq, Eq)]
+pub struct Tree {
+    pub nodes: [Node; MOST_NODES],
+    pub used: usize,
+}
+
+#[derive(Clone, Copy)]
+pub enum Kind {
+    /// With the faults of the first group.
+    IndependentOr(u64),
+    Shannon(usize),
+}
+
+const NO_NODE: Node = Node {
+    kind: BLANK,
+    fault: 0,
+    live: 0,
+    parent: 0,
+    left: 0,
+    ways: [0; 2],
+    present: 0,
+    absent: 0,
+    low: 0,
+    high: 0,
+    own_low: 0,
+    own_high: 0,
+};
+
+fn leaf(weights: &[u32], ways: &[Way], present: u64, absent: u64, parent: usize) -> Node {
+    let low = leaf_low(weights, ways);
+    let high = leaf_high(weights, ways);
+    Node {
+        kind: LEAF,
+        fault: 0,
+        live: u64::from(is_open(ways, low, high)),
+        parent,
+        left: 0,
+        ways: numbers(ways),
+        present,
+        absent,
+        low,
+        high,
+        own_low: low,
+        own_high: high,
+    }
+}
+
+impl Tree {
+    pub const fn new() -> Tree {
+        Tree {
+            nodes: [NO_NODE; MOST_NODES],
+            used: 0,
+        }
+    }
+
+    pub fn open(&mut self, table: &Table) {
+        let mut ways = Ways::new();
+        remaining(table, all_numbers(table.present.len()), 0, 0, &mut ways);
+        self.nodes.fill(NO_NODE);
+        self.nodes[0] = leaf(table.weights, ways.all(), 0, 0, 0);
+        self.used = 1;
+    }
+
+    /// The leftmost of the widest open leaves, by the links: down to the left, up until a right child is next.
+    pub fn widest(&self) -> Option<usize> {
+        let mut best = None;
+        let mut most = 0;
+        let mut at = 0;
+        let mut down = true;
+        loop {
+            let node = &self.nodes[at];
+            if down {
+                if node.left != 0 {
+                    at = node.left;
+                    continue;
+                }
+                let width = node.high.saturating_sub(node.low);
+                if node.live == 1 && (best.is_none() || width > most) {
+                    best = Some(at);
+                    most = width;
+                }
+                down = false;
+            } else {
+                if at == 0 {
+                    return best;
+                }
+                let left = self.nodes[node.parent].left;
+                if left == at {
+                    at = left + 1;
+                    down = true;
+                } else {
+                    at = node.parent;
+                }
+            }
+        }
+    }
+
+    /// The remaining ways of a record.
+    pub fn ways(&self, table: &Table, at: usize, ways: &mut Ways) {
+        let node = &self.nodes[at];
+        remaining(table, node.ways, node.present, node.absent, ways);
+    }
+
+    /// Refines the leaf at a record, whose ways are handed over, and joins the intervals up to the root.
+    pub fn grow(&mut self, weights: &[u32], at: usize, ways: &[Way], kind: Kind) {
+        let mut child = Ways::new();
+        let node = self.nodes[at];
+        let left = self.used;
+        for right in [false, true] {
+            let (mut present, mut absent) = (node.present, node.absent);
+            match kind {
+                Kind::IndependentOr(word) => part(ways, word, !right, &mut child),
+                Kind::Shannon(fault) => {
+                    let bit = 1 << fault;
+                    if right {
+                        absent |= bit;
+                        restrict(ways, 0, bit, &mut child);
+                    } else {
+                        present |= bit;
+                        restrict(ways, bit, 0, &mut child);
+                    }
+                }
+            }
+            self.nodes[left + usize::from(right)] = leaf(weights, child.all(), present, absent, at);
+        }
+        let node = &mut self.nodes[at];
+        match kind {
+            Kind::IndependentOr(_) => node.kind = INDEPENDENT_OR,
+            Kind::Shannon(fault) => {
+                node.kind = SHANNON;
+                node.fault = fault as u64;
+            }
+        }
+        node.live = 0;
+        node.left = left;
+        self.used = left + 2;
+        self.raise(weights, at);
+    }
+
+    fn raise(&mut self, weights: &[u32], from: usize) {
+        let mut at = from;
+        loop {
+            let (low, high) = self.joined(weights, at);
+            let node = &mut self.nodes[at];
+            node.low = node.own_low.max(low);
+            node.high = node.own_high.min(high);
+            if at == 0 {
+                return;
+            }
+            at = node.parent;
+        }
+    }
+
+    /// What the children of a record give together.
+    fn joined(&self, weights: &[u32], at: usize) -> (u64, u64) {
+        let node = &self.nodes[at];
+        let (l, r) = (&self.nodes[node.left], &self.nodes[node.left + 1]);
+        if node.kind == INDEPENDENT_OR {
+            return (
+                S - up((S - l.low) * (S - r.low)),
+                S - down((S - l.high) * (S - r.high)),
+            );
+        }
+        let w = u64::from(weights[node.fault as usize]);
+        (
+            down(w * l.low + (S - w) * r.low),
+            up(w * l.high + (S - w) * r.high),
+        )
+    }
+
+    /// Refusal 16: the refinements that the records tell are made again, and the outcome is compared.
+    pub fn is_good(&self, table: &Table) -> bool {
+        if self.used % 2 == 0 {
+            return false;
+        }
+        let mut fresh = Tree::new();
+        fresh.open(table);
+        let mut ways = Ways::new();
+        for _ in 0..self.used / 2 {
+            let next = fresh.used;
+            if next >= MOST_NODES {
+                return false;
+            }
+            let at = self.nodes[next].parent;
+            if at >= next || fresh.nodes[at].live != 1 {
+                return false;
+            }
+            fresh.ways(table, at, &mut ways);
+            let told = &self.nodes[at];
+            let Some(kind) = possible(told, ways.all()) else {
+                return false;
+            };
+            fresh.grow(table.weights, at, ways.all(), kind);
+        }
+        self.nodes == fresh.nodes
+    }
+}
+
+/// What a record says was done, if it can be done with these ways.
+fn possible(told: &Node, ways: &[Way]) -> Option<Kind> {
+    if told.kind == INDEPENDENT_OR {
+        let word = group_faults(ways);
+        let apart = ways.iter().any(|way| way.faults() & word == 0);
+        return apart.then_some(Kind::IndependentOr(word));
+    }
+    let fault = told.fault as usize;
+    let occurs = fault < MOST_FAULTS && ways.iter().any(|way| way.faults() >> fault & 1 == 1);
+    occurs.then_some(Kind::Shannon(fault))
+}
+
+fn all_numbers(count: usize) -> [u64; 2] {
+    let below = |n: usize| if n >= 64 { !0 } else { (1u64 << n) - 1 };
+    [below(count), below(count.saturating_sub(64))]
+}
