@@ -2,7 +2,7 @@
 //! A set's ways are taken off the two slices of a table's words, in number order.
 ghost use mathlib.Core.Path.{_≡_};
 ghost use Prim.Native.Nat.{_<_, _≤_, _^_};
-ghost use lib.ListN.{length};
+ghost use lib.ListN.{length, replicate};
 ghost use Rattle.rules.specs.Table.{rows};
 ghost use Rattle.rules.specs.Leaf;
 ghost use Rattle.records.specs.Records.{inWords, lowWord, highWord};
@@ -29,7 +29,9 @@ pub fn in_words(a: u64, b: u64, i: usize) -> bool
 }
 
 /// Room for ways, filled with ways that name nothing.
-pub fn room() -> [Way; 128] {
+pub fn room() -> [Way; 128]
+    ensures { λ r. ⌜ r ≡ replicate 128 (record { number = 0; present = 0; absent = 0 }) ⌝ }
+{
     let none = Way {
         number: 0,
         present: 0,

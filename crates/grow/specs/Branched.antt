@@ -3,7 +3,6 @@
 use mathlib.Core.Path.{_≡_}
 use mathlib.Core.List.{List, []}
 use Prim.Native.Nat.{ℕ}
-use Rattle.rules.specs.Table.{Table}
 use Rattle.rules.specs.Tree.{Side, left, right, childNode}
 use Rattle.rules.specs.declared.Kind.{Kind}
 use Rattle.rules.specs.declared.Way.{Way}

@@ -20,7 +20,7 @@ use Rattle.rules.specs.Run.{Candidate, widest, choice, next}
 use Rattle.rules.proofs.Booleans.{and-right}
 use Rattle.rules.proofs.Places.{ways-leaf, leaf-has, done-no-leaf}
 use Rattle.rules.proofs.Widest.{Law, nothing, the, widest-law, widest-none}
-use Rattle.records.specs.Records.{places, position, kindCode, recordAt, recordsOf, layout, history, bad}
+use Rattle.records.specs.Records.{recordIn, places, position, kindCode, recordAt, recordsOf, layout, history, bad}
 use Rattle.records.specs.Growing.{recordWidth}
 use Rattle.records.specs.declared.Node.{Node}
 use Rattle.records.specs.declared.Tree.{Tree}
@@ -30,7 +30,7 @@ use Rattle.records.proofs.History.{history-layout}
 use Rattle.records.proofs.Sixteen.{sixteen}
 use Rattle.records.proofs.Live.{Holds, refined, unrefined, holds}
 use Rattle.page.specs.declared.Spot.the-variants.{At, Nothing}
-use Rattle.page.specs.Widest.{recordIn, widestOf, Counts, FirstWidest, NoneCounts}
+use Rattle.page.specs.Widest.{widestOf, Counts, FirstWidest, NoneCounts}
 use Rattle.page.proofs.Finds.{widest-told}
 
 -- An open leaf is at the place.

@@ -9,13 +9,14 @@ use native.Mathlib.Decide.{decLt}
 use lib.ListN.{length}
 use lib.Dec.{eqb, ltb}
 use borrow.Author.Tests.{ltb-true, ltb-false, lt-ltb, eqb-true, eqb-false, eq-eqb}
+use Rattle.records.specs.Records.{recordIn}
 use Rattle.rules.proofs.Booleans.{and-left, and-right, and-both}
 use Rattle.records.specs.Growing.{recordWidth}
 use Rattle.records.specs.declared.Node.{Node}
 use Rattle.page.specs.declared.Best.{Best}
 use Rattle.page.specs.declared.Spot.{Spot}
 use Rattle.page.specs.declared.Spot.the-variants.{At, Nothing}
-use Rattle.page.specs.Widest.{recordIn, counts, countedWidth, betterOf, widestUpTo, answerOf, widestOf, Counts, FirstWidest, NoneCounts, Told}
+use Rattle.page.specs.Widest.{counts, countedWidth, betterOf, widestUpTo, answerOf, widestOf, Counts, FirstWidest, NoneCounts, Told}
 
 -- ---- the test and its words
 

@@ -5,18 +5,14 @@ use mathlib.Core.Bool.{Bool, true, false, _&&_}
 use mathlib.Core.List.{List}
 use mathlib.Core.Logic.{_↔_}
 use Prim.Native.Nat.{ℕ, zero, suc, _<_, _≤_}
-use lib.ListN.{length, getD}
+use lib.ListN.{length}
 use lib.Dec.{eqb, ltb}
-use Rattle.records.specs.Records.{blank}
+use Rattle.records.specs.Records.{recordIn}
 use Rattle.records.specs.Growing.{recordWidth}
 use Rattle.records.specs.declared.Node.{Node}
 use Rattle.page.specs.declared.Best.{Best}
 use Rattle.page.specs.declared.Spot.{Spot}
 use Rattle.page.specs.declared.Spot.the-variants.{At, Nothing}
-
--- Record i.
-abbrev pub recordIn : List Node → ℕ → Node
-recordIn xs i = getD xs i blank
 
 -- ---- the search
 

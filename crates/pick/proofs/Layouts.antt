@@ -13,12 +13,12 @@ use Rattle.rules.specs.declared.Kind.{Kind}
 use Rattle.rules.proofs.Booleans.{and-left}
 use Rattle.rules.proofs.Places.{leaf-has}
 use Rattle.rules.proofs.Series.{In, acceptable-leaf, series-back, only-done}
-use Rattle.records.specs.Records.{children, places, position, above, leftCode, childRecord, recordsOf, layout}
+use Rattle.records.specs.Records.{recordIn, children, places, position, above, leftCode, childRecord, recordsOf, layout}
 use Rattle.records.specs.declared.Node.{Node}
 use Rattle.records.proofs.Positions.{Held, position-inside, held-at, position-of, above-child, places-append, length-places, position-lt, child-held, has-held, places-once, right-next}
 use Rattle.records.proofs.InPlace.{few-places, record-of, record-at, parent-of}
 use Rattle.records.proofs.Seen.{left-link}
-use Rattle.pick.specs.Picks.{recordIn, Linked}
+use Rattle.pick.specs.Picks.{Linked}
 
 module _ (t : Table) (ns : List Refinement) (whole : series t ns ≡ true) where
   -- A refinement's place stands in the list before the two children that it adds.

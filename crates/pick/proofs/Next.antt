@@ -19,7 +19,7 @@ use Rattle.rules.specs.Run.{Candidate, from, widest, choice, next}
 use Rattle.rules.proofs.Places.{nodes-inners, ways-leaf, leaf-has, subtree-has, subtree-kind, subtree-child, undone-leaf}
 use Rattle.rules.proofs.Series.{series-room}
 use Rattle.rules.proofs.Widest.{Leftmost, Law, the, widest-law}
-use Rattle.records.specs.Records.{places, samePlace, position, leftCode, recordWays, recordAt, recordsOf, layout}
+use Rattle.records.specs.Records.{recordIn, places, samePlace, position, leftCode, recordWays, recordAt, recordsOf, layout}
 use Rattle.records.specs.Growing.{recordWidth}
 use Rattle.records.specs.declared.Node.{Node}
 use Rattle.records.proofs.Positions.{Held, position-lt, position-get, has-held, position-child}
@@ -28,7 +28,7 @@ use Rattle.records.proofs.Seen.{left-link}
 use Rattle.records.proofs.Live.{Holds, refined, unrefined, holds}
 use Rattle.pick.specs.declared.Found.{Found}
 use Rattle.pick.specs.declared.Found.the-variants.{At, Nothing}
-use Rattle.pick.specs.Picks.{recordIn, ownFound, wider, pickFrom, pickOf}
+use Rattle.pick.specs.Picks.{ownFound, wider, pickFrom, pickOf}
 use Rattle.pick.proofs.Layouts.{child-at}
 
 -- ---- a candidate of the rules as the search would show it

@@ -8,8 +8,9 @@ use native.Mathlib.Omega.{arith}
 use native.Mathlib.Decide.{ℕ-discrete}
 use lib.Dec.{eqb}
 use borrow.Author.Tests.{eq-eqb, ne-eqb}
+use Rattle.records.specs.Records.{recordIn}
 use Rattle.records.specs.declared.Node.{Node}
-use Rattle.pick.specs.Picks.{recordIn, Linked}
+use Rattle.pick.specs.Picks.{Linked}
 
 -- The records of the tree at record i, parents first and the left before the right, at most f records deep.
 unfoldable pub order : ℕ → List Node → ℕ → List ℕ

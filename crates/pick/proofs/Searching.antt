@@ -1,19 +1,20 @@
 -- A SEARCH BY STEPS COMES TO THE LEFTMOST WIDEST OPEN LEAF: what holds of it on the way, and that each step keeps this and comes nearer.
 -- For callers, whose loop makes the steps. Rests on Walk.antt.
-use mathlib.Core.Path.{_≡_, refl, sym, ap, _∙_}
+use mathlib.Core.Path.{_≡_, refl, sym}
 use mathlib.Core.Bool.{Bool, true, false, true≢false}
 use mathlib.Core.List.{List}
-use Prim.Native.Nat.{ℕ, zero, suc, _<_}
+use Prim.Native.Nat.{ℕ, suc, _<_}
 use native.Mathlib.Nat.{add-zero}
 use native.Mathlib.Numerals.{add-one}
 use native.Mathlib.Omega.{arith}
 use native.Mathlib.Decide.{ℕ-discrete}
 use borrow.Author.Tests.{eq-eqb, ne-eqb}
+use Rattle.records.specs.Records.{recordIn}
 use Rattle.records.specs.declared.Node.{Node}
 use Rattle.pick.specs.declared.Found.{Found}
-use Rattle.pick.specs.Picks.{recordIn, pickOf, Linked}
+use Rattle.pick.specs.Picks.{pickOf, Linked}
 use Rattle.pick.specs.Steps.{View, begun, came, goneDown, goneUp, cameUp, stepped}
-use Rattle.pick.proofs.Walk.{Walk, turns, start, room, at-leaf, less-leaf, to-left, less-left, over, higher, to-right, less-right, to-parent, less-parent}
+use Rattle.pick.proofs.Walk.{Walk, turns, start, room, at-leaf, less-leaf, to-left, less-left, over, to-right, less-right, to-parent, less-parent}
 
 -- The search is on its way, or over with the answer.
 pub record Searching (xs : List Node) (used : ℕ) (s : View) : Type 0 where

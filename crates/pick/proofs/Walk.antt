@@ -11,10 +11,11 @@ use native.Mathlib.Decide.{ℕ-discrete}
 use lib.ListN.{length}
 use lib.Dec.{eqb}
 use borrow.Author.Tests.{eq-eqb, ne-eqb}
+use Rattle.records.specs.Records.{recordIn}
 use Rattle.records.specs.declared.Node.{Node}
 use Rattle.pick.specs.declared.Found.{Found}
 use Rattle.pick.specs.declared.Found.the-variants.{Nothing}
-use Rattle.pick.specs.Picks.{recordIn, ownFound, wider, pickFrom, pickOf, Linked}
+use Rattle.pick.specs.Picks.{ownFound, wider, pickFrom, pickOf, Linked}
 use Rattle.pick.proofs.Wider.{wider-nothing, wider-assoc}
 use Rattle.pick.proofs.Order.{order, beside, after, after-root, order-deep, order-leaf, order-inner, after-child}
 

@@ -4,17 +4,12 @@ use mathlib.Core.Path.{_≡_}
 use mathlib.Core.Bool.{true, false}
 use mathlib.Core.List.{List}
 use Prim.Native.Nat.{ℕ, zero, suc, _<_, _≤_}
-use lib.ListN.{getD}
 use lib.Dec.{eqb, ltb}
-use Rattle.records.specs.Records.{blank}
+use Rattle.records.specs.Records.{recordIn}
 use Rattle.records.specs.Growing.{recordWidth}
 use Rattle.records.specs.declared.Node.{Node}
 use Rattle.pick.specs.declared.Found.{Found}
 use Rattle.pick.specs.declared.Found.the-variants.{At, Nothing}
-
--- Record i.
-abbrev pub recordIn : List Node → ℕ → Node
-recordIn xs i = getD xs i blank
 
 -- ---- the search
 

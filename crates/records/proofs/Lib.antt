@@ -12,4 +12,3 @@ pub mod Raised
 pub mod Grown
 pub mod Live
 pub mod Rebuilt
-pub mod Chosen

@@ -37,6 +37,10 @@ blank =
       ownhigh = 0;
     }
 
+-- Record i of a list of records, the blank past its end.
+abbrev pub recordIn : List Node → ℕ → Node
+recordIn xs i = getD xs i blank
+
 -- ---- which record holds which place
 
 -- The two children of each refinement, in the order in which the refinements were made.

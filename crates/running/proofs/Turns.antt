@@ -11,7 +11,6 @@ use lib.Dec.{ltb}
 use borrow.Author.Tests.{lt-ltb, le-ltb}
 use Rattle.rules.specs.Table.{Table}
 use Rattle.rules.specs.declared.Way.{Way}
-use Rattle.rules.specs.declared.Kind.{Kind}
 use Rattle.rules.specs.declared.Kind.the-variants.{IndependentOr, Shannon}
 use Rattle.rules.specs.declared.Verdict.the-variants.{Met, Done, Full}
 use Rattle.rules.specs.Group.{fallApart}
@@ -24,7 +23,6 @@ use Rattle.records.specs.declared.Tree.{Tree}
 use Rattle.records.proofs.Positions.{length-places}
 use Rattle.records.proofs.InPlace.{few-places, records-long, record-of}
 use Rattle.records.proofs.History.{history-layout}
-use Rattle.formula.specs.Clauses.{FaultFits}
 use Rattle.pick.specs.Picks.{pickOf, Linked}
 use Rattle.pick.specs.declared.Found.{Found}
 use Rattle.pick.specs.declared.Found.the-variants.{At, Nothing}

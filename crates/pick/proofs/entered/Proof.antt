@@ -1,7 +1,7 @@
 -- `entered` meets its contract: a closed leaf adds nothing, and an open one is compared with what was found.
 -- Rests on Wider.antt and on the contracts of `moved` and `width`.
 use mathlib.Core.Path.{_≡_, sym, ap, _∙_}
-use mathlib.Core.Bool.{Bool, true, false}
+use mathlib.Core.Bool.{true, false}
 use Prim.Native.Nat.{ℕ, _<_, _≤_}
 use borrow.Author.Needs.{needs}
 use borrow.Author.Tests.{eq-eqb, ne-eqb}
@@ -11,7 +11,7 @@ use Rattle.pick.specs.declared.Found.{Found}
 use Rattle.pick.specs.declared.Found.the-variants.{At, Nothing}
 use Rattle.pick.specs.declared.Search.{Search}
 use Rattle.pick.specs.Picks.{ownFound, wider}
-use Rattle.pick.specs.Steps.{View, view, came}
+use Rattle.pick.specs.Steps.{view, came}
 use Rattle.pick.proofs.Wider.{wider-second, wider-first, wider-nothing}
 use Rattle.pick.proofs.entered.Statement.{statement}
 use Rattle.pick.proofs.entered.Tie as tie

@@ -1,16 +1,14 @@
 -- `counts` meets its contract. The outer loop's invariant: each count, and that of the ways from i on, make the whole.
 -- The inner loop's: the same, with the bits of the word m besides. Rests on Counted.antt for both, and on Walk.antt.
-use mathlib.Core.Path.{_≡_, refl, ap, _∙_, subst}
+use mathlib.Core.Path.{_≡_, subst}
 use mathlib.Core.List.{List}
-use Prim.Native.Nat.{ℕ, _+_, _-_, _≤_, _<_}
+use Prim.Native.Nat.{_+_, _-_, _≤_}
 use native.Mathlib.Omega.{arith}
 use borrow.Author.Needs.{needs}
-use lib.ListN.{length, getD, replicate}
-use lib.Bits.{bitAnd, and-le-r}
-use lib.Count.{trailingZeros, trailing-le}
+use lib.ListN.{length}
+use lib.Bits.{and-le-r}
+use lib.Count.{trailing-le}
 use Rattle.rules.specs.declared.Way.{Way}
-use Rattle.rules.specs.Run.{named}
-use Rattle.formula.specs.declared.Clauses.{Clauses}
 use Rattle.formula.specs.Clauses.{waysOf}
 use Rattle.formula.proofs.Counted.{Counting, begun, small, taken-up, counted, lowest-below, all-counted}
 use Rattle.formula.proofs.Walk.{length-unmap, way, waysFrom, next-way, none-left, count}

@@ -1,6 +1,6 @@
 -- `remains` meets its contract: both tests hold.
 -- Rests on the contracts of `in_words` and `contradicted`.
-use mathlib.Core.Path.{_≡_, ap₂}
+use mathlib.Core.Path.{ap₂}
 use mathlib.Core.Bool.{Bool, not, _&&_}
 use borrow.Author.Needs.{needs}
 use Rattle.formula.proofs.remaining.remains.Statement.{statement}

@@ -1,6 +1,5 @@
 -- `branch_of` meets its contract, record by record.
 -- Rests on the contracts of `refined` and `child_record`.
-use borrow.Author.Needs.{needs}
 use Rattle.grow.proofs.refine.branch_of.Statement.{statement}
 use Rattle.grow.proofs.refine.branch_of.Tie as tie
 

@@ -9,11 +9,10 @@ use borrow.Author.Needs.{needs}
 use borrow.Author.Tests.{not-true, not-false}
 use Rattle.rules.specs.Table.{Table}
 use Rattle.rules.proofs.Accepted.{light}
-use Rattle.records.specs.Records.{history}
+use Rattle.records.specs.Records.{recordIn, history}
 use Rattle.grow.proofs.Climb.{Climb, spent, higher}
 use Rattle.grow.proofs.Leaves.{safe-three}
 use Rattle.grow.proofs.Branches.{three-long, branch-grown, fewer}
-use Rattle.pick.specs.Picks.{recordIn}
 use Rattle.pick.specs.Steps.{view}
 use Rattle.pick.proofs.Searching.{Searching, stepsLeft, begins, inside, keeps, less}
 use Rattle.running.specs.declared.Step.{Step}

@@ -1,9 +1,8 @@
 -- `branch_by_rule` meets its contract: the kind is the rules' choice for the leaf's ways.
 -- Rests on the contracts of `ways_of`, `choose` and `branch_of`.
-use mathlib.Core.Path.{_≡_, refl, sym, ap, _∙_}
+use mathlib.Core.Path.{_≡_, refl, sym}
 use mathlib.Core.List.{List}
 use Prim.Native.Nat.{ℕ}
-use borrow.Author.Needs.{needs}
 use Rattle.rules.specs.Table.{Table}
 use Rattle.rules.specs.Run.{choice}
 use Rattle.rules.specs.declared.Kind.{Kind}
