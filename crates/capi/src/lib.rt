@@ -1,5 +1,6 @@
-//! The C interface (include/cue_risk.h): the tree is lent and written back, the answer is handed back as plain numbers.
+//! The C interface (include/cue_risk.h): the tree is lent and written where it is, the answer is handed back as plain numbers.
 //! Thin functions over `plain`: their promises are those of `plain`, Told, of what is lent.
+ghost use Rattle.store.specs.Lent.{treeOf};
 ghost use Rattle.writer.specs.Given.{given};
 ghost use Rattle.plain.specs.Numbers.{kindAsked};
 ghost use Rattle.plain.specs.Told.{OpeningTold, RefiningTold, RunningTold, SearchTold, ReadingTold, EntryTold, WritingTold, ReportingTold};
@@ -8,28 +9,26 @@ use plain::FlatEntry;
 use plain::FlatHead;
 use plain::FlatSpot;
 use records::Node;
-use records::Tree;
+use store::Words;
 
 /// Opens a table. What the tree held before does not matter; refused, it is left without nodes.
 #[no_mangle]
 pub extern "C" fn cue_open(
-    tree: &mut Tree,
+    tree: &mut Words,
     weights: &[u32],
     present: &[u64],
     absent: &[u64],
 ) -> FlatAnswer
-    ensures { λ r. ⌜ OpeningTold (record { weights = now (weights .entry); present = now (present .entry); absent = now (absent .entry) }) (now (tree .exit)) r ⌝ }
+    ensures { λ r. ⌜ OpeningTold (record { weights = now (weights .entry); present = now (present .entry); absent = now (absent .entry) }) (treeOf (now (tree .exit))) r ⌝ }
 {
-    let s = plain::trees::open(weights, present, absent);
-    *tree = s.tree;
-    s.answer
+    plain::trees::open(tree, weights, present, absent)
 }
 
 /// Refines one leaf of the tree. The place is a list of steps from the root, 0 for left and 1 for right; `what` is 0 for
 /// independence and 1 for the fault.
 #[no_mangle]
 pub extern "C" fn cue_refine(
-    tree: &mut Tree,
+    tree: &mut Words,
     weights: &[u32],
     present: &[u64],
     absent: &[u64],
@@ -37,28 +36,24 @@ pub extern "C" fn cue_refine(
     what: u8,
     fault: u32,
 ) -> FlatAnswer
-    ensures { λ r. ⌜ RefiningTold (record { weights = now (weights .entry); present = now (present .entry); absent = now (absent .entry) }) (now (tree .entry)) (now (place .entry)) (kindAsked what fault) (now (tree .exit)) r ⌝ }
+    ensures { λ r. ⌜ RefiningTold (record { weights = now (weights .entry); present = now (present .entry); absent = now (absent .entry) }) (treeOf (now (tree .entry))) (now (place .entry)) (kindAsked what fault) (treeOf (now (tree .exit))) r ⌝ }
 {
-    let s = plain::trees::refine(*tree, weights, present, absent, place, what, fault);
-    *tree = s.tree;
-    s.answer
+    plain::trees::refine(tree, weights, present, absent, place, what, fault)
 }
 
 /// Makes a run on the tree.
 #[no_mangle]
 pub extern "C" fn cue_run(
-    tree: &mut Tree,
+    tree: &mut Words,
     weights: &[u32],
     present: &[u64],
     absent: &[u64],
     allowance: u32,
     budget: u16,
 ) -> FlatAnswer
-    ensures { λ r. ⌜ RunningTold (record { weights = now (weights .entry); present = now (present .entry); absent = now (absent .entry) }) (now (tree .entry)) (record { allowance = allowance; budget = budget }) (now (tree .exit)) r ⌝ }
+    ensures { λ r. ⌜ RunningTold (record { weights = now (weights .entry); present = now (present .entry); absent = now (absent .entry) }) (treeOf (now (tree .entry))) (record { allowance = allowance; budget = budget }) (treeOf (now (tree .exit))) r ⌝ }
 {
-    let s = plain::trees::run(*tree, weights, present, absent, allowance, budget);
-    *tree = s.tree;
-    s.answer
+    plain::trees::run(tree, weights, present, absent, allowance, budget)
 }
 
 /// The first position with the widest open leaf in any records.

@@ -1,41 +1,113 @@
--- Comparing lists of records from a position on: the rest decides. Rests on `records`, Records.
-use mathlib.Core.Path.{_≡_, refl, sym, ap, _∙_}
-use mathlib.Core.Bool.{Bool, true, false, _&&_}
+-- Comparing the words of two trees: what was unlike so far is 0 exactly if all words so far are equal, and all words are equal exactly if all records are.
+-- Rests on the tree of lent words, `store`, Lent, and on the test of `records`, Sixteen.
+use mathlib.Core.Path.{_≡_, refl, sym, ap, ap₂, _∙_}
+use mathlib.Core.Bool.{Bool, true, false}
 use mathlib.Core.List.{List, [], _∷_}
-use Prim.Native.Nat.{ℕ, zero, suc, _+_, _<_}
+use Prim.Native.Nat.{ℕ, zero, suc, _+_, _*_, _/_, _%_, _≤_, _<_}
+use native.Mathlib.Nat.{add-zero}
+use native.Mathlib.Decide.{ℕ-discrete}
+use native.Mathlib.Numerals.{lt-of-le-of-ne}
 use native.Mathlib.Omega.{arith}
-use native.Mathlib.Numerals.{unary-clauses}
-use lib.ListN.{length, getD, drop}
-use Rattle.records.specs.Records.{blank, sameNode, sameNodes}
+use lib.Bits.{bitOr, bitXor, xor-add-and, xor-self, and-le-l, and-le-r}
+use lib.Dec.{eqb}
+use lib.ListN.{getD}
+use lib.Seq.{ext-getD}
+use borrow.Author.Tests.{eq-eqb, ne-eqb}
+use Rattle.rules.proofs.Bits.{or-zero}
+use Rattle.records.specs.Records.{blank, recordIn, sameNodes}
 use Rattle.records.specs.declared.Node.{Node}
+use Rattle.records.proofs.Sixteen.{same-nodes, nodes-self}
+use Rattle.store.specs.Lent.{nodeAt, treeOf}
+use Rattle.store.proofs.Lent.{long, record-is, same-record}
 
--- One record more: equal, the rest decides.
-pub same-drop : (xs ys : List Node) (i : ℕ) → i < length xs → i < length ys
-    → sameNodes (drop i xs) (drop i ys) ≡ sameNode (getD xs i blank) (getD ys i blank) && sameNodes (drop (suc i) xs) (drop (suc i) ys)
-unfolding sameNodes
-same-drop [] ys i h g = absurd (omega (arith, h))
-same-drop (x ∷ xs) [] i h g = absurd (omega (arith, g))
-same-drop (x ∷ xs) (y ∷ ys) zero h g = refl
-same-drop (x ∷ xs) (y ∷ ys) (suc i) h g = same-drop xs ys i (omega (arith, h)) (omega (arith, g))
+-- ---- a record's words
 
--- At the end nothing is left to differ.
-pub same-end : (xs ys : List Node) (n : ℕ) → length xs ≡ n → length ys ≡ n → sameNodes (drop n xs) (drop n ys) ≡ true
-unfolding sameNodes
-same-end [] [] zero h g = refl
-same-end [] (y ∷ ys) zero h g = absurd (omega (arith, g))
-same-end [] ys (suc n) h g = absurd (omega (arith, h))
-same-end (x ∷ xs) ys zero h g = absurd (omega (arith, h))
-same-end (x ∷ xs) [] (suc n) h g = absurd (omega (arith, g))
-same-end (x ∷ xs) (y ∷ ys) (suc n) h g = same-end xs ys n (omega (arith, h)) (omega (arith, g))
+-- A record's fields, in the order of its words.
+abbrev fields : Node → List ℕ
+fields n =
+    n .kind ∷ n .fault ∷ n .live ∷ n .parent ∷ n .left ∷ n .waysa ∷ n .waysb ∷ n .present ∷ n .absent ∷ n .low ∷ n .high ∷ n .ownlow ∷ n .ownhigh ∷ []
 
--- The records up to i are equal, so that those from i on answer for all. Then record i answers, or those behind it.
-module _ (xs ys : List Node) (i : ℕ) (h : i < length xs) (g : i < length ys) (so-far : sameNodes (drop i xs) (drop i ys) ≡ sameNodes xs ys) (r : Bool)
-    (e : r ≡ sameNode (getD xs i blank) (getD ys i blank)) where
-  step : r && sameNodes (drop (suc i) xs) (drop (suc i) ys) ≡ sameNodes xs ys
-  step = ap (λ (b : Bool). b && sameNodes (drop (suc i) xs) (drop (suc i) ys)) e ∙ sym (same-drop xs ys i h g) ∙ so-far
+-- n words from word i + k on.
+unfoldable run : List ℕ → ℕ → ℕ → ℕ → List ℕ
+run ws i k zero = []
+run ws i k (suc n) = getD ws (i + k) 0 ∷ run ws i (suc k) n
 
-  pub differs : r ≡ false → false ≡ sameNodes xs ys
-  differs f = ap (λ (b : Bool). b && sameNodes (drop (suc i) xs) (drop (suc i) ys)) (sym f) ∙ step
+run-at : (ws : List ℕ) (i k n q : ℕ) → q < n → getD (run ws i k n) q 0 ≡ getD ws (i + (k + q)) 0
+unfolding run
+run-at ws i k zero q h = absurd (omega arith)
+run-at ws i k (suc n) zero h = ap (λ p. getD ws (i + p) 0) (sym (add-zero k))
+run-at ws i k (suc n) (suc q) h = run-at ws i (suc k) n q (omega arith) ∙ ap (λ p. getD ws p 0) (omega arith)
 
-  pub agrees : r ≡ true → sameNodes (drop (i + 1) xs) (drop (i + 1) ys) ≡ sameNodes xs ys
-  agrees f = simp unary-clauses (ap (λ (b : Bool). b && sameNodes (drop (suc i) xs) (drop (suc i) ys)) (sym f) ∙ step)
+-- The fields of record j are the 13 words from word 13j on.
+field-at : (ws : List ℕ) (j q : ℕ) → q < 13 → getD (fields (nodeAt ws j)) q 0 ≡ getD ws (13 * j + q) 0
+unfolding run
+field-at ws j q h =
+    ap (λ p. getD (getD ws p 0 ∷ run ws (13 * j) 1 12) q 0) (sym (add-zero (13 * j))) ∙ run-at ws (13 * j) 0 13 q h ∙ ap (λ p. getD ws (13 * j + p) 0) (omega arith)
+
+-- ---- the words of two trees
+
+module _ (us ws : List ℕ) where
+  -- The words before word i are equal.
+  abbrev Same : ℕ → Type 0
+  Same i = (k : ℕ) → k < i → getD us k 0 ≡ getD ws k 0
+
+  -- Trees of equal words have equal records.
+  same-trees : Same 6643 → treeOf us .nodes ≡ treeOf ws .nodes
+  same-trees s =
+      ext-getD blank (treeOf us .nodes) (treeOf ws .nodes) (long us ∙ sym (long ws))
+      (λ i l. at i (omega (arith, long us)))
+    where
+      at : (i : ℕ) → i < 511 → recordIn (treeOf us .nodes) i ≡ recordIn (treeOf ws .nodes) i
+      at i h = record-is us i h ∙ same-record us ws i i (λ q r. s (13 * i + q) (omega arith)) ∙ sym (record-is ws i h)
+
+  -- And the other way.
+  same-words : treeOf us .nodes ≡ treeOf ws .nodes → Same 6643
+  same-words e k h =
+      let j = k / 13 in
+      let q = k % 13 in
+      let l : j < 511 = omega arith in
+      let r : q < 13 = omega arith in
+      let n : nodeAt us j ≡ nodeAt ws j = sym (record-is us j l) ∙ ap (λ (xs : List Node). recordIn xs j) e ∙ record-is ws j l in
+      let f : getD us (13 * j + q) 0 ≡ getD ws (13 * j + q) 0 = sym (field-at us j q r) ∙ ap (λ (x : Node). getD (fields x) q 0) n ∙ field-at ws j q r in
+      let w : 13 * j + q ≡ k = omega arith in
+      ap (λ (p : ℕ). getD us p 0) (sym w) ∙ f ∙ ap (λ (p : ℕ). getD ws p 0) w
+
+  -- What was unlike in the words before word i.
+  pub record Compared (unlike i : ℕ) : Type 0 where
+    pub inside : i ≤ 6643
+    pub alike : unlike ≡ 0 → Same i
+    pub nothing : Same i → unlike ≡ 0
+
+  pub start : Compared 0 0
+  start = record { inside = omega arith; alike = λ _ k h. absurd (omega arith); nothing = λ _. refl }
+
+  -- One word more.
+  pub turn : (m i : ℕ) → Compared m i → i < 6643 → Compared (bitOr m (bitXor (getD us i 0) (getD ws i 0))) (i + 1)
+  turn m i c h = record { inside = omega arith; alike = λ e k l. by e k l (ℕ-discrete k i); nothing = none }
+    where
+      unlike : ℕ
+      unlike = bitXor (getD us i 0) (getD ws i 0)
+
+      -- Words are equal if they differ in no bit.
+      equal : (x y : ℕ) → bitXor x y ≡ 0 → x ≡ y
+      equal x y e = omega (arith, e, xor-add-and x y, and-le-l x y, and-le-r x y)
+
+      by : bitOr m unlike ≡ 0 → (k : ℕ) → k < i + 1 → Dec (k ≡ i) → getD us k 0 ≡ getD ws k 0
+      by e k l (yes z) = ap (λ (p : ℕ). getD us p 0) z ∙ equal (getD us i 0) (getD ws i 0) (or-zero m unlike e .1) ∙ ap (λ (p : ℕ). getD ws p 0) (sym z)
+      by e k l (no f) = c .alike (or-zero m unlike e .0) k (lt-of-le-of-ne (omega arith) f)
+
+      none : Same (i + 1) → bitOr m unlike ≡ 0
+      none s = ap₂ bitOr (c .nothing (λ k l. s k (omega arith))) (ap (λ (x : ℕ). bitXor x (getD ws i 0)) (s i (omega arith)) ∙ xor-self (getD ws i 0))
+
+  -- After the last word of the records, what was unlike answers for all of them.
+  pub answer : (m i : ℕ) → Compared m i → 6643 ≤ i → eqb m 0 ≡ sameNodes (treeOf us .nodes) (treeOf ws .nodes)
+  answer m i c h = by (ℕ-discrete m 0)
+    where
+      differ : (m ≡ 0 → ⊥) → (b : Bool) → sameNodes (treeOf us .nodes) (treeOf ws .nodes) ≡ b → false ≡ sameNodes (treeOf us .nodes) (treeOf ws .nodes)
+      differ f true e = absurd (f (c .nothing (λ k l. same-words (same-nodes _ _ e) k (omega arith))))
+      differ f false e = sym e
+
+      by : Dec (m ≡ 0) → eqb m 0 ≡ sameNodes (treeOf us .nodes) (treeOf ws .nodes)
+      by (yes z) =
+          eq-eqb m 0 z ∙ sym (nodes-self (treeOf us .nodes)) ∙ ap (sameNodes (treeOf us .nodes)) (same-trees (λ k l. c .alike z k (omega arith)))
+      by (no f) = ne-eqb m 0 f ∙ differ f (sameNodes (treeOf us .nodes) (treeOf ws .nodes)) refl

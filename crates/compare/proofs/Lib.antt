@@ -1,3 +1,4 @@
--- What a record tells; each function's proof stands in its own directory.
+-- What a record tells, and how the words of two trees compare.
+-- Each function's proof stands in its own directory.
 mod Told
 mod Equal

@@ -2,26 +2,27 @@
 //! Rests on `records`, Records, where 16 compares a tree with the one that its own refinements build.
 ghost use mathlib.Core.Path.{_≡_};
 ghost use mathlib.Core.Bool.{true};
-ghost use Prim.Native.Nat.{_≤_};
 ghost use Rattle.rules.specs.Tree.{possible};
-ghost use Rattle.records.specs.Records.{kindOf, sameNode, sameNodes};
-ghost use Rattle.formula.specs.Clauses.{waysOf, FaultFits};
-use formula::Clauses;
+ghost use Rattle.records.specs.Records.{kindOf, sameNodes};
+ghost use Rattle.store.specs.Lent.{treeOf};
+ghost use Rattle.clauses.specs.Leaves.{waysOf, Within};
+ghost use Rattle.formula.specs.Leaves.{FaultFits};
+use clauses::Clauses;
 use formula::child::occurs;
 use formula::group::falls_apart;
 use records::Node;
-use records::Tree;
 use rules::Kind;
+use store::Words;
 
 /// What a record says was done is possible with these ways. A fault that has no bit in a word occurs in none.
-pub fn possible_told(n: Node, c: Clauses) -> bool
-    requires { ⌜ c .len ≤ 128 ⌝ }
-    ensures { λ r. ⌜ (r ≡ possible (kindOf n) (waysOf c)) × (r ≡ true → FaultFits (kindOf n)) ⌝ }
+pub fn possible_told(n: Node, present: &[u64], absent: &[u64], c: Clauses) -> bool
+    requires { ⌜ Within (now present) (now absent) c ⌝ }
+    ensures { λ r. ⌜ (r ≡ possible (kindOf n) (waysOf (now (present .entry)) (now (absent .entry)) c)) × (r ≡ true → FaultFits (kindOf n)) ⌝ }
 {
     if n.kind == 2 {
-        falls_apart(c)
+        falls_apart(present, absent, c)
     } else {
-        occurs(n.fault as usize, c)
+        occurs(n.fault as usize, present, absent, c)
     }
 }
 
@@ -37,35 +38,19 @@ pub fn kind_told(n: Node) -> Kind
     }
 }
 
-/// Two records are equal.
-pub fn same_node(x: Node, y: Node) -> bool
-    ensures { λ r. ⌜ r ≡ sameNode x y ⌝ }
-{
-    (x.kind == y.kind)
-        & ((x.fault == y.fault)
-            & ((x.live == y.live)
-                & ((x.parent == y.parent)
-                    & ((x.left == y.left)
-                        & ((x.waysa == y.waysa)
-                            & ((x.waysb == y.waysb)
-                                & ((x.present == y.present)
-                                    & ((x.absent == y.absent)
-                                        & ((x.low == y.low)
-                                            & ((x.high == y.high)
-                                                & ((x.ownlow == y.ownlow)
-                                                    & (x.ownhigh == y.ownhigh))))))))))))
-}
+/// The words of the records: all but the last of a tree.
+const RECORDS: usize = 6643;
 
-/// All records of two trees are equal.
-pub fn same_nodes(x: Tree, y: Tree) -> bool
-    ensures { λ r. ⌜ r ≡ sameNodes (x .nodes) (y .nodes) ⌝ }
+/// All records of two trees are equal. Every word is compared, with no way out before the last: the loop has nothing to decide, and trees that are
+/// compared are mostly equal.
+pub fn same_nodes(x: &Words, y: &Words) -> bool
+    ensures { λ r. ⌜ r ≡ sameNodes (treeOf (now (x .entry)) .nodes) (treeOf (now (y .entry)) .nodes) ⌝ }
 {
+    let mut unlike: u64 = 0;
     let mut i: usize = 0;
-    while i < 511 {
-        if !same_node(x.nodes[i], y.nodes[i]) {
-            return false;
-        }
+    while i < RECORDS {
+        unlike = unlike | (x[i] ^ y[i]);
         i += 1;
     }
-    true
+    unlike == 0
 }

@@ -1,14 +1,14 @@
 -- The turns of 16: a tree is built again by the refinements that its records tell, one after the other, and what is still to build answers for it.
 -- Rests on `records`, Rebuilt: building again decides 16.
 use mathlib.Core.Path.{_≡_, refl, sym, ap, ap₂, subst, _∙_}
-use mathlib.Core.Bool.{Bool, true, false, _&&_}
+use mathlib.Core.Bool.{Bool, true, false, true≢false, _&&_}
 use mathlib.Core.List.{List, []}
 use mathlib.Core.Option.{none}
 use Prim.Native.Nat.{ℕ, zero, suc, _+_, _-_, _*_, _/_, _%_, _<_, _≤_}
 use native.Mathlib.Omega.{arith}
 use borrow.Author.Tests.{lt-ltb, le-ltb, eq-eqb, ne-eqb}
 use lib.Dec.{eqb, ltb}
-use lib.ListN.{getD, replicate, length-replicate}
+use lib.ListN.{replicate, length-replicate}
 use Rattle.rules.specs.Rounding.{down, up}
 use Rattle.rules.specs.Table.{Table, ways}
 use Rattle.rules.specs.Tree.{possible, end}
@@ -16,15 +16,16 @@ use Rattle.rules.specs.Refusals.{Accepted}
 use Rattle.rules.specs.declared.Kind.{Kind}
 use Rattle.rules.proofs.Booleans.{and-false}
 use Rattle.rules.proofs.LeafEnds.{leaf-le}
-use Rattle.records.specs.Records.{blank, noNodes, layout, children, recordAt, faultCode, leftCode, position, above, places, samePlace, recordWays, kindOf, treeCount, sameNodes, isGood}
+use Rattle.records.specs.Records.{blank, noNodes, layout, children, recordIn, recordAt, faultCode, leftCode, position, above, places, samePlace, recordWays, kindOf, treeCount, sameNodes, isGood}
 use Rattle.records.specs.Growing.{grownAt, mayAt, rebuild, sameAs, isGoodRebuilt}
 use Rattle.records.specs.declared.Node.{Node}
 use Rattle.records.specs.declared.Tree.{Tree}
 use Rattle.records.proofs.Sixteen.{same-nodes}
 use Rattle.records.proofs.Rebuilt.{rebuilt-is}
-use Rattle.grow.specs.Safe.{SafeNode, Safe}
+use Rattle.store.specs.Safe.{SafeNode, Safe}
 use Rattle.grow.proofs.SafeLaws.{safe-blanks, safe-set}
 use Rattle.dtree.specs.Promises.{oneRecord}
+use Rattle.dtree.specs.Remade.{nextAt, nextKind, mayNext, Remade}
 use Rattle.dtree.proofs.Opens.{one-layout, root-record}
 
 -- The record of the root leaf is safe.
@@ -48,20 +49,14 @@ alone-safe t = safe-set (replicate 511 blank) 0 (recordAt t [] []) (simp length-
 
 -- ---- one turn of building again
 
--- The record of the next refinement's place, and its kind.
-abbrev pub nextAt : List Node → ℕ → ℕ
-nextAt all used = getD all used blank .parent
-
-abbrev pub nextKind : List Node → ℕ → Kind
-nextKind all used = kindOf (getD all (nextAt all used) blank)
-
-module _ (t : Table) (n : ℕ) (all xs : List Node) (used : ℕ) where
-  turn-none : ltb (nextAt all used) used && mayAt t xs used (nextAt all used) (nextKind all used) ≡ false → rebuild t (suc n) all xs used ≡ none
+module _ (t : Table) (n : ℕ) (x y : Tree) where
+  turn-none : mayNext t x y ≡ false → rebuild t (suc n) (x .nodes) (y .nodes) (y .used) ≡ none
   unfolding rebuild
   turn-none h = rw (h, rebuild)
 
-  turn-some : ltb (nextAt all used) used && mayAt t xs used (nextAt all used) (nextKind all used) ≡ true
-      → rebuild t (suc n) all xs used ≡ rebuild t n all (grownAt t xs used (nextAt all used) (nextKind all used)) (suc (suc used))
+  turn-some : mayNext t x y ≡ true
+      → rebuild t (suc n) (x .nodes) (y .nodes) (y .used)
+      ≡ rebuild t n (x .nodes) (grownAt t (y .nodes) (y .used) (nextAt x y) (nextKind x y)) (suc (suc (y .used)))
   unfolding rebuild
   turn-some h = rw (h, rebuild)
 
@@ -71,18 +66,18 @@ pub record Answers (t : Table) (x y : Tree) (left : ℕ) : Type 0 where
   pub safe : Safe (y .nodes)
   pub rest : sameAs (x .nodes) (rebuild t left (x .nodes) (y .nodes) (y .used)) ≡ isGood t x
 
-module _ (t : Table) (ok : Accepted t) (x : Tree) where
+module _ (t : Table) (ok : Accepted t) (x : Tree) (used : ℕ) (u : used ≡ x .used) where
   -- An even number of records is in use: no series gives that.
-  pub even : x .used % 2 ≡ 0 → false ≡ isGood t x
+  pub even : used % 2 ≡ 0 → false ≡ isGood t x
   unfolding isGoodRebuilt treeCount
-  even h = rw (ne-eqb (x .used) (2 * ((x .used - 1) / 2) + 1) (λ e. omega (arith, h, e))) at (rebuilt-is t ok x)
+  even h = rw (ne-eqb (x .used) (2 * ((x .used - 1) / 2) + 1) (λ e. omega (arith, u, h, e))) at (rebuilt-is t ok x)
 
   -- At first the root leaf stands alone, and all refinements are to go.
-  begun-alone : (x .used % 2 ≡ 0 → ⊥) → Answers t x (oneRecord (recordAt t [] [])) (x .used / 2)
+  begun-alone : (used % 2 ≡ 0 → ⊥) → Answers t x (oneRecord (recordAt t [] [])) (used / 2)
   unfolding isGoodRebuilt treeCount oneRecord layout places children
   begun-alone h =
-      let odd : x .used ≡ 2 * ((x .used - 1) / 2) + 1 = omega (arith, h) in
-      let half : x .used / 2 ≡ (x .used - 1) / 2 = omega (arith, h) in
+      let odd : x .used ≡ 2 * ((x .used - 1) / 2) + 1 = omega (arith, u, h) in
+      let half : used / 2 ≡ (x .used - 1) / 2 = omega (arith, u, h) in
       record {
         to-go = omega (arith, odd, half);
         safe = alone-safe t;
@@ -91,8 +86,8 @@ module _ (t : Table) (ok : Accepted t) (x : Tree) where
             ∙ (rw (eq-eqb (x .used) (2 * ((x .used - 1) / 2) + 1) odd) at (rebuilt-is t ok x));
       }
 
-  pub begun : (x .used % 2 ≡ 0 → ⊥) → (y : Tree) → y ≡ oneRecord (recordAt t [] []) → Answers t x y (x .used / 2)
-  begun h y e = subst (λ (z : Tree). Answers t x z (x .used / 2)) (sym e) (begun-alone h)
+  pub begun : (used % 2 ≡ 0 → ⊥) → (y : Tree) → y ≡ oneRecord (recordAt t [] []) → Answers t x y (used / 2)
+  begun h y e = subst (λ (z : Tree). Answers t x z (used / 2)) (sym e) (begun-alone h)
 
 module _ (t : Table) (x y : Tree) where
   -- Nothing is to go: the records decide.
@@ -108,44 +103,73 @@ module _ (t : Table) (x y : Tree) where
     a : Answers t x y (suc n)
     a = subst (Answers t x y) (omega (arith, some-left)) b
 
-    abbrev at : ℕ
-    at = nextAt (x .nodes) (y .used)
-
-    abbrev kind : Kind
-    kind = nextKind (x .nodes) (y .used)
-
-    -- Where the next refinement can't be made, x is not good.
-    stops : ltb at (y .used) && mayAt t (y .nodes) (y .used) at kind ≡ false → false ≡ isGood t x
+    -- The next refinement can't be made: x is not good.
+    pub stops : (z : Tree) (r : Bool) → Remade t x y z r → r ≡ false → false ≡ isGood t x
     unfolding sameAs
-    stops h = ap (sameAs (x .nodes)) (sym (turn-none t n (x .nodes) (y .nodes) (y .used) h)) ∙ a .rest
-
-    -- No room for two records more.
-    pub full : 511 ≤ y .used → false ≡ isGood t x
-    unfolding mayAt
-    full h = stops (rw (le-ltb (y .used) 511 h, and-false (eqb (getD (y .nodes) at blank .live) 1)) (and-false (ltb at (y .used))))
-
-    -- No such place yet.
-    pub beyond : y .used ≤ at → false ≡ isGood t x
-    beyond h = stops (rw (le-ltb at (y .used) h) refl)
-
-    -- The leaf there is closed, or what the record tells is not possible.
-    pub cannot : (r : Bool) → r ≡ eqb (getD (y .nodes) at blank .live) 1 && possible kind (recordWays t (getD (y .nodes) at blank)) → r ≡ false → false ≡ isGood t x
-    unfolding mayAt
-    cannot r e f = stops (by (eqb (getD (y .nodes) at blank .live) 1) (possible kind (recordWays t (getD (y .nodes) at blank))) (sym e ∙ f))
-      where
-        by : (b d : Bool) → b && d ≡ false → ltb at (y .used) && (b && (ltb (y .used) 511 && d)) ≡ false
-        by true d h = rw (h, and-false (ltb (y .used) 511)) (and-false (ltb at (y .used)))
-        by false d h = and-false (ltb at (y .used))
+    stops z r m f = ap (sameAs (x .nodes)) (sym (turn-none t n x y (sym (m .said) ∙ f))) ∙ a .rest
 
     -- It is made, and one less is to go.
-    pub goes : (r : Bool) → r ≡ eqb (getD (y .nodes) at blank .live) 1 && possible kind (recordWays t (getD (y .nodes) at blank)) → r ≡ true
-        → y .used < 511 → at < y .used → (z : Tree) → z .nodes ≡ grownAt t (y .nodes) (y .used) at kind → z .used ≡ y .used + 2 → Safe (z .nodes) → Answers t x z (left - 1)
-    unfolding mayAt
-    goes r e f room inside z g u s =
+    pub goes : (z : Tree) (r : Bool) → Remade t x y z r → r ≡ true → Answers t x z (left - 1)
+    goes z r m f =
         record {
-          to-go = omega (arith, a .to-go, u);
-          safe = s;
+          to-go = omega (arith, a .to-go, m .two-more f);
+          safe = m .safe f;
           rest =
-              ap₂ (λ (xs : List Node) (m : ℕ). sameAs (x .nodes) (rebuild t n (x .nodes) xs m)) g (omega (arith, u))
-              ∙ ap (sameAs (x .nodes)) (sym (turn-some t n (x .nodes) (y .nodes) (y .used) (rw (lt-ltb at (y .used) inside, lt-ltb (y .used) 511 room) (sym e ∙ f)))) ∙ a .rest;
+              ap₂ (λ (xs : List Node) (u : ℕ). sameAs (x .nodes) (rebuild t n (x .nodes) xs u)) (m .grown f) (omega (arith, m .two-more f))
+              ∙ ap (sameAs (x .nodes)) (sym (turn-some t n x y (sym (m .said) ∙ f))) ∙ a .rest;
         }
+
+-- ---- what the branches of `remake` say
+
+-- The next refinement can't be made, so nothing is said of the tree left.
+unmade : (t : Table) (x y z : Tree) → mayNext t x y ≡ false → Remade t x y z false
+unmade t x y z h =
+    let no : false ≡ true → ⊥ = λ e. true≢false (sym e) in
+    record { said = sym h; grown = λ e. absurd (no e); two-more = λ e. absurd (no e); safe = λ e. absurd (no e) }
+
+-- With the next left child in record `next`.
+module _ (t : Table) (x y z : Tree) (next : ℕ) (e : next ≡ y .used) where
+  -- No room for two records more.
+  pub full : 511 ≤ next → Remade t x y z false
+  unfolding mayAt
+  full h =
+      unmade t x y z
+      (rw (le-ltb (y .used) 511 (omega (arith, e, h)), and-false (eqb (recordIn (y .nodes) (nextAt x y) .live) 1)) (and-false (ltb (nextAt x y) (y .used))))
+
+  module _ (child : Node) (f : child ≡ recordIn (x .nodes) next) where
+    at-is : child .parent ≡ nextAt x y
+    at-is = ap (λ (n : Node). n .parent) (f ∙ ap (recordIn (x .nodes)) e)
+
+    -- No such place yet.
+    pub beyond : next ≤ child .parent → Remade t x y z false
+    beyond h = unmade t x y z (rw (le-ltb (nextAt x y) (y .used) (omega (arith, e, at-is, h))) refl)
+
+    -- With the records of its parent in both trees, where r says whether the leaf in y is open and may be refined as the record in x tells.
+    module _ (n l : Node) (g : n ≡ recordIn (x .nodes) (child .parent)) (h : l ≡ recordIn (y .nodes) (child .parent)) (r : Bool)
+        (may : r ≡ eqb (l .live) 1 && possible (kindOf n) (recordWays t l)) where
+      told : r ≡ eqb (recordIn (y .nodes) (nextAt x y) .live) 1 && possible (nextKind x y) (recordWays t (recordIn (y .nodes) (nextAt x y)))
+      told =
+          may
+          ∙ ap₂ (λ (a b : Node). eqb (b .live) 1 && possible (kindOf a) (recordWays t b)) (g ∙ ap (recordIn (x .nodes)) at-is) (h ∙ ap (recordIn (y .nodes)) at-is)
+
+      -- The leaf is closed, or what the record tells is not possible.
+      pub cannot : r ≡ false → Remade t x y z false
+      unfolding mayAt
+      cannot f =
+          unmade t x y z (by (eqb (recordIn (y .nodes) (nextAt x y) .live) 1) (possible (nextKind x y) (recordWays t (recordIn (y .nodes) (nextAt x y)))) (sym told ∙ f))
+        where
+          by : (b d : Bool) → b && d ≡ false → ltb (nextAt x y) (y .used) && (b && (ltb (y .used) 511 && d)) ≡ false
+          by true d h = rw (h, and-false (ltb (y .used) 511)) (and-false (ltb (nextAt x y) (y .used)))
+          by false d h = and-false (ltb (nextAt x y) (y .used))
+
+      -- It can be made, and it is.
+      pub can : r ≡ true → next < 511 → child .parent < next → (k : Kind) → k ≡ kindOf n → z .nodes ≡ grownAt t (y .nodes) (y .used) (child .parent) k
+          → z .used ≡ y .used + 2 → Safe (z .nodes) → Remade t x y z true
+      unfolding mayAt
+      can o room inside k d w u s =
+          record {
+            said = sym (rw (lt-ltb (nextAt x y) (y .used) (omega (arith, e, at-is, inside)), lt-ltb (y .used) 511 (omega (arith, e, room))) (sym told ∙ o));
+            grown = λ _. w ∙ ap₂ (grownAt t (y .nodes) (y .used)) at-is (d ∙ ap kindOf (g ∙ ap (recordIn (x .nodes)) at-is));
+            two-more = λ _. u;
+            safe = λ _. s;
+          }

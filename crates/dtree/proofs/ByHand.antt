@@ -15,6 +15,7 @@ use Rattle.rules.proofs.Series.{grow-append}
 use Rattle.records.specs.Records.{position, places, layout, recordsOf, bad, Good}
 use Rattle.records.specs.Growing.{grownAt}
 use Rattle.records.specs.Library.{callTree, callOutcome}
+use Rattle.records.specs.declared.Node.{Node}
 use Rattle.records.specs.declared.Tree.{Tree}
 use Rattle.records.proofs.Grown.{grows}
 use Rattle.records.proofs.Positions.{length-places}
@@ -64,8 +65,8 @@ module _ (t : Table) (ok : Accepted t) (x : Tree) (g : Good t x) (b : bad t x �
 
   -- The refinement is made.
   pub made : (j : ℕ) → Refinable (wordTable (t .present) (t .absent)) x bs k j → (y : Tree) → y .nodes ≡ grownAt t (x .nodes) (x .used) j k → y .used ≡ x .used + 2
-      → Called t x (byHand bs k) y (handed (Answer.Accepted (record { low = rootOf y .low; high = rootOf y .high; count = 1 })))
-  made j r y e u = called t x (byHand bs k) y _ tree-is outcome-is
+      → (top : Node) → top ≡ rootOf y → Called t x (byHand bs k) y (handed (Answer.Accepted (record { low = top .low; high = top .high; count = 1 })))
+  made j r y e u top o = called t x (byHand bs k) y _ tree-is outcome-is
     where
       h : series t ns ≡ true
       h = g .accepted
@@ -92,7 +93,7 @@ module _ (t : Table) (ok : Accepted t) (x : Tree) (g : Good t x) (b : bad t x �
           grown ∙ ap (λ (ms : List Refinement). layout t (ns ++ ms)) (sym (made-one t (tree ns) bs k n zeroed (w .makes))) ∙ sym (call-tree t ns h (byHand bs k))
           ∙ ap (λ (z : Tree). callTree t z (byHand bs k)) (sym (g .is))
 
-      outcome-is : handed (Answer.Accepted (record { low = rootOf y .low; high = rootOf y .high; count = 1 })) ≡ callOutcome t x (byHand bs k)
+      outcome-is : handed (Answer.Accepted (record { low = top .low; high = top .high; count = 1 })) ≡ callOutcome t x (byHand bs k)
       outcome-is =
-          ap (λ (z : Tree). handed (Answer.Accepted (record { low = rootOf z .low; high = rootOf z .high; count = 1 }))) grown
+          ap (λ (m : Node). handed (Answer.Accepted (record { low = m .low; high = m .high; count = 1 }))) (o ∙ ap rootOf grown)
           ∙ sym (said-one t ns bs k n zeroed (w .makes)) ∙ sym (call-outcome t ns h (byHand bs k)) ∙ ap (λ (z : Tree). callOutcome t z (byHand bs k)) (sym (g .is))

@@ -16,6 +16,7 @@ use Rattle.rules.proofs.Series.{grow-append}
 use Rattle.rules.proofs.Demand3.{run-number}
 use Rattle.records.specs.Records.{layout, history, Good}
 use Rattle.records.specs.Library.{callTree, callOutcome}
+use Rattle.records.specs.declared.Node.{Node}
 use Rattle.records.specs.declared.Tree.{Tree}
 use Rattle.records.proofs.History.{history-layout}
 use Rattle.records.proofs.ByTheRules.{call-tree, call-outcome}
@@ -30,18 +31,20 @@ unfolding makes makesBy callNumber wouldMake runMakes
 made-picks t s m z = ap (λ (n : ℕ). makesBy n (picks t (m .allowance) (m .budget) s)) z
 
 -- What it hands back.
-said-run : (t : Table) (ns : List Refinement) (m : Limits) → runNumber t false m ≡ 0 → (y : Tree) → y ≡ layout t (ns ++ picks t (m .allowance) (m .budget) (tree ns))
+said-run : (t : Table) (ns : List Refinement) (m : Limits) → runNumber t false m ≡ 0 → (top : Node)
+    → top ≡ rootOf (layout t (ns ++ picks t (m .allowance) (m .budget) (tree ns)))
     → (v : Verdict) → v ≡ verdict t (m .allowance) (m .budget) (tree ns) → (n : ℕ) → n ≡ length (picks t (m .allowance) (m .budget) (tree ns))
-    → ran (RunAnswer.Ended v (record { low = rootOf y .low; high = rootOf y .high; count = n })) ≡ outcome t (tree ns) (byRun m)
+    → ran (RunAnswer.Ended v (record { low = top .low; high = top .high; count = n })) ≡ outcome t (tree ns) (byRun m)
 unfolding outcome runAnswer runAnswerBy figures runMakes
-said-run t ns m z y e v f n g =
+said-run t ns m z top e v f n g =
     let ms = picks t (m .allowance) (m .budget) (tree ns) in
     rw (e, f, g, root-low t (ns ++ ms), root-high t (ns ++ ms), grow-append ns ms leaf, z) refl
 
 -- The run is made.
-pub ran-on : (t : Table) → Accepted t → (x : Tree) → Good t x → (m : Limits) → first (limitRefusals m) ≡ 0 → (r : Ended) → Ran t (history x) m r
-    → Called t x (byRun m) (r .tree) (ran (RunAnswer.Ended (r .verdict) (record { low = rootOf (r .tree) .low; high = rootOf (r .tree) .high; count = r .count })))
-ran-on t ok x g m l r w = called t x (byRun m) (r .tree) _ tree-is outcome-is
+pub ran-on : (t : Table) → Accepted t → (x : Tree) → Good t x → (m : Limits) → first (limitRefusals m) ≡ 0 → (y : Tree) (r : Ended) → Ran t (history x) m y r
+    → (top : Node) → top ≡ rootOf y
+    → Called t x (byRun m) y (ran (RunAnswer.Ended (r .verdict) (record { low = top .low; high = top .high; count = r .count })))
+ran-on t ok x g m l y r w top o = called t x (byRun m) y _ tree-is outcome-is
   where
     own : history x ≡ g .made
     own = ap history (g .is) ∙ history-layout t (g .made) (g .accepted)
@@ -55,12 +58,12 @@ ran-on t ok x g m l r w = called t x (byRun m) (r .tree) _ tree-is outcome-is
     zeroed : runNumber t false m ≡ 0
     zeroed = run-number t ok m ∙ l
 
-    tree-is : r .tree ≡ callTree t x (byRun m)
+    tree-is : y ≡ callTree t x (byRun m)
     tree-is =
         w .leaves ∙ ap (λ (ms : List Refinement). layout t (history x ++ ms)) (sym (made-picks t (tree (history x)) m zeroed))
         ∙ sym (call-tree t (history x) whole (byRun m)) ∙ ap (λ (z : Tree). callTree t z (byRun m)) (sym is)
 
-    outcome-is : ran (RunAnswer.Ended (r .verdict) (record { low = rootOf (r .tree) .low; high = rootOf (r .tree) .high; count = r .count })) ≡ callOutcome t x (byRun m)
+    outcome-is : ran (RunAnswer.Ended (r .verdict) (record { low = top .low; high = top .high; count = r .count })) ≡ callOutcome t x (byRun m)
     outcome-is =
-        said-run t (history x) m zeroed (r .tree) (w .leaves) (r .verdict) (w .says) (r .count) (w .counts)
+        said-run t (history x) m zeroed top (o ∙ ap rootOf (w .leaves)) (r .verdict) (w .says) (r .count) (w .counts)
         ∙ sym (call-outcome t (history x) whole (byRun m)) ∙ ap (λ (z : Tree). callOutcome t z (byRun m)) (sym is)

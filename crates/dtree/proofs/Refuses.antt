@@ -1,5 +1,5 @@
 -- When a call on a tree is refused, and what it then hands back. Rests on Calling.antt and on `rules`, First.
-use mathlib.Core.Path.{_≡_, refl, sym, ap, _∙_}
+use mathlib.Core.Path.{_≡_, refl, sym, ap, subst, _∙_}
 use mathlib.Core.Bool.{Bool, true, false, not}
 use mathlib.Core.List.{List, []}
 use Prim.Native.Nat.{ℕ, zero, suc, _+_, _<_}
@@ -15,7 +15,9 @@ use Rattle.records.specs.declared.Node.{Node}
 use Rattle.records.specs.declared.Tree.{Tree}
 use Rattle.records.proofs.Positions.{length-places}
 use Rattle.records.proofs.Sixteen.{good-sure}
-use Rattle.grow.specs.Safe.{Safe}
+use Rattle.store.specs.Safe.{Safe}
+use Rattle.clauses.specs.declared.Clauses.{Clauses}
+use Rattle.grow.specs.Branched.{LeafWays}
 use Rattle.find.specs.Finds.{Within}
 use Rattle.dtree.specs.Promises.{numberOf, Called}
 use Rattle.dtree.proofs.Calling.{called, refusedBy, refused-tree, refused-outcome}
@@ -75,3 +77,7 @@ odd-room t x g h = omega (arith, h, ap (λ (y : Tree). y .used) (g .is), length-
 pub safe-within : (xs : List Node) → Safe xs → Within xs
 unfolding Within
 safe-within xs s i = omega (arith, s .each i .children-inside)
+
+-- Equal records have equal ways.
+pub ways-there : (ps qs : List ℕ) (x y : Node) (c : Clauses) → x ≡ y → LeafWays ps qs x c → LeafWays ps qs y c
+ways-there ps qs x y c e w = subst (λ (n : Node). LeafWays ps qs n c) e w

@@ -1,59 +1,53 @@
 //! The opening: a table is accepted with its root leaf, or refused by the first number that applies.
 //! Rests on `checks` for the refusals and on `node` for the root leaf's record.
 ghost use mathlib.Core.Path.{_≡_};
-ghost use Prim.Native.Nat.{_≤_};
 ghost use Rattle.rules.specs.Refusals.{Accepted};
 ghost use Rattle.records.specs.Records.{recordAt};
+ghost use Rattle.store.specs.Lent.{treeOf};
 ghost use Rattle.dtree.specs.Promises.{Opening, oneRecord};
 ghost use mathlib.Core.List.{[]};
-use super::Opened;
 use checks::table::table_number;
-use formula::set::whole;
+use clauses::sets::whole;
 use node::leaf_record;
-use node::no_nodes;
 use records::Node;
-use records::Tree;
 use rules::Answer;
 use rules::Figures;
+use store::Words;
+use store::clear;
+use store::put_record;
+use store::put_used;
 
 /// The record of the root leaf of an accepted table.
 pub fn root_leaf(weights: &[u32], present: &[u64], absent: &[u64]) -> Node
     requires { ⌜ Accepted (record { weights = now weights; present = now present; absent = now absent }) ⌝ }
     ensures { λ r. ⌜ r ≡ recordAt (record { weights = now (weights .entry); present = now (present .entry); absent = now (absent .entry) }) [] [] ⌝ }
 {
-    let c = whole(present, absent);
-    leaf_record(weights, c, 0, 0, 0)
+    leaf_record(weights, present, absent, whole(present, absent), 0)
 }
 
-/// The tree with one record in use.
-pub fn alone(x: Node) -> Tree
-    ensures { λ r. ⌜ r ≡ oneRecord x ⌝ }
+/// Makes it a tree with one record in use.
+pub fn put_alone(tree: &mut Words, x: Node)
+    ensures { λ _. ⌜ treeOf (now (tree .exit)) ≡ oneRecord x ⌝ }
 {
-    let mut t = no_nodes();
-    t.nodes[0] = x;
-    t.used = 1;
-    t
+    clear(tree);
+    put_record(tree, 0, x);
+    put_used(tree, 1);
 }
 
-/// Opens a table.
-pub fn open(weights: &[u32], present: &[u64], absent: &[u64]) -> Opened
-    ensures { λ r. ⌜ Opening (record { weights = now (weights .entry); present = now (present .entry); absent = now (absent .entry) }) (r .tree) (r .answer) ⌝ }
+/// Opens a table. What the tree held before does not matter.
+pub fn open(weights: &[u32], present: &[u64], absent: &[u64], tree: &mut Words) -> Answer
+    ensures { λ r. ⌜ Opening (record { weights = now (weights .entry); present = now (present .entry); absent = now (absent .entry) }) (treeOf (now (tree .exit))) r ⌝ }
 {
     let number = table_number(weights, present, absent);
     if number != 0 {
-        return Opened {
-            tree: no_nodes(),
-            answer: Answer::Refused(number),
-        };
+        clear(tree);
+        return Answer::Refused(number);
     }
     let root = root_leaf(weights, present, absent);
-    let figures = Figures {
+    put_alone(tree, root);
+    Answer::Accepted(Figures {
         low: root.low,
         high: root.high,
         count: 0,
-    };
-    Opened {
-        tree: alone(root),
-        answer: Answer::Accepted(figures),
-    }
+    })
 }

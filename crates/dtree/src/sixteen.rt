@@ -1,89 +1,89 @@
 //! Refusal 16: whether a tree, whatever it holds, is one that the table and some series of accepted refinements gives.
 //! The refinements that the records tell are made again from the root leaf, and the outcome is compared (`records`, Growing and Rebuilt).
-//! The tree that is built stays where it is, as in a run: handed to a function by value it would be copied.
 ghost use mathlib.Core.Path.{_≡_};
 ghost use mathlib.Core.Bool.{true, _&&_};
 ghost use mathlib.Core.List.{List};
-ghost use Prim.Native.Nat.{ℕ, _≤_};
+ghost use Prim.Native.Nat.{ℕ, _%_};
 ghost use lib.Dec.{eqb};
-ghost use lib.ListN.{length};
 ghost use Rattle.rules.specs.Tree.{possible};
 ghost use Rattle.rules.specs.Refusals.{Accepted};
 ghost use Rattle.records.specs.Records.{recordWays, kindOf, isGood};
-ghost use Rattle.formula.specs.Clauses.{FaultFits};
-ghost use Rattle.grow.specs.Safe.{Safe};
-use super::opening::alone;
+ghost use Rattle.store.specs.Lent.{treeOf};
+ghost use Rattle.store.specs.Safe.{Safe};
+ghost use Rattle.formula.specs.Leaves.{FaultFits};
+ghost use Rattle.grow.specs.Branched.{LeafWays};
+ghost use Rattle.dtree.specs.Remade.{Remade};
+use super::opening::put_alone;
 use super::opening::root_leaf;
+use clauses::Clauses;
 use compare::kind_told;
 use compare::possible_told;
 use compare::same_nodes;
-use grow::join::joined;
-use grow::refine::branch_of;
+use grow::refine::grow;
 use grow::refine::ways_of;
 use records::Node;
-use records::Tree;
-use running::turn::left_above;
+use store::Words;
+use store::record_at;
+use store::used_in;
 
-/// The leaf of record y is open and may be refined as record n says.
-fn may(present: &[u64], absent: &[u64], y: Node, n: Node) -> bool
-    requires { ⌜ length (now present) ≤ 128 ⌝ }
-    requires { ⌜ length (now absent) ≡ length (now present) ⌝ }
+/// The leaf of record y, with the ways c, is open and may be refined as record n says.
+fn may(present: &[u64], absent: &[u64], y: Node, c: Clauses, n: Node) -> bool
+    requires { ⌜ LeafWays (now present) (now absent) y c ⌝ }
     ensures { λ r. ⌜ ((ws : List ℕ) → r ≡ eqb (y .live) 1 && possible (kindOf n) (recordWays (record { weights = ws; present = now (present .entry); absent = now (absent .entry) }) y))
         × (r ≡ true → FaultFits (kindOf n)) ⌝ }
 {
     if y.live != 1 {
         return false;
     }
-    let c = ways_of(present, absent, y);
-    possible_told(n, c)
+    possible_told(n, present, absent, c)
 }
 
-/// The tree is good. Each refinement's place is the parent of the next left child, its kind what that parent says was done.
-pub fn is_good(weights: &[u32], present: &[u64], absent: &[u64], x: Tree) -> bool
+/// Makes the next refinement that the tree x tells on the tree y, and says whether it could. Its place is the parent of the next left child,
+/// its kind what that parent says was done.
+fn remake(weights: &[u32], present: &[u64], absent: &[u64], x: &Words, y: &mut Words) -> bool
     requires { ⌜ Accepted (record { weights = now weights; present = now present; absent = now absent }) ⌝ }
-    ensures { λ r. ⌜ (r ≡ isGood (record { weights = now (weights .entry); present = now (present .entry); absent = now (absent .entry) }) x)
-        × (r ≡ true → Safe (x .nodes)) ⌝ }
+    requires { ⌜ Safe (treeOf (now y) .nodes) ⌝ }
+    requires { ⌜ treeOf (now y) .used % 2 ≡ 1 ⌝ }
+    ensures { λ r. ⌜ Remade (record { weights = now (weights .entry); present = now (present .entry); absent = now (absent .entry) })
+        (treeOf (now (x .entry))) (treeOf (now (y .entry))) (treeOf (now (y .exit))) r ⌝ }
 {
-    if x.used % 2 == 0 {
+    let next = used_in(y);
+    if 511 <= next {
         return false;
     }
-    let mut y = alone(root_leaf(weights, present, absent));
-    let mut left = x.used / 2;
+    let child = record_at(x, next);
+    let j = child.parent;
+    if next <= j {
+        return false;
+    }
+    let n = record_at(x, j);
+    let leaf = record_at(y, j);
+    let c = ways_of(present, absent, leaf);
+    if !may(present, absent, leaf, c, n) {
+        return false;
+    }
+    grow(weights, present, absent, y, c, kind_told(n), j);
+    true
+}
+
+/// The tree is good.
+pub fn is_good(weights: &[u32], present: &[u64], absent: &[u64], tree: &Words) -> bool
+    requires { ⌜ Accepted (record { weights = now weights; present = now present; absent = now absent }) ⌝ }
+    ensures { λ r. ⌜ (r ≡ isGood (record { weights = now (weights .entry); present = now (present .entry); absent = now (absent .entry) }) (treeOf (now (tree .entry))))
+        × (r ≡ true → Safe (treeOf (now (tree .entry)) .nodes)) ⌝ }
+{
+    let used = used_in(tree);
+    if used % 2 == 0 {
+        return false;
+    }
+    let mut y = [0u64; 6644];
+    put_alone(&mut y, root_leaf(weights, present, absent));
+    let mut left = used / 2;
     while 0 < left {
-        let next = y.used;
-        if 511 <= next {
+        if !remake(weights, present, absent, tree, &mut y) {
             return false;
-        }
-        let j = x.nodes[next].parent;
-        if next <= j {
-            return false;
-        }
-        let n = x.nodes[j];
-        if !may(present, absent, y.nodes[j], n) {
-            return false;
-        }
-        let leaf = y.nodes[j];
-        let c = ways_of(present, absent, leaf);
-        let b = branch_of(weights, leaf, c, kind_told(n), j, next);
-        let node = b.node;
-        let below = b.left;
-        let beside = b.right;
-        y.nodes[j] = node;
-        y.nodes[next] = below;
-        y.nodes[next + 1] = beside;
-        y.used = next + 2;
-        let mut i = j;
-        let mut rest: usize = 64;
-        while 0 < rest {
-            let m = y.nodes[i];
-            let first = m.left;
-            let l = y.nodes[first];
-            let r = y.nodes[first + 1];
-            y.nodes[i] = joined(weights, m, l, r);
-            rest = left_above(i, rest);
-            i = m.parent;
         }
         left -= 1;
     }
-    same_nodes(x, y)
+    same_nodes(tree, &y)
 }

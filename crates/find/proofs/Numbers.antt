@@ -1,6 +1,6 @@
 -- The numbers of a record, case by case as the code tries them, and what an answer then tells.
 -- Rests on the rules' laws of `first`.
-use mathlib.Core.Path.{_≡_, refl, sym, ap, _∙_}
+use mathlib.Core.Path.{_≡_, refl, sym, ap, ap₂, _∙_}
 use mathlib.Core.Bool.{Bool, true, false, not}
 use mathlib.Core.List.{List, [], _∷_}
 use mathlib.Core.Option.{Option, none, some, Option·none-ne-some, Option·some-injective}
@@ -17,10 +17,10 @@ use Rattle.rules.specs.Refusals.{refusal, first}
 use Rattle.rules.specs.Calls.{placeOf}
 use Rattle.rules.specs.declared.Kind.{Kind}
 use Rattle.rules.proofs.First.{none-applies, first-none, first-here, first-later}
-use Rattle.records.specs.Records.{blank, inWords, recordWays, childRecord, walk}
+use Rattle.records.specs.Records.{blank, recordIn, inWords, recordWays, childRecord, walk}
 use Rattle.records.specs.declared.Node.{Node}
 use Rattle.records.specs.declared.Tree.{Tree}
-use Rattle.formula.specs.Clauses.{FaultFits}
+use Rattle.formula.specs.Leaves.{FaultFits}
 use Rattle.find.specs.declared.Spot.{Spot}
 use Rattle.find.specs.declared.Spot.the-variants.{At, Nowhere}
 use Rattle.find.specs.declared.Named.the-variants.{Leaf, Refused}
@@ -29,10 +29,10 @@ use Rattle.find.specs.Finds.{Within, led, found, spotOf, wordTable, reco
 -- ---- the number of a record
 
 -- The ways that the code computes are the record's.
-pub ways-are : (ps qs : List ℕ) (n : Node) {us vs : List Way} → us ≡ select (inWords (n .waysa) (n .waysb)) (rows 0 ps qs)
-    → vs ≡ remaining (n .present) (n .absent) us → vs ≡ recordWays (wordTable ps qs) n
+pub ways-are : (ps qs : List ℕ) (n : Node) {vs : List Way} → vs ≡ remaining (n .present) (n .absent) (select (inWords (n .waysa) (n .waysb)) (rows 0 ps qs))
+    → vs ≡ recordWays (wordTable ps qs) n
 unfolding recordWays ways
-ways-are ps qs n e f = f ∙ ap (remaining (n .present) (n .absent)) e
+ways-are ps qs n e = e
 
 module _ (t : Table) (used : ℕ) (k : Kind) (n : Node) where
   -- What `refusal` promises of the number that it returns.
@@ -139,13 +139,17 @@ module _ (t : Table) (x : Tree) (bs : List ℕ) (k : Kind) where
     unfolding Tells numberAt
     nowhere e = (number-there none (leads-to (found (x .nodes) bs) Nowhere e), λ z. omega (arith, z))
 
-    module _ (j : ℕ) (e : At j ≡ spotOf (found (x .nodes) bs)) (m : ℕ) (f : m ≡ recordNumber t (x .used) k (getD (x .nodes) j blank)) where
+    -- The place leads to record j. The code read it as n, and that u records are in use, and so came to the number m.
+    module _ (j : ℕ) (e : At j ≡ spotOf (found (x .nodes) bs)) {n : Node} (r : n ≡ recordIn (x .nodes) j) {u : ℕ} (v : u ≡ x .used) (m : ℕ) (f : m ≡ recordNumber t u k n) where
       leads : found (x .nodes) bs ≡ some j
       leads = leads-to (found (x .nodes) bs) (At j) e
 
+      number-is : m ≡ recordNumber t (x .used) k (recordIn (x .nodes) j)
+      number-is = f ∙ ap₂ (λ (c : ℕ) (y : Node). recordNumber t c k y) v r
+
       number : leafNumber t x bs k ≡ m
       unfolding numberAt
-      number = number-there (some j) leads ∙ sym f
+      number = number-there (some j) leads ∙ sym number-is
 
       pub refused : (m ≡ 0 → ⊥) → Tells t x bs k (Refused m)
       unfolding Tells
@@ -154,7 +158,7 @@ module _ (t : Table) (x : Tree) (bs : List ℕ) (k : Kind) where
       pub refinable : m ≡ 0 → FaultFits k → Within (x .nodes) → Tells t x bs k (Leaf j)
       unfolding Tells
       refinable z fits w =
-          let p = passes t (x .used) k (getD (x .nodes) j blank) (sym f ∙ z) in
+          let p = passes t (x .used) k (recordIn (x .nodes) j) (sym number-is ∙ z) in
           record {
             unrefused = number ∙ z;
             leads = leads;

@@ -11,7 +11,7 @@ use lib.Seq.{drop-cons}
 use borrow.Author.Tests.{eq-eqb, ne-eqb}
 use Rattle.rules.specs.Tree.{Side, left, right, Place}
 use Rattle.rules.specs.Calls.{stepTo, placeOf}
-use Rattle.records.specs.Records.{blank, childRecord, walk}
+use Rattle.records.specs.Records.{blank, recordIn, childRecord, walk}
 use Rattle.records.specs.declared.Node.{Node}
 use Rattle.find.specs.declared.Spot.the-variants.{At, Nowhere}
 use Rattle.find.specs.Finds.{Within, led, found, spotOf}
@@ -72,19 +72,23 @@ module _ {xs : List Node} {bs : List ℕ} {j i : ℕ} (w : Walk xs bs j i) where
     next : led xs j (placeOf (getD bs i 0 ∷ drop (suc i) bs)) ≡ found xs bs
     next = ap (λ (cs : List ℕ). led xs j (placeOf cs)) (sym (drop-cons bs i 0 h)) ∙ w .rest
 
-    -- With a byte left it ends at a record without children, and at a byte that is no step.
-    pub at-leaf : getD xs j blank .left ≡ 0 → Nowhere ≡ spotOf (found xs bs)
-    at-leaf e = ap spotOf (sym (byte-none xs j (getD bs i 0) (drop (suc i) bs) e) ∙ next)
-
+    -- With a byte left it ends at a byte that is no step, and at a record n without children.
     pub no-step : 1 < getD bs i 0 → Nowhere ≡ spotOf (found xs bs)
     unfolding led
     no-step g = ap spotOf (sym (ap (led xs j) (place-none (getD bs i 0) (drop (suc i) bs) g)) ∙ next)
 
-    -- Else it goes on to the child.
-    pub turn : Within xs → (getD xs j blank .left ≡ 0 → ⊥) → getD bs i 0 ≤ 1 → Walk xs bs (getD xs j blank .left + getD bs i 0) (i + 1)
-    unfolding Within
-    turn k q g =
-        record {
-          inside = omega (arith, k j, g);
-          rest = rw add-one (sym (byte-some xs j (getD bs i 0) (drop (suc i) bs) g q) ∙ next);
-        }
+    module _ (n : Node) (e : n ≡ recordIn xs j) where
+      link : n .left ≡ recordIn xs j .left
+      link = ap (λ (x : Node). x .left) e
+
+      pub at-leaf : n .left ≡ 0 → Nowhere ≡ spotOf (found xs bs)
+      at-leaf z = ap spotOf (sym (byte-none xs j (getD bs i 0) (drop (suc i) bs) (sym link ∙ z)) ∙ next)
+
+      -- Else it goes on to the child.
+      pub turn : Within xs → (n .left ≡ 0 → ⊥) → getD bs i 0 ≤ 1 → Walk xs bs (n .left + getD bs i 0) (i + 1)
+      unfolding Within
+      turn k q g =
+          record {
+            inside = omega (arith, k j, link, g);
+            rest = rw (link, add-one) (sym (byte-some xs j (getD bs i 0) (drop (suc i) bs) g (λ z. q (link ∙ z))) ∙ next);
+          }

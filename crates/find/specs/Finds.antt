@@ -15,7 +15,7 @@ use Rattle.rules.specs.declared.Kind.{Kind}
 use Rattle.records.specs.Records.{blank, recordWays, walk}
 use Rattle.records.specs.declared.Node.{Node}
 use Rattle.records.specs.declared.Tree.{Tree}
-use Rattle.formula.specs.Clauses.{FaultFits}
+use Rattle.formula.specs.Leaves.{FaultFits}
 use Rattle.find.specs.declared.Spot.{Spot}
 use Rattle.find.specs.declared.Spot.the-variants.{At, Nowhere}
 use Rattle.find.specs.declared.Named.{Named}

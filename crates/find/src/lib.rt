@@ -3,14 +3,16 @@
 ghost use mathlib.Core.Path.{_≡_};
 ghost use Prim.Native.Nat.{_≤_};
 ghost use lib.ListN.{length};
-ghost use Rattle.formula.specs.Clauses.{FaultFits};
+ghost use Rattle.store.specs.Lent.{treeOf};
+ghost use Rattle.formula.specs.Leaves.{FaultFits};
 ghost use Rattle.find.specs.Finds.{Within, found, spotOf, wordTable, recordNumber, Tells};
+use clauses::keeping::remaining_of;
 use formula::child::possible;
-use formula::remaining::restrict;
-use formula::set::select;
 use records::Node;
-use records::Tree;
 use rules::Kind;
+use store::Words;
+use store::record_at;
+use store::used_in;
 
 /// The longest place that is looked for.
 const LONGEST: usize = 64;
@@ -28,14 +30,15 @@ pub enum Named {
 }
 
 /// The record of the place that the bytes name, going down from the root's record by the left links.
-pub fn find(x: Tree, place: &[u8]) -> Spot
-    requires { ⌜ Within (x .nodes) ⌝ }
-    ensures { λ r. ⌜ r ≡ spotOf (found (x .nodes) (now (place .entry))) ⌝ }
+pub fn find(tree: &Words, place: &[u8]) -> Spot
+    requires { ⌜ Within (treeOf (now tree) .nodes) ⌝ }
+    ensures { λ r. ⌜ r ≡ spotOf (found (treeOf (now (tree .entry)) .nodes) (now (place .entry))) ⌝ }
 {
     let mut at: usize = 0;
     let mut i: usize = 0;
     while i < place.len() {
-        let left = x.nodes[at].left;
+        let n = record_at(tree, at);
+        let left = n.left;
         if left == 0 {
             return Spot::Nowhere;
         }
@@ -65,25 +68,29 @@ fn refusal(present: &[u64], absent: &[u64], n: Node, used: usize, k: Kind) -> u8
     if 511 <= used {
         return 19;
     }
-    let set = select(present, absent, n.waysa, n.waysb);
-    let c = restrict(set, n.present, n.absent);
-    if possible(k, c) { 0 } else { 20 }
+    let c = remaining_of(present, absent, n.waysa, n.waysb, n.present, n.absent);
+    if possible(k, present, absent, c) {
+        0
+    } else {
+        20
+    }
 }
 
 /// The leaf that the bytes name, if the refinement can be made there.
-pub fn leaf_at(present: &[u64], absent: &[u64], x: Tree, place: &[u8], k: Kind) -> Named
+pub fn leaf_at(present: &[u64], absent: &[u64], tree: &Words, place: &[u8], k: Kind) -> Named
     requires { ⌜ length (now present) ≤ 128 ⌝ }
     requires { ⌜ length (now absent) ≡ length (now present) ⌝ }
-    requires { ⌜ Within (x .nodes) ⌝ }
-    ensures { λ r. ⌜ Tells (wordTable (now (present .entry)) (now (absent .entry))) x (now (place .entry)) k r ⌝ }
+    requires { ⌜ Within (treeOf (now tree) .nodes) ⌝ }
+    ensures { λ r. ⌜ Tells (wordTable (now (present .entry)) (now (absent .entry))) (treeOf (now (tree .entry))) (now (place .entry)) k r ⌝ }
 {
     if LONGEST < place.len() {
         return Named::Refused(17);
     }
-    match find(x, place) {
+    match find(tree, place) {
         Spot::Nowhere => Named::Refused(17),
         Spot::At(j) => {
-            let number = refusal(present, absent, x.nodes[j], x.used, k);
+            let n = record_at(tree, j);
+            let number = refusal(present, absent, n, used_in(tree), k);
             if number == 0 {
                 Named::Leaf(j)
             } else {

@@ -1,5 +1,5 @@
 -- The faults of ways, counted by set bits: the lowest bit of a word m adds one to its fault's count, and m goes on without it.
--- Rests on Lowest.antt for a word without its lowest bit, and on `rules`, Run.
+-- Rests on `chances`, Lowest, for a word without its lowest bit, and on `rules`, Run.
 use mathlib.Core.Path.{_≡_, refl, sym, ap, _∙_}
 use mathlib.Core.Bool.{Bool, true, false}
 use mathlib.Core.List.{List, [], _∷_}
@@ -16,7 +16,7 @@ use Rattle.rules.specs.declared.Way.{Way}
 use Rattle.rules.specs.Table.{odd, bit, faults, indicator}
 use Rattle.rules.specs.Run.{named}
 use Rattle.rules.proofs.Bits.{bit-zero}
-use Rattle.formula.proofs.Lowest.{rest-even, rest-odd-half, rest-even-half}
+use Rattle.chances.proofs.Lowest.{rest-even, rest-odd-half, rest-even-half}
 
 -- ---- the lowest bit of a word
 

@@ -6,15 +6,15 @@ use mathlib.Core.List.{List, [], _∷_, _++_}
 use Prim.Native.Nat.{ℕ, zero, suc, _+_, _≤_, _<_}
 use native.Mathlib.Numerals.{add-one}
 use native.Mathlib.Omega.{arith}
-use lib.ListN.{length, getD, take, length-take}
-use lib.Seq.{getD-take, take-suc}
+use lib.ListN.{length, getD, take, set, length-take}
+use lib.Seq.{getD-take, take-suc, take-suc-set}
 use lib.Bits.{bitAnd}
 use lib.Dec.{eqb}
 use Rattle.rules.specs.declared.Way.{Way}
 use Rattle.rules.specs.Table.{faults}
 use Rattle.rules.specs.Leaf.{sharesAny, keep, kept}
 use Rattle.rules.proofs.Booleans.{or-neither, or-first, or-second}
-use Rattle.formula.proofs.Words.{apart, meets}
+use Rattle.clauses.proofs.Words.{apart, meets}
 
 -- The word m has a bit in common with one of the words.
 abbrev pub hits : ℕ → List ℕ → Bool
@@ -84,3 +84,9 @@ hit m xs j k h l e = hits-at m (take k xs) j (simp length-take (omega arith)) (r
 pub miss : (m : ℕ) (xs : List ℕ) (j : ℕ) → j < length xs → hits m (take j xs) ≡ false → bitAnd m (getD xs j 0) ≡ 0 → hits m (take (j + 1) xs) ≡ false
 miss m xs j h e z =
     rw (add-one, take-suc xs j 0, hits-more) (or-neither (not (eqb (bitAnd m (getD xs j 0)) 0)) (hits m (take j xs)) (apart m refl z) e)
+
+-- ---- a store in the array
+
+-- What an array holds in front, after a store at its end.
+pub stored : (xs : List ℕ) (k m : ℕ) → k < length xs → take (k + 1) (set xs k m) ≡ take k xs ++ (m ∷ [])
+stored xs k m h = rw add-one (take-suc-set xs k m h)

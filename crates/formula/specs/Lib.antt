@@ -1,3 +1,3 @@
--- What the contracts of this crate cite besides the definitions of `rules`.
+-- What the contracts of this crate cite besides the definitions of `rules` and `clauses`.
 -- Rests on those.
-pub mod Clauses
+pub mod Leaves

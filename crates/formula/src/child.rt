@@ -1,66 +1,44 @@
-//! The two children that a refinement makes of a leaf's ways, and whether it can be made. Rests on `rules`, Group and Tree.
+//! The ways of the two children that a refinement makes of a leaf, and whether it can be made. Rests on `rules`, Group and Tree.
 //! By independence the children are the first group and the other ways; by a fault, what remains with it present and absent.
 ghost use mathlib.Core.Path.{_≡_};
 ghost use mathlib.Core.Bool.{true};
-ghost use Prim.Native.Nat.{_<_, _≤_};
+ghost use Prim.Native.Nat.{_<_};
 ghost use Rattle.rules.specs.Table;
 ghost use Rattle.rules.specs.Table.{bit};
-ghost use Rattle.rules.specs.Group;
 ghost use Rattle.rules.specs.Tree;
-ghost use Rattle.formula.specs.Clauses.{waysOf, sideOf, FaultFits};
-use super::Clauses;
-use super::chance::has;
+ghost use Rattle.clauses.specs.Leaves.{waysOf, Within};
+ghost use Rattle.formula.specs.Leaves.{FaultFits, Parts};
+use super::Children;
 use super::group::falls_apart;
 use super::group::group_faults;
-use super::leaf::faults;
-use super::remaining::restrict;
-use super::set::one_bit;
-use super::set::room;
+use chances::chance::has;
 use rules::Kind;
 use rules::Way;
+use clauses::Clauses;
+use clauses::keeping::part;
+use clauses::keeping::restrict;
+use clauses::sets::one_bit;
+use clauses::taking::faults;
+use clauses::taking::taken;
 
-/// The way names one of the faults of the word.
-fn touches(m: u64, v: Way) -> bool
-    ensures { λ r. ⌜ r ≡ Group.touches m v ⌝ }
-{
-    m & faults(v) != 0
-}
-
-/// The ways that the word touches, or those that it does not.
-pub fn part(c: Clauses, m: u64, touched: bool) -> Clauses
-    requires { ⌜ c .len ≤ 128 ⌝ }
-    ensures { λ r. ⌜ (waysOf r ≡ Group.part touched m (waysOf c)) × (r .len ≤ c .len) ⌝ }
-{
-    let mut list = room();
-    let mut n: usize = 0;
-    let mut i: usize = 0;
-    while i < c.len {
-        let v = c.list[i];
-        // Before the test, so that either outcome ends the turn.
-        i += 1;
-        if touched == touches(m, v) {
-            list[n] = v;
-            n += 1;
-        }
-    }
-    Clauses { list, len: n }
-}
-
-/// The ways of a child. Under a fault the left child has it present, the right absent.
-pub fn child(k: Kind, right: bool, c: Clauses) -> Clauses
+/// The ways of both children. Under a fault the left child has it present, the right absent.
+pub fn children(present: &[u64], absent: &[u64], c: Clauses, k: Kind) -> Children
     requires { ⌜ FaultFits k ⌝ }
-    requires { ⌜ c .len ≤ 128 ⌝ }
-    ensures { λ r. ⌜ (waysOf r ≡ Tree.child k (sideOf right) (waysOf c)) × (r .len ≤ 128) ⌝ }
+    requires { ⌜ Within (now present) (now absent) c ⌝ }
+    ensures { λ r. ⌜ Parts (now (present .entry)) (now (absent .entry)) c k r ⌝ }
 {
     match k {
-        Kind::IndependentOr => part(c, group_faults(c), !right),
+        Kind::IndependentOr => {
+            let m = group_faults(present, absent, c);
+            let left = part(present, absent, c, m, true);
+            let right = part(present, absent, c, m, false);
+            Children { left, right }
+        }
         Kind::Shannon(f) => {
-            let m = one_bit(f as usize);
-            if right {
-                restrict(c, 0, m)
-            } else {
-                restrict(c, m, 0)
-            }
+            let b = one_bit(f as usize);
+            let left = restrict(present, absent, c, b, 0);
+            let right = restrict(present, absent, c, 0, b);
+            Children { left, right }
         }
     }
 }
@@ -74,28 +52,29 @@ fn names(f: usize, v: Way) -> bool
 }
 
 /// The fault occurs in one of the ways.
-pub fn occurs(f: usize, c: Clauses) -> bool
-    requires { ⌜ c .len ≤ 128 ⌝ }
-    ensures { λ r. ⌜ (r ≡ Tree.occurs f (waysOf c)) × (r ≡ true → f < 64) ⌝ }
+pub fn occurs(f: usize, present: &[u64], absent: &[u64], c: Clauses) -> bool
+    requires { ⌜ Within (now present) (now absent) c ⌝ }
+    ensures { λ r. ⌜ (r ≡ Tree.occurs f (waysOf (now (present .entry)) (now (absent .entry)) c)) × (r ≡ true → f < 64) ⌝ }
 {
-    let mut i: usize = 0;
-    while i < c.len {
-        let v = c.list[i];
+    let mut left = c;
+    while left.low | left.high != 0 {
+        let t = taken(present, absent, left);
+        let v = t.way;
+        left = t.others;
         if names(f, v) {
             return true;
         }
-        i += 1;
     }
     false
 }
 
-/// A refinement of this kind can be made: the ways fall apart, or the fault occurs in them. Then `child` takes the kind.
-pub fn possible(k: Kind, c: Clauses) -> bool
-    requires { ⌜ c .len ≤ 128 ⌝ }
-    ensures { λ r. ⌜ (r ≡ Tree.possible k (waysOf c)) × (r ≡ true → FaultFits k) ⌝ }
+/// A refinement of this kind can be made: the ways fall apart, or the fault occurs in them. Then `children` takes the kind.
+pub fn possible(k: Kind, present: &[u64], absent: &[u64], c: Clauses) -> bool
+    requires { ⌜ Within (now present) (now absent) c ⌝ }
+    ensures { λ r. ⌜ (r ≡ Tree.possible k (waysOf (now (present .entry)) (now (absent .entry)) c)) × (r ≡ true → FaultFits k) ⌝ }
 {
     match k {
-        Kind::IndependentOr => falls_apart(c),
-        Kind::Shannon(f) => occurs(f as usize, c),
+        Kind::IndependentOr => falls_apart(present, absent, c),
+        Kind::Shannon(f) => occurs(f as usize, present, absent, c),
     }
 }

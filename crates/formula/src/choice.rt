@@ -4,37 +4,39 @@ ghost use mathlib.Core.Path.{_≡_};
 ghost use Prim.Native.Nat.{ℕ, _<_, _≤_};
 ghost use lib.ListN.{getD};
 ghost use Rattle.rules.specs.Run.{named, mostNamed};
-ghost use Rattle.formula.specs.Clauses.{waysOf};
-use super::Clauses;
-use super::leaf::faults;
+ghost use Rattle.clauses.specs.Leaves.{waysOf, Within};
+use clauses::Clauses;
+use clauses::taking::faults;
+use clauses::taking::taken;
 
 /// In how many of the ways each fault is named: every way adds one to the count of each fault that it names.
-pub fn counts(c: Clauses) -> [u64; 64]
-    requires { ⌜ c .len ≤ 128 ⌝ }
-    ensures { λ r. ⌜ ((f : ℕ) → f < 64 → getD r f 0 ≡ named f (waysOf c)) ⌝ }
+pub fn counts(present: &[u64], absent: &[u64], c: Clauses) -> [u64; 64]
+    requires { ⌜ Within (now present) (now absent) c ⌝ }
+    ensures { λ r. ⌜ ((f : ℕ) → f < 64 → getD r f 0 ≡ named f (waysOf (now (present .entry)) (now (absent .entry)) c)) ⌝ }
 {
     let mut n = [0u64; 64];
-    let mut i: usize = 0;
-    while i < c.len {
-        let v = c.list[i];
+    let mut left = c;
+    while left.low | left.high != 0 {
+        let t = taken(present, absent, left);
+        let v = t.way;
+        left = t.others;
         let mut m = faults(v);
         while m != 0 {
             let f = u64::trailing_zeros(m) as usize;
             n[f] += 1;
             m = m & (m - 1);
         }
-        i += 1;
     }
     n
 }
 
 /// Of the faults below n, the one named in most ways. Only a larger count replaces one, so that ties go to the lower number.
-pub fn most_named(n: usize, c: Clauses) -> usize
+pub fn most_named(n: usize, present: &[u64], absent: &[u64], c: Clauses) -> usize
     requires { ⌜ n ≤ 64 ⌝ }
-    requires { ⌜ c .len ≤ 128 ⌝ }
-    ensures { λ r. ⌜ r ≡ mostNamed n (waysOf c) ⌝ }
+    requires { ⌜ Within (now present) (now absent) c ⌝ }
+    ensures { λ r. ⌜ r ≡ mostNamed n (waysOf (now (present .entry)) (now (absent .entry)) c) ⌝ }
 {
-    let count = counts(c);
+    let count = counts(present, absent, c);
     let mut best: usize = 0;
     let mut most = count[0];
     let mut i: usize = 0;

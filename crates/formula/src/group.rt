@@ -2,42 +2,56 @@
 //! The word grows by passes over the ways until a pass changes nothing.
 ghost use mathlib.Core.Path.{_≡_};
 ghost use mathlib.Core.Bool.{false};
-ghost use Prim.Native.Nat.{_≤_};
 ghost use Rattle.rules.specs.Group;
 ghost use Rattle.rules.specs.Group.{groupFaults, part, nonempty, fallApart};
-ghost use Rattle.formula.specs.Clauses.{waysOf};
-use super::Clauses;
-use super::leaf::faults;
+ghost use Rattle.clauses.specs.Leaves.{waysOf, Within};
 use rules::Way;
+use clauses::Clauses;
+use clauses::keeping::touches;
+use clauses::taking::faults;
+use clauses::taking::taken;
+
+/// The most ways of a table, and so the most passes that a word needs to come to rest.
+const MOST_WAYS: usize = 128;
 
 /// The word with the faults of a way that it touches.
 fn absorb(m: u64, v: Way) -> u64
     ensures { λ r. ⌜ r ≡ Group.absorb m v ⌝ }
 {
-    let w = faults(v);
-    if m & w == 0 { m } else { m | w }
+    if touches(m, v) { m | faults(v) } else { m }
+}
+
+/// One pass: every way that the word touches adds its faults.
+fn pass(present: &[u64], absent: &[u64], c: Clauses, m: u64) -> u64
+    requires { ⌜ Within (now present) (now absent) c ⌝ }
+    ensures { λ r. ⌜ r ≡ Group.pass m (waysOf (now (present .entry)) (now (absent .entry)) c) ⌝ }
+{
+    let mut word = m;
+    let mut left = c;
+    while left.low | left.high != 0 {
+        let t = taken(present, absent, left);
+        let v = t.way;
+        left = t.others;
+        word = absorb(word, v);
+    }
+    word
 }
 
 /// The faults of the group of the lowest numbered way. A pass that changes nothing is the last: any further one would change nothing.
-pub fn group_faults(c: Clauses) -> u64
-    requires { ⌜ c .len ≤ 128 ⌝ }
-    ensures { λ r. ⌜ r ≡ groupFaults (waysOf c) ⌝ }
+pub fn group_faults(present: &[u64], absent: &[u64], c: Clauses) -> u64
+    requires { ⌜ Within (now present) (now absent) c ⌝ }
+    ensures { λ r. ⌜ r ≡ groupFaults (waysOf (now (present .entry)) (now (absent .entry)) c) ⌝ }
 {
-    if c.len == 0 {
+    if c.low | c.high == 0 {
         return 0;
     }
-    let first = c.list[0];
+    let t = taken(present, absent, c);
+    let first = t.way;
     let mut word = faults(first);
-    let mut left = c.len;
+    let mut left = MOST_WAYS;
     while 0 < left {
-        // One pass: every way that the word touches adds its faults.
         let before = word;
-        let mut i: usize = 0;
-        while i < c.len {
-            let v = c.list[i];
-            word = absorb(word, v);
-            i += 1;
-        }
+        word = pass(present, absent, c, before);
         if word == before {
             return word;
         }
@@ -47,25 +61,26 @@ pub fn group_faults(c: Clauses) -> u64
 }
 
 /// The word leaves a way untouched.
-fn leaves_one(m: u64, c: Clauses) -> bool
-    requires { ⌜ c .len ≤ 128 ⌝ }
-    ensures { λ r. ⌜ r ≡ nonempty (part false m (waysOf c)) ⌝ }
+fn leaves_one(present: &[u64], absent: &[u64], c: Clauses, m: u64) -> bool
+    requires { ⌜ Within (now present) (now absent) c ⌝ }
+    ensures { λ r. ⌜ r ≡ nonempty (part false m (waysOf (now (present .entry)) (now (absent .entry)) c)) ⌝ }
 {
-    let mut i: usize = 0;
-    while i < c.len {
-        let v = c.list[i];
-        if m & faults(v) == 0 {
+    let mut left = c;
+    while left.low | left.high != 0 {
+        let t = taken(present, absent, left);
+        let v = t.way;
+        left = t.others;
+        if !touches(m, v) {
             return true;
         }
-        i += 1;
     }
     false
 }
 
 /// The ways fall apart into two groups or more.
-pub fn falls_apart(c: Clauses) -> bool
-    requires { ⌜ c .len ≤ 128 ⌝ }
-    ensures { λ r. ⌜ r ≡ fallApart (waysOf c) ⌝ }
+pub fn falls_apart(present: &[u64], absent: &[u64], c: Clauses) -> bool
+    requires { ⌜ Within (now present) (now absent) c ⌝ }
+    ensures { λ r. ⌜ r ≡ fallApart (waysOf (now (present .entry)) (now (absent .entry)) c) ⌝ }
 {
-    leaves_one(group_faults(c), c)
+    leaves_one(present, absent, c, group_faults(present, absent, c))
 }

@@ -1,19 +1,19 @@
 -- Raising, one record at a time: what holds on the way up, and that a turn keeps it.
--- Rests on SafeLaws.antt and on the definition of `records`, raise.
-use mathlib.Core.Path.{_≡_, sym, ap, _∙_}
+-- Rests on SafeLaws.antt and on the definitions of `records`, raise, and `store`, withRecord.
+use mathlib.Core.Path.{_≡_, sym, _∙_}
 use mathlib.Core.List.{List}
 use Prim.Native.Nat.{ℕ, zero, suc, _+_, _-_, _≤_, _<_}
 use native.Mathlib.Numerals.{add-one}
 use native.Mathlib.Omega.{arith}
-use native.Mathlib.Decide.{ℕ-discrete}
 use borrow.Author.Tests.{eq-eqb, ne-eqb}
-use lib.ListN.{length, getD, set, length-set}
+use lib.ListN.{length, getD, length-set}
 use Rattle.records.specs.Records.{blank}
 use Rattle.records.specs.Growing.{joined, joinAt, raise}
 use Rattle.records.specs.declared.Node.{Node}
 use Rattle.records.specs.declared.Tree.{Tree}
-use Rattle.grow.specs.Safe.{SafeNode, Safe}
-use Rattle.grow.proofs.SafeLaws.{safe-set}
+use Rattle.store.specs.Lent.{withRecord}
+use Rattle.store.specs.Safe.{SafeNode, Safe}
+use Rattle.grow.proofs.SafeLaws.{safe-read, safe-set}
 
 -- ---- one record of raising
 
@@ -31,11 +31,6 @@ module _ (ws : List ℕ) (xs : List Node) (i : ℕ) where
   none-left : (k : ℕ) → k ≤ 0 → raise ws k xs i ≡ xs
   unfolding raise
   none-left k h = let z : k ≡ 0 = omega arith in rw z
-
-  -- The store of a joined record, as the code makes it.
-  stored : (x : Node) → x ≡ joined ws (getD xs i blank) (getD xs (getD xs i blank .left) blank) (getD xs (getD xs i blank .left + 1) blank) → set xs i x ≡ joinAt ws xs i
-  unfolding joinAt
-  stored x e = rw (e, add-one)
 
 -- ---- the way up
 
@@ -55,38 +50,28 @@ module _ (ws : List ℕ) (t : Tree) (j : ℕ) (u : Tree) (i k : ℕ) (inv : Clim
   pub spent : k ≤ 0 → Raised ws t j u
   spent h = (sym (none-left ws (u .nodes) i k h) ∙ inv .rest, inv .same, inv .safe)
 
-  abbrev here : Node
-  here = getD (u .nodes) i blank
+  -- The code reads record i as x and its children as l and r, and the tree v has the joined record n there.
+  module _ (h : 0 < k) (x l r n : Node) (v : Tree) (x-is : x ≡ getD (u .nodes) i blank) (l-is : l ≡ getD (u .nodes) (x .left) blank)
+      (r-is : r ≡ getD (u .nodes) (x .left + 1) blank) (n-is : (n ≡ joined ws x l r) × SafeNode n) (v-is : v ≡ withRecord u i n) where
+    written : v .nodes ≡ joinAt ws (u .nodes) i
+    unfolding joinAt
+    written = rw (v-is, n-is .0, l-is, r-is, x-is, add-one)
 
-  -- The record x is the joined one.
-  module _ (h : 0 < k) (x : Node) (e : (x ≡ joined ws here (getD (u .nodes) (here .left) blank) (getD (u .nodes) (here .left + 1) blank)) × SafeNode x) where
-    kept : Safe (set (u .nodes) i x)
-    kept = safe-set (u .nodes) i x (omega (arith, inv .inside, inv .long)) (inv .safe) (e .1)
+    kept : Safe (v .nodes)
+    kept = rw v-is (safe-set (u .nodes) i n (omega (arith, inv .inside, inv .long)) (inv .safe) (n-is .1))
 
-    pub turn : (i ≡ 0 → ⊥) → Climb ws t j (record { nodes = set (u .nodes) i x; used = u .used }) (here .parent) (k - 1)
+    counted : v .used ≡ t .used
+    counted = rw v-is (inv .same)
+
+    pub turn : (i ≡ 0 → ⊥) → Climb ws t j v (x .parent) (k - 1)
     turn z =
         record {
-          inside = inv .safe .each i .parent-inside;
-          long = length-set (u .nodes) i x ∙ inv .long;
+          inside = safe-read (u .nodes) i x (inv .safe) x-is .parent-inside;
+          long = rw v-is (length-set (u .nodes) i n ∙ inv .long);
           safe = kept;
-          same = inv .same;
-          rest = ap (λ (ys : List Node). raise ws (k - 1) ys (here .parent)) (stored ws (u .nodes) i x (e .0)) ∙ sym (above-root ws (u .nodes) i k h z) ∙ inv .rest;
+          same = counted;
+          rest = rw (written, x-is) (sym (above-root ws (u .nodes) i k h z) ∙ inv .rest);
         }
 
-    pub done : i ≡ 0 → Raised ws t j (record { nodes = set (u .nodes) i x; used = u .used })
-    done z = (stored ws (u .nodes) i x (e .0) ∙ sym (at-root ws (u .nodes) i k h z) ∙ inv .rest, inv .same, kept)
-
-    -- Either way, where k′ says how many records are left.
-    pub higher : (k′ : ℕ) → (i ≡ 0 → k′ ≡ 0) × ((i ≡ 0 → ⊥) → k′ ≡ k - 1) → Climb ws t j (record { nodes = set (u .nodes) i x; used = u .used }) (here .parent) k′
-    higher k′ q = by (ℕ-discrete i 0)
-      where
-        by : Dec (i ≡ 0) → Climb ws t j (record { nodes = set (u .nodes) i x; used = u .used }) (here .parent) k′
-        by (yes z) =
-            record {
-              inside = inv .safe .each i .parent-inside;
-              long = length-set (u .nodes) i x ∙ inv .long;
-              safe = kept;
-              same = inv .same;
-              rest = none-left ws (set (u .nodes) i x) (here .parent) k′ (omega (arith, q .0 z)) ∙ done z .0;
-            }
-        by (no z) = rw (q .1 z) (turn z)
+    pub done : i ≡ 0 → Raised ws t j v
+    done z = (written ∙ sym (at-root ws (u .nodes) i k h z) ∙ inv .rest, counted, kept)

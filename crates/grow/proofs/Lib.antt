@@ -3,4 +3,3 @@
 pub mod Climb
 pub mod Leaves
 pub mod SafeLaws
-pub mod Branches

@@ -13,8 +13,8 @@ use Rattle.rules.specs.declared.Kind.the-variants.{Shannon}
 use Rattle.records.specs.Records.{blank}
 use Rattle.records.specs.Growing.{withEnds}
 use Rattle.records.specs.declared.Node.{Node}
-use Rattle.formula.specs.Clauses.{FaultFits}
-use Rattle.grow.specs.Safe.{SafeNode, Safe}
+use Rattle.formula.specs.Leaves.{FaultFits}
+use Rattle.store.specs.Safe.{SafeNode, Safe}
 
 pub safe-blank : SafeNode blank
 safe-blank =
@@ -36,6 +36,10 @@ safe-blanks n = record { each = λ i. at i (decLt i n) }
     at i (no h) =
         let l : length (replicate n blank) ≤ i = simp length-replicate (omega arith) in
         rw (List·getD-eq-default (replicate n blank) blank l) safe-blank
+
+-- A record that was read off safe records.
+pub safe-read : (xs : List Node) (i : ℕ) (x : Node) → Safe xs → x ≡ getD xs i blank → SafeNode x
+safe-read xs i x s e = rw e (s .each i)
 
 pub safe-set : (xs : List Node) (j : ℕ) (x : Node) → j < length xs → Safe xs → SafeNode x → Safe (set xs j x)
 safe-set xs j x h s n = record { each = λ i. at i (ℕ-discrete i j) }

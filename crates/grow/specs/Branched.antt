@@ -1,15 +1,26 @@
--- The three records that a refinement writes, as `records`, Growing, has them, and that code may follow them.
--- Rests on `records`, Growing, and on Safe.antt. Of the table only the weights count once the leaf's ways are known.
+-- The ways of a record as the code has them, and the three records that a refinement writes, as `records`, Growing, has them.
+-- Rests on `records`, Growing, on `clauses`, Leaves, and on `store`, Safe. Of the table only the weights count once the leaf's ways are known.
 use mathlib.Core.Path.{_≡_}
 use mathlib.Core.List.{List, []}
-use Prim.Native.Nat.{ℕ}
+use Prim.Native.Nat.{ℕ, _+_}
+use lib.ListN.{set}
 use Rattle.rules.specs.Tree.{Side, left, right, childNode}
 use Rattle.rules.specs.declared.Kind.{Kind}
 use Rattle.rules.specs.declared.Way.{Way}
+use Rattle.records.specs.Records.{recordWays}
 use Rattle.records.specs.Growing.{refinedRecord, freshRecord}
 use Rattle.records.specs.declared.Node.{Node}
-use Rattle.grow.specs.Safe.{SafeNode}
+use Rattle.store.specs.Safe.{SafeNode}
+use Rattle.clauses.specs.declared.Clauses.{Clauses}
+use Rattle.clauses.specs.Leaves.{waysOf, Within}
 use Rattle.grow.specs.declared.refine.Branch.{Branch}
+
+-- The ways of record x of a table with these words, and its fixed faults. They do not depend on the weights.
+pub record LeafWays (ps qs : List ℕ) (x : Node) (c : Clauses) : Type 0 where
+  pub within : Within ps qs c
+  pub ways-are : (ws : List ℕ) → waysOf ps qs c ≡ recordWays (record { weights = ws; present = ps; absent = qs }) x
+  pub present-is : c .present ≡ x .present
+  pub absent-is : c .absent ≡ x .absent
 
 -- The record of a leaf below the leaf x in record j, where vs are the ways of x.
 abbrev pub leafBelow : List ℕ → Node → List Way → Kind → ℕ → Side → Node
@@ -23,3 +34,7 @@ pub record Branched (ws : List ℕ) (x : Node) (vs : List Way) (k : Kind) (j nex
   pub node-safe : SafeNode (b .node)
   pub left-safe : SafeNode (b .left)
   pub right-safe : SafeNode (b .right)
+
+-- The refined record n in record j, the leaves l and r in the next two.
+abbrev pub three : List Node → ℕ → ℕ → Node → Node → Node → List Node
+three xs used j n l r = set (set (set xs j n) used l) (used + 1) r

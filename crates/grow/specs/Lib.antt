@@ -1,4 +1,3 @@
 -- What the contracts of this crate cite besides the definitions of `records`.
 -- Rests on those.
-pub mod Safe
 pub mod Branched

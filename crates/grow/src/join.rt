@@ -9,10 +9,10 @@ ghost use Rattle.rules.specs.Refusals.{overweight};
 ghost use Rattle.rules.specs.Tree;
 ghost use Rattle.records.specs.Records.{kindOf};
 ghost use Rattle.records.specs.Growing;
-ghost use Rattle.formula.specs.Clauses.{dirOf};
-ghost use Rattle.grow.specs.Safe.{SafeNode};
-use formula::rounding::either;
-use formula::rounding::mean;
+ghost use Rattle.chances.specs.Directions.{dirOf};
+ghost use Rattle.store.specs.Safe.{SafeNode};
+use chances::rounding::either;
+use chances::rounding::mean;
 use records::Node;
 use rules::Kind;
 

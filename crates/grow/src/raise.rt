@@ -5,31 +5,32 @@ ghost use mathlib.Core.Bool.{false};
 ghost use Prim.Native.Nat.{_<_};
 ghost use Rattle.rules.specs.Refusals.{overweight};
 ghost use Rattle.records.specs.Growing;
-ghost use Rattle.grow.specs.Safe.{Safe};
+ghost use Rattle.store.specs.Lent.{treeOf};
+ghost use Rattle.store.specs.Safe.{Safe};
 use super::join::joined;
-use records::Tree;
+use store::Words;
+use store::put_record;
+use store::record_at;
 
-/// The tree with all intervals from record j up to the root joined anew.
-pub fn raise(weights: &[u32], tree: Tree, j: usize) -> Tree
+/// Joins all intervals from record j up to the root anew.
+pub fn raise(weights: &[u32], tree: &mut Words, j: usize)
     requires { ⌜ overweight (now weights) ≡ false ⌝ }
-    requires { ⌜ Safe (tree .nodes) ⌝ }
+    requires { ⌜ Safe (treeOf (now tree) .nodes) ⌝ }
     requires { ⌜ j < 511 ⌝ }
-    ensures { λ r. ⌜ (r .nodes ≡ Growing.raise (now (weights .entry)) 64 (tree .nodes) j) × (r .used ≡ tree .used) × Safe (r .nodes) ⌝ }
+    ensures { λ _. ⌜ (treeOf (now (tree .exit)) .nodes ≡ Growing.raise (now (weights .entry)) 64 (treeOf (now (tree .entry)) .nodes) j)
+        × (treeOf (now (tree .exit)) .used ≡ treeOf (now (tree .entry)) .used) × Safe (treeOf (now (tree .exit)) .nodes) ⌝ }
 {
-    let mut t = tree;
     let mut i = j;
     let mut left: usize = 64;
     while 0 < left {
-        let x = t.nodes[i];
-        let first = x.left;
-        let l = t.nodes[first];
-        let r = t.nodes[first + 1];
-        t.nodes[i] = joined(weights, x, l, r);
+        let x = record_at(tree, i);
+        let l = record_at(tree, x.left);
+        let r = record_at(tree, x.left + 1);
+        put_record(tree, i, joined(weights, x, l, r));
         if i == 0 {
-            return t;
+            return;
         }
         i = x.parent;
         left -= 1;
     }
-    t
 }

@@ -2,65 +2,37 @@
 //! The ways of a leaf are worked out from its record, those of its children from them.
 ghost use mathlib.Core.Path.{_≡_};
 ghost use mathlib.Core.Bool.{false};
-ghost use mathlib.Core.List.{List, []};
 ghost use mathlib.Core.Option.{some};
-ghost use Prim.Native.Nat.{ℕ, _+_, _<_, _≤_};
+ghost use Prim.Native.Nat.{_+_, _<_, _≤_};
 ghost use lib.ListN.{length};
-ghost use Rattle.rules.specs.Refusals.{overweight};
-ghost use Rattle.rules.specs.Tree.{childFixed, childNode};
-ghost use Rattle.records.specs.Records.{recordWays, kindCode, faultCode};
-ghost use Rattle.records.specs.Growing.{refinedRecord, freshRecord, grownAt};
-ghost use Rattle.formula.specs.Clauses.{waysOf, sideOf, FaultFits, AllNumbersBelow};
-ghost use Rattle.grow.specs.Safe.{SafeNode, Safe};
-ghost use Rattle.grow.specs.Branched.{Branched};
+ghost use Rattle.rules.specs.Refusals.{overweight, Accepted};
+ghost use Rattle.records.specs.Records.{recordIn, kindCode, faultCode};
+ghost use Rattle.records.specs.Growing.{refinedRecord, grownAt};
+ghost use Rattle.store.specs.Lent.{treeOf};
+ghost use Rattle.store.specs.Safe.{SafeNode, Safe};
+ghost use Rattle.clauses.specs.Leaves.{waysOf};
+ghost use Rattle.formula.specs.Leaves.{FaultFits};
+ghost use Rattle.grow.specs.Branched.{LeafWays, Branched, three};
 use super::raise::raise;
-use formula::Clauses;
-use formula::child::child;
-use formula::remaining::remaining_of;
-use formula::set::one_bit;
+use clauses::Clauses;
+use clauses::keeping::remaining_of;
+use formula::child::children;
 use node::leaf_record;
 use records::Node;
-use records::Tree;
 use rules::Kind;
+use store::Words;
+use store::put_record;
+use store::put_used;
+use store::record_at;
+use store::used_in;
 
-/// The remaining ways of a record. They do not depend on the table's weights.
+/// The remaining ways of a record.
 pub fn ways_of(present: &[u64], absent: &[u64], x: Node) -> Clauses
     requires { ⌜ length (now present) ≤ 128 ⌝ }
     requires { ⌜ length (now absent) ≡ length (now present) ⌝ }
-    ensures { λ r. ⌜ ((ws : List ℕ) → waysOf r ≡ recordWays (record { weights = ws; present = now (present .entry); absent = now (absent .entry) }) x)
-        × (r .len ≤ 128) × AllNumbersBelow 128 (waysOf r) ⌝ }
+    ensures { λ r. ⌜ LeafWays (now (present .entry)) (now (absent .entry)) x r ⌝ }
 {
     remaining_of(present, absent, x.waysa, x.waysb, x.present, x.absent)
-}
-
-/// The word m of the faults fixed present, or absent, in a child. Under a fault the left child fixes it present, the right absent.
-fn fixed(absent: bool, k: Kind, right: bool, m: u64) -> u64
-    requires { ⌜ FaultFits k ⌝ }
-    ensures { λ r. ⌜ r ≡ childFixed (sideOf absent) k (sideOf right) m ⌝ }
-{
-    match k {
-        Kind::IndependentOr => m,
-        Kind::Shannon(f) => {
-            let b = one_bit(f as usize);
-            if absent == right { m | b } else { m }
-        }
-    }
-}
-
-/// The record of a child of record j, where x is the record at j and c its ways.
-fn child_record(weights: &[u32], x: Node, c: Clauses, k: Kind, right: bool, j: usize) -> Node
-    requires { ⌜ length (now weights) ≤ 64 ⌝ }
-    requires { ⌜ overweight (now weights) ≡ false ⌝ }
-    requires { ⌜ FaultFits k ⌝ }
-    requires { ⌜ (c .len ≤ 128) × AllNumbersBelow 128 (waysOf c) ⌝ }
-    requires { ⌜ j < 511 ⌝ }
-    ensures { λ n. ⌜ (n ≡ freshRecord (record { weights = now (weights .entry); present = []; absent = [] })
-        (childNode k (sideOf right) (record { set = []; present = x .present; absent = x .absent; ways = waysOf c })) j)
-        × SafeNode n ⌝ }
-{
-    let present = fixed(false, k, right, x.present);
-    let absent = fixed(true, k, right, x.absent);
-    leaf_record(weights, child(k, right, c), present, absent, j)
 }
 
 /// The code of a kind in a record.
@@ -107,44 +79,70 @@ pub struct Branch {
 }
 
 /// The records that a refinement of the leaf x in record j writes, where c are its ways and its left leaf goes to record `next`.
-pub fn branch_of(weights: &[u32], x: Node, c: Clauses, k: Kind, j: usize, next: usize) -> Branch
+fn branch_of(
+    weights: &[u32],
+    present: &[u64],
+    absent: &[u64],
+    x: Node,
+    c: Clauses,
+    k: Kind,
+    j: usize,
+    next: usize,
+) -> Branch
     requires { ⌜ length (now weights) ≤ 64 ⌝ }
     requires { ⌜ overweight (now weights) ≡ false ⌝ }
+    requires { ⌜ LeafWays (now present) (now absent) x c ⌝ }
     requires { ⌜ FaultFits k ⌝ }
-    requires { ⌜ (c .len ≤ 128) × AllNumbersBelow 128 (waysOf c) ⌝ }
     requires { ⌜ SafeNode x ⌝ }
     requires { ⌜ (j < 511) × (next + 1 < 511) ⌝ }
-    ensures { λ b. ⌜ Branched (now (weights .entry)) x (waysOf c) k j next b ⌝ }
+    ensures { λ b. ⌜ Branched (now (weights .entry)) x (waysOf (now (present .entry)) (now (absent .entry)) c) k j next b ⌝ }
 {
     let node = refined(x, k, next);
-    let left = child_record(weights, x, c, k, false, j);
-    let right = child_record(weights, x, c, k, true, j);
+    let s = children(present, absent, c, k);
+    let l = s.left;
+    let r = s.right;
+    let left = leaf_record(weights, present, absent, l, j);
+    let right = leaf_record(weights, present, absent, r, j);
     Branch { node, left, right }
 }
 
-/// The tree with the leaf in record j refined: its leaves in the next two records, and the intervals from j up to the root joined anew.
-pub fn grow(weights: &[u32], present: &[u64], absent: &[u64], tree: Tree, j: usize, k: Kind) -> Tree
-    requires { ⌜ length (now weights) ≤ 64 ⌝ }
-    requires { ⌜ overweight (now weights) ≡ false ⌝ }
-    requires { ⌜ length (now present) ≤ 128 ⌝ }
-    requires { ⌜ length (now absent) ≡ length (now present) ⌝ }
-    requires { ⌜ FaultFits k ⌝ }
-    requires { ⌜ Safe (tree .nodes) ⌝ }
-    requires { ⌜ (j < 511) × (tree .used + 1 < 511) ⌝ }
-    ensures { λ r. ⌜ (r .nodes ≡ grownAt (record { weights = now (weights .entry); present = now (present .entry); absent = now (absent .entry) }) (tree .nodes) (tree .used) j k)
-        × (r .used ≡ tree .used + 2) × Safe (r .nodes) ⌝ }
+/// Writes the records of a refinement of record j, the leaves into records `next` and `next` + 1, which are then in use.
+fn put_branch(tree: &mut Words, b: Branch, j: usize, next: usize)
+    requires { ⌜ (j < 511) × (next + 1 < 511) ⌝ }
+    ensures { λ _. ⌜ treeOf (now (tree .exit)) ≡ record { nodes = three (treeOf (now (tree .entry)) .nodes) next j (b .node) (b .left) (b .right); used = next + 2 } ⌝ }
 {
-    let x = tree.nodes[j];
-    let c = ways_of(present, absent, x);
-    let n = tree.used;
-    let mut t = tree;
-    let b = branch_of(weights, x, c, k, j, n);
     let node = b.node;
     let left = b.left;
     let right = b.right;
-    t.nodes[j] = node;
-    t.nodes[n] = left;
-    t.nodes[n + 1] = right;
-    t.used = n + 2;
-    raise(weights, t, j)
+    put_record(tree, j, node);
+    put_record(tree, next, left);
+    put_record(tree, next + 1, right);
+    put_used(tree, next + 2);
+}
+
+/// Refines the leaf in record j, where c are its ways: its leaves go to the next two records, and the intervals from j up to the root are joined
+/// anew.
+pub fn grow(
+    weights: &[u32],
+    present: &[u64],
+    absent: &[u64],
+    tree: &mut Words,
+    c: Clauses,
+    k: Kind,
+    j: usize,
+)
+    requires { ⌜ Accepted (record { weights = now weights; present = now present; absent = now absent }) ⌝ }
+    requires { ⌜ LeafWays (now present) (now absent) (recordIn (treeOf (now tree) .nodes) j) c ⌝ }
+    requires { ⌜ FaultFits k ⌝ }
+    requires { ⌜ Safe (treeOf (now tree) .nodes) ⌝ }
+    requires { ⌜ (j < 511) × (treeOf (now tree) .used + 1 < 511) ⌝ }
+    ensures { λ _. ⌜ (treeOf (now (tree .exit)) .nodes ≡ grownAt (record { weights = now (weights .entry); present = now (present .entry); absent = now (absent .entry) })
+        (treeOf (now (tree .entry)) .nodes) (treeOf (now (tree .entry)) .used) j k)
+        × (treeOf (now (tree .exit)) .used ≡ treeOf (now (tree .entry)) .used + 2) × Safe (treeOf (now (tree .exit)) .nodes) ⌝ }
+{
+    let x = record_at(tree, j);
+    let next = used_in(tree);
+    let b = branch_of(weights, present, absent, x, c, k, j, next);
+    put_branch(tree, b, j, next);
+    raise(weights, tree, j);
 }

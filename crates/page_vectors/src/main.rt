@@ -11,8 +11,9 @@ use page::widest;
 use page::widest_in;
 use page::widest_of;
 use records::Node;
-use records::Tree;
 use rules::Limits;
+use store::Words;
+use store::loaded;
 
 /// What the page is told of the first records.
 fn front(records: [Node; 600], count: usize) -> Spot
@@ -130,9 +131,9 @@ fn by_value() {
     print(widest_in(a));
 }
 
-/// The tree after one refinement more by a run.
-fn grown(weights: &[u32], present: &[u64], absent: &[u64], tree: Tree) -> Tree {
-    let advanced = run(
+/// One refinement more by a run, and what the page is then told of the tree.
+fn grown(weights: &[u32], present: &[u64], absent: &[u64], tree: &mut Words) {
+    run(
         weights,
         present,
         absent,
@@ -142,7 +143,7 @@ fn grown(weights: &[u32], present: &[u64], absent: &[u64], tree: Tree) -> Tree {
             budget: 1,
         },
     );
-    advanced.tree
+    print(widest_of(loaded(tree)));
 }
 
 /// The tree of P4, from its opening on.
@@ -150,16 +151,14 @@ fn paper() {
     let weights = [500000000, 500000000, 200000000];
     let present = [3, 5];
     let absent = [0, 0];
-    let opened = open(&weights, &present, &absent);
-    let mut tree = opened.tree;
+    let mut tree = [0u64; 6644];
+    open(&weights, &present, &absent, &mut tree);
     // 0: the root leaf, from 250000000 to 350000000.
-    print(widest_of(tree));
+    print(widest_of(loaded(&tree)));
     // 1: by fault 0; the left child has {1} {2}, from 600000000 to 700000000, and the right one no way left.
-    tree = grown(&weights, &present, &absent, tree);
-    print(widest_of(tree));
+    grown(&weights, &present, &absent, &mut tree);
     // none: by independence; both new leaves have one way.
-    tree = grown(&weights, &present, &absent, tree);
-    print(widest_of(tree));
+    grown(&weights, &present, &absent, &mut tree);
 }
 
 /// Seven faults of 500000000 and the ways {0,1,4} {0,1,5} {0,~1,6} {~0,2} {~0,3}.
@@ -167,26 +166,23 @@ fn ties() {
     let weights = [500000000; 7];
     let present = [19, 35, 65, 4, 8];
     let absent = [0, 0, 2, 1, 1];
-    let opened = open(&weights, &present, &absent);
-    let mut tree = opened.tree;
+    let mut tree = [0u64; 6644];
+    open(&weights, &present, &absent, &mut tree);
     // 1: by fault 0; the left child {1,4} {1,5} {~1,6} goes from 250000000 to 750000000, the right one {2} {3} from 750000000 to 1000000000.
-    tree = grown(&weights, &present, &absent, tree);
-    print(widest_of(tree));
+    grown(&weights, &present, &absent, &mut tree);
     // 2: record 1 by fault 1; record 3 {4} {5} is as wide as record 2, but later. That it lies to the left is nothing to the page.
-    tree = grown(&weights, &present, &absent, tree);
-    print(widest_of(tree));
+    grown(&weights, &present, &absent, &mut tree);
     // 2: the run took record 3, the leftmost; its children have one way each.
-    tree = grown(&weights, &present, &absent, tree);
-    print(widest_of(tree));
+    grown(&weights, &present, &absent, &mut tree);
     // none: the run took record 2.
-    tree = grown(&weights, &present, &absent, tree);
-    print(widest_of(tree));
+    grown(&weights, &present, &absent, &mut tree);
 }
 
 /// A table that is refused: the tree has no nodes, so `none`.
 fn refused() {
-    let opened = open(&[0u32; 0], &[0u64; 0], &[0u64; 0]);
-    print(widest_of(opened.tree));
+    let mut tree = [1u64; 6644];
+    open(&[0u32; 0], &[0u64; 0], &[0u64; 0], &mut tree);
+    print(widest_of(loaded(&tree)));
 }
 
 fn main() {

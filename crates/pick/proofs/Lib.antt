@@ -3,6 +3,6 @@
 mod Wider
 mod Order
 mod Walk
-pub mod Searching
+mod Searching
 pub mod Layouts
 pub mod Next

@@ -4,9 +4,13 @@ ghost use mathlib.Core.Path.{_≡_};
 ghost use Rattle.records.specs.Growing.{recordWidth};
 ghost use mathlib.Core.Bool.{false};
 ghost use Prim.Native.Nat.{_+_, _<_};
-ghost use Rattle.pick.specs.Picks.{ownFound, wider};
+ghost use Rattle.store.specs.Lent.{treeOf};
+ghost use Rattle.store.specs.Safe.{Safe};
+ghost use Rattle.pick.specs.Picks.{ownFound, wider, pickOf, Linked};
 ghost use Rattle.pick.specs.Steps.{view, begun, came, stepped};
 use records::Node;
+use store::Words;
+use store::record_at;
 
 /// The record of a left child is its parent's `left`, and this more.
 const LEFT: usize = 0;
@@ -29,17 +33,17 @@ fn width(n: Node) -> u64
 
 /// How far a search has come: the record where it is, whether it goes down there or comes back up, whether it is over, and if it has found
 /// `some` open leaf, the record and the width of the best. Plain numbers, so that a step costs little.
-pub struct Search {
-    pub at: usize,
-    pub down: bool,
-    pub over: bool,
-    pub some: bool,
-    pub leaf: usize,
-    pub width: u64,
+struct Search {
+    at: usize,
+    down: bool,
+    over: bool,
+    some: bool,
+    leaf: usize,
+    width: u64,
 }
 
 /// A search begins at the root, on the way down.
-pub fn begin() -> Search
+fn begin() -> Search
     ensures { λ r. ⌜ view r ≡ begun ⌝ }
 {
     Search {
@@ -53,7 +57,7 @@ pub fn begin() -> Search
 }
 
 /// What a search has found.
-pub fn found_by(s: Search) -> Found
+fn found_by(s: Search) -> Found
     ensures { λ r. ⌜ r ≡ view s .best ⌝ }
 {
     if s.some {
@@ -98,8 +102,8 @@ fn entered(s: Search, n: Node) -> Search
 }
 
 /// One step of a search at record n, below record p. Down by the left links to a leaf, then up by the parent links until a right
-/// child is next. Records are handed over one by one: a tree by value would be copied at every call.
-pub fn onward(s: Search, n: Node, p: Node) -> Search
+/// child is next.
+fn onward(s: Search, n: Node, p: Node) -> Search
     requires { ⌜ (n .left + 1 < 511) × (p .left + 1 < 511) ⌝ }
     ensures { λ r. ⌜ view r ≡ stepped (view s) n p ⌝ }
 {
@@ -118,4 +122,19 @@ pub fn onward(s: Search, n: Node, p: Node) -> Search
         return moved(s, p.left + RIGHT, true);
     }
     moved(s, n.parent, false)
+}
+
+/// The leftmost of the widest open leaves of a tree whose links are in order.
+pub fn widest(tree: &Words) -> Found
+    requires { ⌜ Linked (treeOf (now tree) .nodes) (treeOf (now tree) .used) ⌝ }
+    requires { ⌜ Safe (treeOf (now tree) .nodes) ⌝ }
+    ensures { λ r. ⌜ r ≡ pickOf (treeOf (now (tree .entry)) .nodes) ⌝ }
+{
+    let mut s = begin();
+    while !s.over {
+        let n = record_at(tree, s.at);
+        let p = record_at(tree, n.parent);
+        s = onward(s, n, p);
+    }
+    found_by(s)
 }

@@ -5,8 +5,6 @@ pub mod reports;
 pub mod sheets;
 pub mod trees;
 
-use records::Tree;
-
 /// The answer of a call on a tree, of the writer and of the report. `verdict` is 0 none, 1 met, 2 done, 3 full, 4 spent.
 #[repr(C)]
 pub struct FlatAnswer {
@@ -42,11 +40,4 @@ pub struct FlatEntry {
     pub cue: u64,
     pub ways: u64,
     pub start: u64,
-}
-
-/// What a call on a tree hands back.
-#[repr(C)]
-pub struct Step {
-    pub answer: FlatAnswer,
-    pub tree: Tree,
 }

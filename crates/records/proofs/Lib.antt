@@ -1,5 +1,6 @@
 -- The theorems about records. Demand.antt is where to look first: demand 3 on the trees that the library returns.
 -- From the bottom up: places and positions; the series read back and 16; one refinement on the records; what a run takes next.
+pub mod Arrays
 pub mod Positions
 pub mod InPlace
 pub mod History

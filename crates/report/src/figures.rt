@@ -13,9 +13,7 @@ use rules::RunAnswer;
 pub fn cue_answer(weights: &[u32], present: &[u64], absent: &[u64], limits: Limits) -> RunAnswer
     ensures { λ r. ⌜ r ≡ runAnswer (record { weights = now (weights .entry); present = now (present .entry); absent = now (absent .entry) }) false leaf limits ⌝ }
 {
-    let opened = open(weights, present, absent);
-    let tree = opened.tree;
-    let advanced = run(weights, present, absent, tree, limits);
-    let answer = advanced.answer;
-    answer
+    let mut tree = [0u64; 6644];
+    open(weights, present, absent, &mut tree);
+    run(weights, present, absent, &mut tree, limits)
 }

@@ -235,10 +235,12 @@ without-twice m m′ w = bits-ext (without m′ (without m w)) (without (bitOr m
     both true false z = refl
     both false y z = refl
 
-dropped-twice : (m m′ : ℕ) (v : Way) → dropped m′ (dropped m v) ≡ dropped (bitOr m m′) v
+-- Faults dropped after others are dropped together.
+pub dropped-twice : (m m′ : ℕ) (v : Way) → dropped m′ (dropped m v) ≡ dropped (bitOr m m′) v
 dropped-twice m m′ v = λ i. record { number = v .number; present = without-twice m m′ (v .present) i; absent = without-twice m m′ (v .absent) i }
 
-or-regroup : (P A P′ A′ : ℕ) → bitOr (bitOr P A) (bitOr P′ A′) ≡ bitOr (bitOr P P′) (bitOr A A′)
+-- Four words joined by twos, either way.
+pub or-regroup : (P A P′ A′ : ℕ) → bitOr (bitOr P A) (bitOr P′ A′) ≡ bitOr (bitOr P P′) (bitOr A A′)
 or-regroup P A P′ A′ = bits-ext _ _ (λ i. simp (bit-or) (swap (bit i P) (bit i A) (bit i P′) (bit i A′)))
   where
     swap : (p a p′ a′ : Bool) → (p || a) || (p′ || a′) ≡ (p || p′) || (a || a′)

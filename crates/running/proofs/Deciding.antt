@@ -33,7 +33,7 @@ module _ (t : Table) (ns : List Refinement) (m : Limits) (x : Tree) (made : ℕ)
   root = getD (x .nodes) 0 blank
 
   abbrev pub Outcome : Step → Type 0
-  Outcome (Stop v) = Ran t ns m (record { tree = x; verdict = v; count = made })
+  Outcome (Stop v) = Ran t ns m x (record { verdict = v; count = made })
   Outcome (Go j) = Goes t a x j × (made ≡ m .budget → ⊥)
 
   module _ (f : Found) (p : f ≡ pickOf (x .nodes)) where

@@ -23,7 +23,7 @@ use Rattle.records.specs.declared.Tree.{Tree}
 use Rattle.records.proofs.Positions.{position-of, length-places, places-once}
 use Rattle.records.proofs.InPlace.{few-places}
 use Rattle.records.proofs.Grown.{grows}
-use Rattle.grow.specs.Safe.{Safe}
+use Rattle.store.specs.Safe.{Safe}
 use Rattle.running.specs.Ran.{Ran}
 use Rattle.running.proofs.Turns.{Goes, own, whole, is}
 
@@ -96,7 +96,7 @@ module _ (t : Table) (ns : List Refinement) (m : Limits) (x : Tree) (made : ℕ)
   s = tree (history x)
 
   -- It ends where nothing more is made.
-  ended : (v : Verdict) → picks t a (w .rest) s ≡ [] → verdict t a (w .rest) s ≡ v → Ran t ns m (record { tree = x; verdict = v; count = made })
+  ended : (v : Verdict) → picks t a (w .rest) s ≡ [] → verdict t a (w .rest) s ≡ v → Ran t ns m x (record { verdict = v; count = made })
   ended v e h =
       let all : picks t a (m .budget) (tree ns) ≡ w .ps = w .makes ∙ ap (λ (qs : List Refinement). w .ps ++ qs) e ∙ append-nil (w .ps) in
       record {
@@ -105,7 +105,7 @@ module _ (t : Table) (ns : List Refinement) (m : Limits) (x : Tree) (made : ℕ)
         counts = w .many ∙ ap length (sym all);
       }
 
-  pub stopped : (v : Verdict) → turn t a s ≡ stop v → Ran t ns m (record { tree = x; verdict = v; count = made })
+  pub stopped : (v : Verdict) → turn t a s ≡ stop v → Ran t ns m x (record { verdict = v; count = made })
   stopped v e = ended v (no-more t a s v e (w .rest)) (stops-so t a s v e (w .rest))
 
   -- The rules refine the leaf in record j.
@@ -116,7 +116,7 @@ module _ (t : Table) (ns : List Refinement) (m : Limits) (x : Tree) (made : ℕ)
     abbrev n : Refinement
     n = record { place = getD (places (history x)) j []; kind = k }
 
-    pub spent : made ≡ m .budget → Ran t ns m (record { tree = x; verdict = Spent; count = made })
+    pub spent : made ≡ m .budget → Ran t ns m x (record { verdict = Spent; count = made })
     unfolding picks
     spent e =
         let z : w .rest ≡ 0 = omega (arith, e, w .sum) in

@@ -21,7 +21,7 @@ use Rattle.records.specs.Records.{blank, places, recordWays, subtreeOr, recordA
 use Rattle.records.specs.declared.Node.{Node}
 use Rattle.records.specs.declared.Tree.{Tree}
 use Rattle.records.proofs.Positions.{length-places}
-use Rattle.records.proofs.InPlace.{few-places, records-long, record-of}
+use Rattle.records.proofs.InPlace.{few-places, record-of}
 use Rattle.records.proofs.History.{history-layout}
 use Rattle.pick.specs.Picks.{pickOf, Linked}
 use Rattle.pick.specs.declared.Found.{Found}
@@ -100,9 +100,6 @@ module _ (t : Table) (x : Tree) (g : Good t x) where
   used-is : x .used ≡ length (places (history x))
   unfolding layout
   used-is = ap (λ (y : Tree). y .used) is
-
-  pub long-nodes : length (x .nodes) ≡ 511
-  long-nodes = ap length nodes-are ∙ records-long t (history x) whole
 
   -- Record 0 is the root's.
   root-is : getD (x .nodes) 0 blank ≡ recordAt t (history x) []

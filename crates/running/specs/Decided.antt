@@ -1,15 +1,17 @@
--- What a turn decides on the root's record and on what the search found, and the records that it writes.
--- Rests on `rules`, Run, on `pick`, Picks, and on `grow`, Branched.
+-- What a turn decides on the root's record and on what the search found, and the tree that it leaves.
+-- Rests on `rules`, Run, on `pick`, Picks, and on `records`, Growing.
+use mathlib.Core.Path.{_≡_}
 use mathlib.Core.Bool.{true, false}
-use Prim.Native.Nat.{ℕ}
+use Prim.Native.Nat.{ℕ, _+_}
 use lib.Dec.{eqb}
 use Rattle.rules.specs.Table.{Table}
 use Rattle.rules.specs.Run.{narrow, choice}
 use Rattle.rules.specs.declared.Verdict.the-variants.{Met, Done, Full, Spent}
-use Rattle.records.specs.Records.{recordWays}
+use Rattle.records.specs.Records.{recordIn, recordWays}
+use Rattle.records.specs.Growing.{grownAt}
 use Rattle.records.specs.declared.Node.{Node}
-use Rattle.grow.specs.Branched.{Branched}
-use Rattle.grow.specs.declared.refine.Branch.{Branch}
+use Rattle.records.specs.declared.Tree.{Tree}
+use Rattle.store.specs.Safe.{Safe}
 use Rattle.pick.specs.declared.Found.{Found}
 use Rattle.pick.specs.declared.Found.the-variants.{At, Nothing}
 use Rattle.running.specs.declared.Step.{Step}
@@ -30,6 +32,8 @@ unfoldable pub decided : ℕ → Node → Found → ℕ → ℕ → ℕ → Step
 decided allowance root found used made budget =
     elim (narrow allowance (root .low) (root .high)) as (λ b. Step) [ true ↦ Stop Met | false ↦ whenWide found used made budget ]
 
--- The records of the leaf x in record j and of its two leaves, refined as the rule says.
-abbrev pub ByRule : Table → Node → ℕ → ℕ → Branch → Type 0
-ByRule t x j next b = Branched (t .weights) x (recordWays t x) (choice (t .weights) (recordWays t x)) j next b
+-- The tree y is the tree x with the leaf in record j refined as the rule says, and code may follow its records.
+pub record ByRule (t : Table) (x : Tree) (j : ℕ) (y : Tree) : Type 0 where
+  pub grown : y .nodes ≡ grownAt t (x .nodes) (x .used) j (choice (t .weights) (recordWays t (recordIn (x .nodes) j)))
+  pub two-more : y .used ≡ x .used + 2
+  pub safe : Safe (y .nodes)

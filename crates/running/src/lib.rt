@@ -3,7 +3,6 @@
 pub mod run;
 pub mod turn;
 
-use records::Tree;
 use rules::Verdict;
 
 /// Before a refinement: the reason to stop, or the record of the leaf to refine.
@@ -12,9 +11,8 @@ pub enum Step {
     Go(usize),
 }
 
-/// What a run leaves: the tree, why it stopped, and how many refinements it made.
+/// Why a run stopped, and how many refinements it made.
 pub struct Ended {
-    pub tree: Tree,
     pub verdict: Verdict,
     pub count: u64,
 }

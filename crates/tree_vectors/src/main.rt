@@ -6,7 +6,7 @@ mod lines;
 mod places;
 
 use damage::Damage;
-use damage::damaged;
+use damage::change;
 use damage::undoing;
 use dtree::opening::open;
 use dtree::refining::refine;
@@ -16,23 +16,19 @@ use input::word_list;
 use lines::print_line;
 use lines::print_run;
 use lines::reply;
-use node::no_nodes;
 use numbers::half;
 use numbers::list_length;
 use numbers::number;
 use numbers::quarter;
 use numbers::weight_list;
 use places::show;
-use records::Tree;
 use rules::Kind;
 use rules::Limits;
+use store::Words;
 
-/// Opens the table and prints the line; gives the tree.
-fn opening(weights: &[u32], present: &[u64], absent: &[u64]) -> Tree {
-    let opened = open(weights, present, absent);
-    let answer = opened.answer;
-    print_line(reply(answer));
-    opened.tree
+/// Opens the table and prints the line.
+fn opening(weights: &[u32], present: &[u64], absent: &[u64], tree: &mut Words) {
+    print_line(reply(open(weights, present, absent, tree)));
 }
 
 /// Reads what a hand refinement does: 0 for independence, 1 for a fault, then the fault's number.
@@ -45,79 +41,76 @@ fn kind_read() -> Kind {
     Kind::Shannon(fault)
 }
 
-/// Reads a hand refinement, makes it and prints its line; gives the tree.
-fn hand(weights: &[u32], present: &[u64], absent: &[u64], tree: Tree) -> Tree {
+/// Reads a hand refinement, makes it and prints its line.
+fn hand(weights: &[u32], present: &[u64], absent: &[u64], tree: &mut Words) {
     let steps = list_length(70);
     let place = step_list(steps);
     let kind = kind_read();
-    let refined = refine(weights, present, absent, tree, &place[..steps], kind);
-    let answer = refined.answer;
-    print_line(reply(answer));
-    refined.tree
+    print_line(reply(refine(weights, present, absent, tree, &place[..steps], kind)));
 }
 
-/// Reads a run, makes it and prints its line; gives the tree.
-fn counted(weights: &[u32], present: &[u64], absent: &[u64], tree: Tree) -> Tree {
+/// Reads a run, makes it and prints its line.
+fn counted(weights: &[u32], present: &[u64], absent: &[u64], tree: &mut Words) {
     let allowance = half();
     let budget = quarter();
-    let advanced = run(weights, present, absent, tree, Limits { allowance, budget });
-    let answer = advanced.answer;
-    print_run(answer);
-    advanced.tree
+    print_run(run(weights, present, absent, tree, Limits { allowance, budget }));
 }
 
-/// Makes the call of this code, 0 for a hand refinement and 1 for a run; gives the tree.
-fn call(code: u64, weights: &[u32], present: &[u64], absent: &[u64], tree: Tree) -> Tree {
+/// Makes the call of this code, 0 for a hand refinement and 1 for a run.
+fn call(code: u64, weights: &[u32], present: &[u64], absent: &[u64], tree: &mut Words) {
     if code == 0 {
-        return hand(weights, present, absent, tree);
+        hand(weights, present, absent, tree);
+        return;
     }
-    counted(weights, present, absent, tree)
+    counted(weights, present, absent, tree);
 }
 
-/// Reads a damage and a call, makes the call on the damaged tree; gives the tree that it hands back, with the damage undone.
-fn on_damaged(weights: &[u32], present: &[u64], absent: &[u64], tree: Tree) -> Tree {
+/// Reads a damage and a call, makes the call on the damaged tree and undoes the damage.
+fn on_damaged(weights: &[u32], present: &[u64], absent: &[u64], tree: &mut Words) {
     let record = number() as usize;
-    let field = number();
+    let field = number() as usize;
     let by = number();
     let d = Damage { record, field, by };
+    change(tree, d);
     let code = number();
-    let after = call(code, weights, present, absent, damaged(tree, d));
-    damaged(after, undoing(d))
+    call(code, weights, present, absent, tree);
+    change(tree, undoing(d));
 }
 
 /// Does what the next line asks for: 0 or 1 a call, 2 a call on a damaged tree, 3 all places printed, else a call and all places then,
-/// with the tree kept as it was; gives the tree.
-fn request(weights: &[u32], present: &[u64], absent: &[u64], tree: Tree) -> Tree {
+/// with the tree kept as it was.
+fn request(weights: &[u32], present: &[u64], absent: &[u64], tree: &mut Words) {
     let code = number();
     if code < 2 {
-        return call(code, weights, present, absent, tree);
+        call(code, weights, present, absent, tree);
+        return;
     }
     if code == 2 {
-        return on_damaged(weights, present, absent, tree);
+        on_damaged(weights, present, absent, tree);
+        return;
     }
     if code == 3 {
         show(tree);
-    } else {
-        let next = number();
-        show(call(next, weights, present, absent, tree));
+        return;
     }
-    tree
+    let next = number();
+    let mut copy = *tree;
+    call(next, weights, present, absent, &mut copy);
+    show(&copy);
 }
 
-/// Reads how many lines there are and does what they ask for, each with the tree that the one before gave; gives the last.
-fn requests(weights: &[u32], present: &[u64], absent: &[u64], handed: Tree) -> Tree {
+/// Reads how many lines there are and does what they ask for, each with the tree that the one before left.
+fn requests(weights: &[u32], present: &[u64], absent: &[u64], tree: &mut Words) {
     let count = number();
-    let mut tree = handed;
     let mut done: u64 = 0;
     while done < count {
-        tree = request(weights, present, absent, tree);
+        request(weights, present, absent, tree);
         done += 1;
     }
-    tree
 }
 
 /// Reads one script and makes it. It starts with 1 if its table is opened, with 0 if the tree of the script before is handed on.
-fn script(handed: Tree) -> Tree {
+fn script(tree: &mut Words) {
     let opens = number();
     let faults = list_length(65);
     let presents = list_length(129);
@@ -125,24 +118,28 @@ fn script(handed: Tree) -> Tree {
     let weights = weight_list(faults);
     let present = word_list(presents);
     let absent = word_list(absents);
-    let mut tree = handed;
     if opens != 0 {
-        tree = opening(&weights[..faults], &present[..presents], &absent[..absents]);
+        opening(
+            &weights[..faults],
+            &present[..presents],
+            &absent[..absents],
+            tree,
+        );
     }
     requests(
         &weights[..faults],
         &present[..presents],
         &absent[..absents],
         tree,
-    )
+    );
 }
 
 fn main() {
     let scripts = number();
-    let mut tree = no_nodes();
+    let mut tree = [0u64; 6644];
     let mut done: u64 = 0;
     while done < scripts {
-        tree = script(tree);
+        script(&mut tree);
         done += 1;
     }
 }

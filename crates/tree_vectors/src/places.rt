@@ -1,9 +1,11 @@
 //! Every place of a tree printed, found by the links from the root: a node before those below it, left before right.
-//! Rests on the records of `records`. A link that leads outside the records is not followed.
+//! Rests on the records of `records` and on `store`. A link that leads outside the records is not followed.
 ghost use Prim.Native.Nat.{_<_, _≤_};
 use super::lines::print_field;
 use records::Node;
-use records::Tree;
+use store::Words;
+use store::record_at;
+use store::used_in;
 
 /// Prints what stands at a place: leaf, independence or fault as 1, 2, 3, the fault, 1 for an open leaf, and the interval.
 fn print_place(n: Node) {
@@ -15,10 +17,10 @@ fn print_place(n: Node) {
 }
 
 /// How many records a tree lets wait at first: the root's, if it has nodes.
-fn roots(tree: Tree) -> usize
+fn roots(tree: &Words) -> usize
     ensures { λ r. ⌜ r ≤ 1 ⌝ }
 {
-    if tree.used == 0 { 0 } else { 1 }
+    if used_in(tree) == 0 { 0 } else { 1 }
 }
 
 /// The left child's record, 0 for a leaf.
@@ -36,7 +38,7 @@ fn children(left: usize) -> usize
 }
 
 /// Prints a line for each place. The records that are still to be printed wait, the next one last.
-pub fn show(tree: Tree) {
+pub fn show(tree: &Words) {
     let mut waiting = [0usize; 512];
     let mut count = roots(tree);
     let mut shown: usize = 0;
@@ -49,7 +51,7 @@ pub fn show(tree: Tree) {
         if shown >= 511 {
             return;
         }
-        let n = tree.nodes[at];
+        let n = record_at(tree, at);
         print_place(n);
         let left = left_child(n);
         waiting[count] = left + 1;

@@ -1,5 +1,5 @@
 //! The ways of a leaf and what follows from them: chances, both ends, groups and the fault named most.
-//! The same loops as the library's `formula`, over slices and in place.
+//! The same loops as the library's `clauses` and `formula`: no list of ways is written down.
 
 pub const S: u64 = 1_000_000_000;
 pub const MOST_WAYS: usize = 128;
@@ -18,45 +18,77 @@ impl Way {
     }
 }
 
-/// Up to 128 ways in number order, in a fixed array.
-pub struct Ways {
-    list: [Way; MOST_WAYS],
-    len: usize,
-}
-
-impl Ways {
-    pub const fn new() -> Ways {
-        let none = Way {
-            number: 0,
-            present: 0,
-            absent: 0,
-        };
-        Ways {
-            list: [none; MOST_WAYS],
-            len: 0,
-        }
-    }
-
-    pub fn all(&self) -> &[Way] {
-        &self.list[..self.len]
-    }
-
-    pub fn clear(&mut self) {
-        self.len = 0;
-    }
-
-    pub fn push(&mut self, way: Way) {
-        self.list[self.len] = way;
-        self.len += 1;
-    }
-}
-
 /// A table as a call gets it.
 #[derive(Clone, Copy)]
 pub struct Table<'a> {
     pub weights: &'a [u32],
     pub present: &'a [u64],
     pub absent: &'a [u64],
+}
+
+/// The ways of a leaf: those of a table with these numbers, less the fixed faults.
+#[derive(Clone, Copy)]
+pub struct Clauses {
+    pub set: [u64; 2],
+    pub present: u64,
+    pub absent: u64,
+}
+
+impl Clauses {
+    /// The ways in number order, each read off the table when its turn comes.
+    pub fn ways<'a>(&self, table: &'a Table) -> impl Iterator<Item = Way> + 'a {
+        let fixed = self.present | self.absent;
+        let [mut low, mut high] = self.set;
+        std::iter::from_fn(move || {
+            let number = if low != 0 {
+                let number = low.trailing_zeros() as usize;
+                low &= low - 1;
+                number
+            } else if high != 0 {
+                let number = 64 + high.trailing_zeros() as usize;
+                high &= high - 1;
+                number
+            } else {
+                return None;
+            };
+            Some(Way {
+                number,
+                present: table.present[number] & !fixed,
+                absent: table.absent[number] & !fixed,
+            })
+        })
+    }
+
+    /// Those that pass a test.
+    fn keep(&self, table: &Table, mut test: impl FnMut(&Way) -> bool) -> Clauses {
+        let mut kept = Clauses {
+            set: [0; 2],
+            ..*self
+        };
+        for way in self.ways(table) {
+            if test(&way) {
+                kept.set[way.number / 64] |= 1 << (way.number % 64);
+            }
+        }
+        kept
+    }
+
+    /// What remains with more faults fixed.
+    pub fn restrict(&self, table: &Table, present: u64, absent: u64) -> Clauses {
+        let kept = self.keep(table, |way| {
+            (way.present & absent) | (way.absent & present) == 0
+        });
+        Clauses {
+            present: self.present | present,
+            absent: self.absent | absent,
+            ..kept
+        }
+    }
+
+    /// The ways that the word of faults touches, or those that it does not.
+    pub fn part(&self, table: &Table, word: u64, touched: bool) -> Clauses {
+        self.keep(table, |way| (word & way.faults() != 0) == touched)
+    }
 }
 
 pub fn down(x: u64) -> u64 {
@@ -94,11 +126,11 @@ fn chance<const UP: bool>(weights: &[u32], way: &Way) -> u64 {
 }
 
 /// Leaf low: each way against the ways kept before it, left by the label at the first shared fault.
-pub fn leaf_low(weights: &[u32], ways: &[Way]) -> u64 {
+pub fn leaf_low(table: &Table, ways: &Clauses) -> u64 {
     let mut kept = [0u64; MOST_WAYS];
     let mut count = 0;
     let mut low = 0;
-    'ways: for way in ways {
+    'ways: for way in ways.ways(table) {
         let faults = way.faults();
         for other in &kept[..count] {
             if faults & other != 0 {
@@ -107,73 +139,33 @@ pub fn leaf_low(weights: &[u32], ways: &[Way]) -> u64 {
         }
         kept[count] = faults;
         count += 1;
-        low = S - up((S - low) * (S - chance::<false>(weights, way)));
+        low = S - up((S - low) * (S - chance::<false>(table.weights, &way)));
     }
     low
 }
 
-pub fn leaf_high(weights: &[u32], ways: &[Way]) -> u64 {
-    let sum: u64 = ways.iter().map(|way| chance::<true>(weights, way)).sum();
-    sum.min(S)
+pub fn leaf_high(table: &Table, ways: &Clauses) -> u64 {
+    let chance = |way: Way| chance::<true>(table.weights, &way);
+    ways.ways(table).map(chance).sum::<u64>().min(S)
 }
 
-/// Open: two or more ways, none of them empty, and low below high.
-pub fn is_open(ways: &[Way], low: u64, high: u64) -> bool {
-    ways.len() >= 2 && ways.iter().all(|way| way.faults() != 0) && low < high
-}
-
-/// The ways of a set of numbers that remain under fixed faults.
-pub fn remaining(table: &Table, set: [u64; 2], present: u64, absent: u64, ways: &mut Ways) {
-    ways.clear();
-    let fixed = present | absent;
-    for (half, word) in set.into_iter().enumerate() {
-        let mut left = word;
-        while left != 0 {
-            let number = 64 * half + left.trailing_zeros() as usize;
-            left &= left - 1;
-            let (p, a) = (table.present[number], table.absent[number]);
-            if (p & absent) | (a & present) == 0 {
-                ways.push(Way {
-                    number,
-                    present: p & !fixed,
-                    absent: a & !fixed,
-                });
-            }
-        }
-    }
-}
-
-/// What remains of ways with one fault more fixed.
-pub fn restrict(from: &[Way], present: u64, absent: u64, ways: &mut Ways) {
-    ways.clear();
-    let fixed = present | absent;
-    for way in from {
-        if (way.present & absent) | (way.absent & present) == 0 {
-            ways.push(Way {
-                number: way.number,
-                present: way.present & !fixed,
-                absent: way.absent & !fixed,
-            });
-        }
-    }
-}
-
-/// The ways that the word of faults touches, or those that it does not.
-pub fn part(from: &[Way], word: u64, touched: bool, ways: &mut Ways) {
-    ways.clear();
-    for way in from {
-        if (word & way.faults() != 0) == touched {
-            ways.push(*way);
-        }
-    }
+/// Open: low below high, two or more ways, none of them empty.
+pub fn is_open(table: &Table, ways: &Clauses, low: u64, high: u64) -> bool {
+    let mut count = 0;
+    low < high
+        && ways.ways(table).all(|way| {
+            count += 1;
+            way.faults() != 0
+        })
+        && count >= 2
 }
 
 /// The faults of the group of the first way: passes over the ways until one changes nothing.
-pub fn group_faults(ways: &[Way]) -> u64 {
-    let mut word = ways.first().map_or(0, Way::faults);
+pub fn group_faults(table: &Table, ways: &Clauses) -> u64 {
+    let mut word = ways.ways(table).next().map_or(0, |way| way.faults());
     loop {
         let mut next = word;
-        for way in ways {
+        for way in ways.ways(table) {
             let faults = way.faults();
             if next & faults != 0 {
                 next |= faults;
@@ -186,10 +178,15 @@ pub fn group_faults(ways: &[Way]) -> u64 {
     }
 }
 
+/// The word leaves a way untouched.
+pub fn leaves_one(table: &Table, ways: &Clauses, word: u64) -> bool {
+    ways.ways(table).any(|way| way.faults() & word == 0)
+}
+
 /// The fault that most ways name, the lowest number if several are.
-pub fn most_named(faults: usize, ways: &[Way]) -> usize {
+pub fn most_named(table: &Table, ways: &Clauses) -> usize {
     let mut counts = [0u8; MOST_FAULTS];
-    for way in ways {
+    for way in ways.ways(table) {
         let mut left = way.faults();
         while left != 0 {
             counts[left.trailing_zeros() as usize] += 1;
@@ -197,19 +194,10 @@ pub fn most_named(faults: usize, ways: &[Way]) -> usize {
         }
     }
     let mut best = 0;
-    for fault in 1..faults {
+    for fault in 1..table.weights.len() {
         if counts[fault] > counts[best] {
             best = fault;
         }
     }
     best
-}
-
-/// The numbers of the ways, as two words.
-pub fn numbers(ways: &[Way]) -> [u64; 2] {
-    let mut words = [0; 2];
-    for way in ways {
-        words[way.number / 64] |= 1 << (way.number % 64);
-    }
-    words
 }

@@ -70,12 +70,12 @@ pub fn open(tree: &mut Tree, table: &Table) -> Answer {
     }
 }
 
-fn choose(weights: &[u32], ways: &[Way]) -> Kind {
-    let word = group_faults(ways);
-    if ways.iter().any(|way| way.faults() & word == 0) {
+fn choose(table: &Table, ways: &Clauses) -> Kind {
+    let word = group_faults(table, ways);
+    if leaves_one(table, ways, word) {
         return Kind::IndependentOr(word);
     }
-    Kind::Shannon(most_named(weights.len(), ways))
+    Kind::Shannon(most_named(table, ways))
 }
 
 pub fn run(tree: &mut Tree, table: &Table, allowance: u32, budget: u16) -> Answer {
@@ -92,7 +92,6 @@ pub fn run(tree: &mut Tree, table: &Table, allowance: u32, budget: u16) -> Answe
     if !tree.is_good(table) {
         return refused(16);
     }
-    let mut ways = Ways::new();
     let mut count = 0;
     let verdict = loop {
         let root = &tree.nodes[0];
@@ -108,9 +107,9 @@ pub fn run(tree: &mut Tree, table: &Table, allowance: u32, budget: u16) -> Answe
         if count == u64::from(budget) {
             break SPENT;
         }
-        tree.ways(table, at, &mut ways);
-        let kind = choose(table.weights, ways.all());
-        tree.grow(table.weights, at, ways.all(), kind);
+        let ways = tree.ways(table, at);
+        let kind = choose(table, &ways);
+        tree.grow(table, at, &ways, kind);
         count += 1;
     };
     Answer {

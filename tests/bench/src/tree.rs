@@ -55,18 +55,18 @@ const NO_NODE: Node = Node {
     own_high: 0,
 };
 
-fn leaf(weights: &[u32], ways: &[Way], present: u64, absent: u64, parent: usize) -> Node {
-    let low = leaf_low(weights, ways);
-    let high = leaf_high(weights, ways);
+fn leaf(table: &Table, ways: &Clauses, parent: usize) -> Node {
+    let low = leaf_low(table, ways);
+    let high = leaf_high(table, ways);
     Node {
         kind: LEAF,
         fault: 0,
-        live: u64::from(is_open(ways, low, high)),
+        live: u64::from(is_open(table, ways, low, high)),
         parent,
         left: 0,
-        ways: numbers(ways),
-        present,
-        absent,
+        ways: ways.set,
+        present: ways.present,
+        absent: ways.absent,
         low,
         high,
         own_low: low,
@@ -83,10 +83,13 @@ impl Tree {
     }
 
     pub fn open(&mut self, table: &Table) {
-        let mut ways = Ways::new();
-        remaining(table, all_numbers(table.present.len()), 0, 0, &mut ways);
+        let all = Clauses {
+            set: all_numbers(table.present.len()),
+            present: 0,
+            absent: 0,
+        };
         self.nodes.fill(NO_NODE);
-        self.nodes[0] = leaf(table.weights, ways.all(), 0, 0, 0);
+        self.nodes[0] = leaf(table, &all, 0);
         self.used = 1;
     }
 
@@ -125,33 +128,30 @@ impl Tree {
     }
 
     /// The remaining ways of a record.
-    pub fn ways(&self, table: &Table, at: usize, ways: &mut Ways) {
+    pub fn ways(&self, table: &Table, at: usize) -> Clauses {
         let node = &self.nodes[at];
-        remaining(table, node.ways, node.present, node.absent, ways);
+        let set = Clauses {
+            set: node.ways,
+            present: 0,
+            absent: 0,
+        };
+        set.restrict(table, node.present, node.absent)
     }
 
     /// Refines the leaf at a record, whose ways are handed over, and joins the intervals up to the root.
-    pub fn grow(&mut self, weights: &[u32], at: usize, ways: &[Way], kind: Kind) {
-        let mut child = Ways::new();
-        let node = self.nodes[at];
+    pub fn grow(&mut self, table: &Table, at: usize, ways: &Clauses, kind: Kind) {
         let left = self.used;
-        for right in [false, true] {
-            let (mut present, mut absent) = (node.present, node.absent);
-            match kind {
-                Kind::IndependentOr(word) => part(ways, word, !right, &mut child),
-                Kind::Shannon(fault) => {
-                    let bit = 1 << fault;
-                    if right {
-                        absent |= bit;
-                        restrict(ways, 0, bit, &mut child);
-                    } else {
-                        present |= bit;
-                        restrict(ways, bit, 0, &mut child);
-                    }
-                }
+        let children = match kind {
+            Kind::IndependentOr(word) => {
+                [ways.part(table, word, true), ways.part(table, word, false)]
             }
-            self.nodes[left + usize::from(right)] = leaf(weights, child.all(), present, absent, at);
-        }
+            Kind::Shannon(fault) => {
+                let bit = 1 << fault;
+                [ways.restrict(table, bit, 0), ways.restrict(table, 0, bit)]
+            }
+        };
+        self.nodes[left] = leaf(table, &children[0], at);
+        self.nodes[left + 1] = leaf(table, &children[1], at);
         let node = &mut self.nodes[at];
         match kind {
             Kind::IndependentOr(_) => node.kind = INDEPENDENT_OR,
@@ -163,7 +163,7 @@ impl Tree {
         node.live = 0;
         node.left = left;
         self.used = left + 2;
-        self.raise(weights, at);
+        self.raise(table.weights, at);
     }
 
     fn raise(&mut self, weights: &[u32], from: usize) {
@@ -204,7 +204,6 @@ impl Tree {
         }
         let mut fresh = Tree::new();
         fresh.open(table);
-        let mut ways = Ways::new();
         for _ in 0..self.used / 2 {
             let next = fresh.used;
             if next >= MOST_NODES {
@@ -214,26 +213,24 @@ impl Tree {
             if at >= next || fresh.nodes[at].live != 1 {
                 return false;
             }
-            fresh.ways(table, at, &mut ways);
-            let told = &self.nodes[at];
-            let Some(kind) = possible(told, ways.all()) else {
+            let ways = fresh.ways(table, at);
+            let Some(kind) = possible(&self.nodes[at], table, &ways) else {
                 return false;
             };
-            fresh.grow(table.weights, at, ways.all(), kind);
+            fresh.grow(table, at, &ways, kind);
         }
         self.nodes == fresh.nodes
     }
 }
 
 /// What a record says was done, if it can be done with these ways.
-fn possible(told: &Node, ways: &[Way]) -> Option<Kind> {
+fn possible(told: &Node, table: &Table, ways: &Clauses) -> Option<Kind> {
     if told.kind == INDEPENDENT_OR {
-        let word = group_faults(ways);
-        let apart = ways.iter().any(|way| way.faults() & word == 0);
-        return apart.then_some(Kind::IndependentOr(word));
+        let word = group_faults(table, ways);
+        return leaves_one(table, ways, word).then_some(Kind::IndependentOr(word));
     }
     let fault = told.fault as usize;
-    let occurs = fault < MOST_FAULTS && ways.iter().any(|way| way.faults() >> fault & 1 == 1);
+    let occurs = fault < MOST_FAULTS && ways.ways(table).any(|way| way.faults() >> fault & 1 == 1);
     occurs.then_some(Kind::Shannon(fault))
 }
 

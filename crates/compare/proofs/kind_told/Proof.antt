@@ -4,7 +4,7 @@ use Prim.Native.Nat.{_<_}
 use borrow.Author.Needs.{needs}
 use Rattle.records.specs.Records.{kindOf}
 use Rattle.records.specs.declared.Node.{Node}
-use Rattle.formula.specs.Clauses.{FaultFits}
+use Rattle.formula.specs.Leaves.{FaultFits}
 use Rattle.compare.proofs.Told.{told-apart, told-fault}
 use Rattle.compare.proofs.kind_told.Statement.{statement}
 use Rattle.compare.proofs.kind_told.Tie as tie

@@ -8,7 +8,7 @@ use Rattle.rules.specs.Tree.{occurs, possible}
 use Rattle.rules.specs.declared.Way.{Way}
 use Rattle.records.specs.Records.{kindOf}
 use Rattle.records.specs.declared.Node.{Node}
-use Rattle.formula.specs.Clauses.{FaultFits}
+use Rattle.formula.specs.Leaves.{FaultFits}
 use Prim.Native.Nat.{_<_}
 use Rattle.compare.proofs.Told.{told-apart, told-fault}
 use Rattle.compare.proofs.possible_told.Statement.{statement}

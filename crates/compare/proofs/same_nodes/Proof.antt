@@ -1,48 +1,31 @@
--- `same_nodes` meets its contract. The loop's invariant: the records from i on answer for all.
--- Rests on Equal.antt and the contract of `same_node`.
-use mathlib.Core.Path.{_≡_, refl, sym, _∙_}
-use Prim.Native.Nat.{_-_, _≤_}
-use native.Mathlib.Omega.{arith}
+-- `same_nodes` meets its contract. The loop's invariant: what was unlike is 0 exactly if the words so far are equal.
+-- Rests on Equal.antt.
+use Prim.Native.Nat.{_-_}
 use borrow.Author.Needs.{needs}
-use borrow.Author.Tests.{not-true, not-false}
-use lib.ListN.{length, drop}
-use Rattle.records.specs.Records.{sameNodes}
-use Rattle.formula.proofs.Walk.{length-unmap}
-use Rattle.compare.proofs.Equal.{same-end, differs, agrees}
+use Rattle.compare.proofs.Equal.{Compared, start, turn, answer}
 use Rattle.compare.proofs.same_nodes.Statement.{statement}
 use Rattle.compare.proofs.same_nodes.Tie as tie
 
 abbrev Inv-loop : tie.InvT-loop
-Inv-loop x y i₀ i = (i ≤ 511) × (sameNodes (drop i (x .nodes)) (drop i (y .nodes)) ≡ sameNodes (x .nodes) (y .nodes))
+Inv-loop x y unlike₀ i₀ unlike i = Compared x y unlike i
 
 abbrev μ-loop : tie.MeasureT-loop
-μ-loop x y i₀ i = 511 - i
+μ-loop x y unlike₀ i₀ unlike i = 6643 - i
 
 loop-holds : tie.Need-loop-holds Inv-loop μ-loop
-loop-holds c = (omega arith, refl)
+loop-holds c = start _ _
 
-mul-same-node : tie.Need-mul-same-node Inv-loop μ-loop
-mul-same-node c = search needs
+mul-unlike : tie.Need-mul-unlike Inv-loop μ-loop
+mul-unlike c = search needs
 
-element-copy-out-same-node : tie.Need-element-copy-out-same-node Inv-loop μ-loop
-element-copy-out-same-node c = search needs
+element-copy-out-unlike : tie.Need-element-copy-out-unlike Inv-loop μ-loop
+element-copy-out-unlike c = search needs
 
-mul-same-node-2 : tie.Need-mul-same-node-2 Inv-loop μ-loop
-mul-same-node-2 c = search needs
+mul-unlike-2 : tie.Need-mul-unlike-2 Inv-loop μ-loop
+mul-unlike-2 c = search needs
 
-element-copy-out-same-node-2 : tie.Need-element-copy-out-same-node-2 Inv-loop μ-loop
-element-copy-out-same-node-2 c = search needs
-
-same-node-requires : tie.Need-same-node-requires Inv-loop μ-loop
-same-node-requires c κs = search needs
-
-returns : tie.Need-returns Inv-loop μ-loop
-returns c =
-    let l = c .before .before .before .before .before .loop in
-    let a = c .before .before .before .before .before .before .args in
-    let h : length (a .t1 .nodes) ≡ 511 = search (needs, length-unmap) in
-    let g : length (a .t2 .nodes) ≡ 511 = search (needs, length-unmap) in
-    differs (a .t1 .nodes) (a .t2 .nodes) (l .i) (omega (arith, h)) (omega (arith, g)) (l .inv .1) _ (c .before .same-node .ensures) (not-true _ (c .if1 .taken))
+element-copy-out-unlike-2 : tie.Need-element-copy-out-unlike-2 Inv-loop μ-loop
+element-copy-out-unlike-2 c = search needs
 
 add-i : tie.Need-add-i Inv-loop μ-loop
 add-i c = search needs
@@ -51,21 +34,10 @@ loop-less : tie.Need-loop-less Inv-loop μ-loop
 loop-less c = search needs
 
 loop-again : tie.Need-loop-again Inv-loop μ-loop
-loop-again c =
-    let l = c .before .before .before .before .before .loop in
-    let a = c .before .before .before .before .before .before .args in
-    let h : length (a .t1 .nodes) ≡ 511 = search (needs, length-unmap) in
-    let g : length (a .t2 .nodes) ≡ 511 = search (needs, length-unmap) in
-    (omega arith, agrees (a .t1 .nodes) (a .t2 .nodes) (l .i) (omega (arith, h)) (omega (arith, g)) (l .inv .1) _ (c .before .same-node .ensures) (not-false _ (c .if1 .left)))
+loop-again c = let t = c .before .before in turn _ _ _ _ (t .before .loop .inv) (t .loop-test .taken)
 
-returns-2 : tie.Need-returns-2 Inv-loop μ-loop
-returns-2 c =
-    let l = c .before .loop in
-    let a = c .before .before .args in
-    let h : length (a .t1 .nodes) ≡ 511 = search (needs, length-unmap) in
-    let g : length (a .t2 .nodes) ≡ 511 = search (needs, length-unmap) in
-    let e : l .i ≡ 511 = omega arith in
-    sym (same-end (a .t1 .nodes) (a .t2 .nodes) (l .i) (h ∙ sym e) (g ∙ sym e)) ∙ l .inv .1
+returns : tie.Need-returns Inv-loop μ-loop
+returns c = answer _ _ _ _ (c .before .loop .inv) (c .loop-test .left)
 
 pub same-nodes-spec : {M : Type 1} → statement M
 same-nodes-spec =
@@ -74,13 +46,11 @@ same-nodes-spec =
     Inv-loop
     μ-loop
     loop-holds
-    mul-same-node
-    element-copy-out-same-node
-    mul-same-node-2
-    element-copy-out-same-node-2
-    same-node-requires
-    returns
+    mul-unlike
+    element-copy-out-unlike
+    mul-unlike-2
+    element-copy-out-unlike-2
     add-i
     loop-less
     loop-again
-    returns-2)
+    returns)

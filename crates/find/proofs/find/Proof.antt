@@ -1,37 +1,37 @@
 -- `find` meets its contract. The loop's invariant: from the record that was reached, the bytes that are left lead on to the answer.
--- Rests on Steps.antt.
+-- Rests on Steps.antt and the contract of `record_at`.
+use mathlib.Core.Path.{ap}
 use Prim.Native.Nat.{_-_}
 use native.Mathlib.Omega.{arith}
 use borrow.Author.Needs.{needs}
 use lib.ListN.{length}
+use Rattle.records.specs.declared.Node.{Node}
+use Rattle.store.specs.Lent.{treeOf}
 use Rattle.find.specs.Finds.{Within}
 use Rattle.find.proofs.Steps.{Walk, start, there, at-leaf, no-step, turn}
 use Rattle.find.proofs.find.Statement.{statement}
 use Rattle.find.proofs.find.Tie as tie
 
 abbrev Inv-loop : tie.InvT-loop
-Inv-loop place x at₀ i₀ at i = Walk (x .nodes) place at i
+Inv-loop tree place at₀ i₀ at i = Walk (treeOf tree .nodes) place at i
 
 abbrev μ-loop : tie.MeasureT-loop
-μ-loop place x at₀ i₀ at i = length place - i
+μ-loop tree place at₀ i₀ at i = length place - i
 
 loop-holds : tie.Need-loop-holds Inv-loop μ-loop
 loop-holds c = start _ _
 
-mul-left : tie.Need-mul-left Inv-loop μ-loop
-mul-left c = omega (arith, c .before .loop .inv .inside)
-
-element-copy-out-left : tie.Need-element-copy-out-left Inv-loop μ-loop
-element-copy-out-left c = c .before .loop .inv .inside
+record-at-requires : tie.Need-record-at-requires Inv-loop μ-loop
+record-at-requires c κs = c .before .loop .inv .inside
 
 returns : tie.Need-returns Inv-loop μ-loop
-returns c = at-leaf (c .before .before .loop .inv) (c .before .loop-test .taken) (c .if1 .taken)
+returns c = let r = c .before in at-leaf (r .before .before .loop .inv) (r .before .loop-test .taken) _ (r .record-at .ensures) (c .if1 .taken)
 
 shared-slice-read-side : tie.Need-shared-slice-read-side Inv-loop μ-loop
 shared-slice-read-side c = search needs
 
 returns-2 : tie.Need-returns-2 Inv-loop μ-loop
-returns-2 c = let k = c .before .before .before in no-step (k .before .loop .inv) (k .loop-test .taken) (c .if2 .taken)
+returns-2 c = let t = c .before .before .before .before in no-step (t .before .loop .inv) (t .loop-test .taken) (c .if2 .taken)
 
 cast-at : tie.Need-cast-at Inv-loop μ-loop
 cast-at c = search needs
@@ -39,8 +39,9 @@ cast-at c = search needs
 add-at : tie.Need-add-at Inv-loop μ-loop
 unfolding Within
 add-at c =
-    let s = c .before .before .before .before in
-    omega (arith, s .before .pre (s .loop .at), c .if2 .left)
+    let r = c .before .before .before in
+    let s = r .before .before in
+    omega (arith, s .before .before .pre (s .loop .at), ap (λ (n : Node). n .left) (r .record-at .ensures), c .if2 .left)
 
 add-i : tie.Need-add-i Inv-loop μ-loop
 add-i c = search needs
@@ -51,8 +52,9 @@ loop-less c = search needs
 loop-again : tie.Need-loop-again Inv-loop μ-loop
 loop-again c =
     let e = c .before .before in
-    let s = e .before .before in
-    turn (s .loop .inv) (e .before .loop-test .taken) (s .before .pre) (e .if1 .left) (c .if2 .left)
+    let r = e .before in
+    let s = r .before .before in
+    turn (s .loop .inv) (r .before .loop-test .taken) _ (r .record-at .ensures) (s .before .before .pre) (e .if1 .left) (c .if2 .left)
 
 returns-3 : tie.Need-returns-3 Inv-loop μ-loop
 returns-3 c = there (c .before .loop .inv) (c .loop-test .left)
@@ -64,8 +66,7 @@ find-spec =
     Inv-loop
     μ-loop
     loop-holds
-    mul-left
-    element-copy-out-left
+    record-at-requires
     returns
     shared-slice-read-side
     returns-2

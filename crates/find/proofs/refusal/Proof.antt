@@ -1,5 +1,5 @@
 -- `refusal` meets its contract: the tests in the order of the numbers.
--- Rests on Numbers.antt and the contracts of `select`, `restrict` and `possible`.
+-- Rests on Numbers.antt and the contracts of `remaining_of` and `possible`.
 use borrow.Author.Needs.{needs}
 use Rattle.find.proofs.Numbers.{ways-are, seventeen, eighteen, nineteen, twenty, nought}
 use Rattle.find.proofs.refusal.Statement.{statement}
@@ -14,11 +14,8 @@ returns-2 c = eighteen _ _ _ _ (c .before .before .if1 .left) (c .if2 .taken)
 returns-3 : tie.Need-returns-3
 returns-3 c = nineteen _ _ _ _ (c .before .before .before .if1 .left) (c .before .if2 .left) (c .if3 .taken)
 
-select-requires : tie.Need-select-requires
-select-requires c κs = search needs
-
-restrict-requires : tie.Need-restrict-requires
-restrict-requires c κs = search needs
+remaining-of-requires : tie.Need-remaining-of-requires
+remaining-of-requires c κs = search needs
 
 possible-requires : tie.Need-possible-requires
 possible-requires c κs = search needs
@@ -26,16 +23,16 @@ possible-requires c κs = search needs
 returns-4 : tie.Need-returns-4
 returns-4 c =
     let r = c .before .before in
-    let e = r .before .before in
-    nought _ _ _ _ (e .before .before .before .if1 .left) (e .before .if2 .left) (e .if3 .left)
-    (ways-are _ _ _ (r .before .select .ensures .0) (r .restrict .ensures .0)) (c .before .possible .ensures) (c .if4 .taken)
+    let e = r .before in
+    nought _ _ _ _ (e .before .before .before .if1 .left) (e .before .if2 .left) (e .if3 .left) (ways-are _ _ _ (r .remaining-of .ensures .0))
+    (c .before .possible .ensures) (c .if4 .taken)
 
 returns-5 : tie.Need-returns-5
 returns-5 c =
     let r = c .before .before in
-    let e = r .before .before in
-    twenty _ _ _ _ (e .before .before .before .if1 .left) (e .before .if2 .left) (e .if3 .left)
-    (ways-are _ _ _ (r .before .select .ensures .0) (r .restrict .ensures .0)) (c .before .possible .ensures) (c .if4 .left)
+    let e = r .before in
+    twenty _ _ _ _ (e .before .before .before .if1 .left) (e .before .if2 .left) (e .if3 .left) (ways-are _ _ _ (r .remaining-of .ensures .0))
+    (c .before .possible .ensures) (c .if4 .left)
 
 pub refusal-spec : {M : Type 1} → statement M
 refusal-spec =
@@ -44,8 +41,7 @@ refusal-spec =
     returns
     returns-2
     returns-3
-    select-requires
-    restrict-requires
+    remaining-of-requires
     possible-requires
     returns-4
     returns-5)

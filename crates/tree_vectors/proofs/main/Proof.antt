@@ -1,5 +1,5 @@
 -- `main` is safe and ends. Nothing has to hold from turn to turn; the measure is the scripts that are left.
--- Rests on the contracts of `number`, `no_nodes` and `script`.
+-- Rests on the contracts of `number` and `script`.
 use Prim.Native.Nat.{_-_}
 use borrow.Author.Needs.{needs}
 use Rattle.tree_vectors.proofs.main.Statement.{statement}
@@ -13,9 +13,6 @@ abbrev μ-loop : tie.MeasureT-loop
 
 number-requires : tie.Need-number-requires Inv-loop μ-loop
 number-requires c κs = search needs
-
-no-nodes-requires : tie.Need-no-nodes-requires Inv-loop μ-loop
-no-nodes-requires c κs = search needs
 
 loop-holds : tie.Need-loop-holds Inv-loop μ-loop
 loop-holds c = search needs
@@ -42,7 +39,6 @@ main-spec =
     Inv-loop
     μ-loop
     number-requires
-    no-nodes-requires
     loop-holds
     script-requires
     add-done

@@ -6,10 +6,10 @@ use Rattle.tree_vectors.proofs.requests.Statement.{statement}
 use Rattle.tree_vectors.proofs.requests.Tie as tie
 
 abbrev Inv-loop : tie.InvT-loop
-Inv-loop weights present absent count tree₀ done₀ tree done = Unit {0}
+Inv-loop weights present absent tree₀ count done₀ tree done = Unit {0}
 
 abbrev μ-loop : tie.MeasureT-loop
-μ-loop weights present absent count tree₀ done₀ tree done = count - done
+μ-loop weights present absent tree₀ count done₀ tree done = count - done
 
 number-requires : tie.Need-number-requires Inv-loop μ-loop
 number-requires c κs = search needs

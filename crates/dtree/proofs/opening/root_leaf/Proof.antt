@@ -1,7 +1,8 @@
 -- `root_leaf` meets its contract: all ways of the table, with nothing fixed.
 -- Rests on what holds of an accepted table (`rules`, Accepted) and on the contracts of `whole` and `leaf_record`.
-use mathlib.Core.Path.{_≡_, sym, ap, _∙_}
+use mathlib.Core.Path.{_≡_, sym, _∙_}
 use mathlib.Core.List.{List, []}
+use Prim.Native.Nat.{ℕ}
 use Rattle.rules.specs.Table.{Table, ways}
 use Rattle.rules.specs.declared.Way.{Way}
 use Rattle.rules.proofs.Accepted.{few-faults, few-ways, paired-words, light}
@@ -12,13 +13,10 @@ use Rattle.dtree.proofs.Opens.{root-record}
 use Rattle.dtree.proofs.opening.root_leaf.Statement.{statement}
 use Rattle.dtree.proofs.opening.root_leaf.Tie as tie
 
-from-ways : (t : Table) (vs : List Way) (x : Node) → vs ≡ ways t
-    → x ≡ freshRecord (record { weights = t .weights; present = []; absent = [] }) (record { set = []; present = 0; absent = 0; ways = vs }) 0
+from-ways : (t : Table) (vs : List Way) (p a : ℕ) (x : Node) → vs ≡ ways t → p ≡ 0 → a ≡ 0
+    → x ≡ freshRecord (record { weights = t .weights; present = []; absent = [] }) (record { set = []; present = p; absent = a; ways = vs }) 0
     → x ≡ recordAt t [] []
-from-ways t vs x e f =
-    f
-    ∙ ap (λ (us : List Way). freshRecord (record { weights = t .weights; present = []; absent = [] }) (record { set = []; present = 0; absent = 0; ways = us }) 0) e
-    ∙ root-record t
+from-ways t vs p a x e g h f = f ∙ rw (e, g, h) (root-record t)
 
 whole-requires : tie.Need-whole-requires
 whole-requires c κs =
@@ -28,11 +26,13 @@ whole-requires c κs =
 leaf-record-requires : tie.Need-leaf-record-requires
 leaf-record-requires c κs =
     let ok = c .before .before .before .before .pre in
-    (few-faults _ ok, (light _ ok, (c .whole .ensures .1, c .whole .ensures .2)))
+    (few-faults _ ok, (light _ ok, c .whole .ensures .1))
 
 returns : tie.Need-returns
 unfolding ways
-returns c = from-ways _ _ _ (c .before .whole .ensures .0) (c .leaf-record .ensures .0)
+returns c =
+    let w = c .before .whole .ensures in
+    from-ways _ _ _ _ _ (w .0) (w .2) (w .3) (c .leaf-record .ensures .0)
 
 pub root-leaf-spec : {M : Type 1} → statement M
 root-leaf-spec = tie.close (tie.spec whole-requires leaf-record-requires returns)

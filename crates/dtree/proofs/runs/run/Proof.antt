@@ -26,12 +26,12 @@ returns-2 c =
     running _ _ _ _ _ (refused-call _ _ _ _ (by-limits _ _ _ _ ok (c .before .limit-number .ensures) (c .if2 .taken)) (c .if2 .taken))
 
 is-good-requires : tie.Need-is-good-requires
-is-good-requires c κs = let o = c .before .before in sym (o .before .table-number .ensures) ∙ o .if1 .left
+is-good-requires c κs = search needs
 
 returns-3 : tie.Need-returns-3
 returns-3 c =
     let i = c .before in
-    let l = i .before in
+    let l = i .before .before in
     let o = l .before .before in
     let ok = sym (o .before .table-number .ensures) ∙ o .if1 .left in
     let inside = sym (l .before .limit-number .ensures) ∙ l .if2 .left in
@@ -39,25 +39,27 @@ returns-3 c =
 
 run-on-requires : tie.Need-run-on-requires
 run-on-requires c κs =
-    let i = c .before in
-    let o = i .before .before .before in
+    let e = c .before in
+    let i = e .before in
+    let o = i .before .before .before .before in
     let ok = sym (o .before .table-number .ensures) ∙ o .if1 .left in
-    let yes = not-false _ (c .if3 .left) in
+    let yes = not-false _ (e .if3 .left) in
     (ok, (found-good _ _ _ (i .is-good .ensures .0) yes, i .is-good .ensures .1 yes))
 
-element-copy-out-root : tie.Need-element-copy-out-root
-element-copy-out-root c = search needs
+record-at-requires : tie.Need-record-at-requires
+record-at-requires c κs = search needs
 
 returns-4 : tie.Need-returns-4
 returns-4 c =
     let w = c .before .before in
-    let e = w .before in
+    let e = w .before .before in
     let i = e .before in
-    let l = i .before in
+    let l = i .before .before in
     let o = l .before .before in
     let ok = sym (o .before .table-number .ensures) ∙ o .if1 .left in
     let inside = sym (l .before .limit-number .ensures) ∙ l .if2 .left in
-    running _ _ _ _ _ (ran-on _ ok _ (found-good _ _ _ (i .is-good .ensures .0) (not-false _ (e .if3 .left))) _ inside _ (w .run-on .ensures))
+    running _ _ _ _ _
+    (ran-on _ ok _ (found-good _ _ _ (i .is-good .ensures .0) (not-false _ (e .if3 .left))) _ inside _ _ (w .run-on .ensures) _ (c .record-at .ensures))
 
 pub run-spec : {M : Type 1} → statement M
 run-spec =
@@ -70,5 +72,5 @@ run-spec =
     is-good-requires
     returns-3
     run-on-requires
-    element-copy-out-root
+    record-at-requires
     returns-4)

@@ -1,7 +1,7 @@
 -- `may` meets its contract: a leaf that is not live decides; else what its ways allow.
--- Rests on the contracts of `ways_of` and `possible_told`.
+-- Rests on the contract of `possible_told`.
 use mathlib.Core.Path.{_≡_, refl, sym, ap, _∙_}
-use mathlib.Core.Bool.{Bool, true, false, true≢false, _&&_}
+use mathlib.Core.Bool.{Bool, false, true≢false, _&&_}
 use mathlib.Core.List.{List}
 use Prim.Native.Nat.{ℕ}
 use borrow.Author.Needs.{needs}
@@ -22,16 +22,14 @@ live l k us vs r e h f = rw (eq-eqb l 1 e) (f ∙ ap (possible k) h)
 returns : tie.Need-returns
 returns c = (λ ws. closed _ _ (c .if1 .taken), λ e. absurd (true≢false (sym e)))
 
-ways-of-requires : tie.Need-ways-of-requires
-ways-of-requires c κs = search needs
-
 possible-told-requires : tie.Need-possible-told-requires
 possible-told-requires c κs = search needs
 
 returns-2 : tie.Need-returns-2
 returns-2 c =
     let p = c .possible-told .ensures in
-    (λ ws. live _ _ _ _ _ (c .before .before .if1 .left) (c .before .ways-of .ensures .0 ws) (p .0), p .1)
+    let i = c .before in
+    (λ ws. live _ _ _ _ _ (i .if1 .left) (i .before .before .before .before .pre .ways-are ws) (p .0), p .1)
 
 pub may-spec : {M : Type 1} → statement M
-may-spec = tie.close (tie.spec returns ways-of-requires possible-told-requires returns-2)
+may-spec = tie.close (tie.spec returns possible-told-requires returns-2)

@@ -1,17 +1,17 @@
--- `occurs` meets its contract. The loop's invariant: the ways from i on answer for all.
--- Rests on Walk.antt and the contract of `names`.
+-- `occurs` meets its contract. The loop's invariant: the ways left answer for all.
+-- Rests on `clauses`, Loops, on Some.antt, and on the contract of `names`.
 use mathlib.Core.Path.{_≡_, refl, sym, _∙_}
 use mathlib.Core.Bool.{Bool, true≢false}
-use Prim.Native.Nat.{ℕ, _+_, _-_, _≤_}
-use native.Mathlib.Omega.{arith}
+use Prim.Native.Nat.{ℕ}
 use borrow.Author.Needs.{needs}
 use lib.ListN.{length}
 use Rattle.rules.specs.declared.Way.{Way}
 use Rattle.rules.specs.Table.{bit, faults}
 use Rattle.rules.specs.Leaf.{any}
 use Rattle.rules.specs.Tree.{occurs}
-use Rattle.formula.specs.Clauses.{waysOf}
-use Rattle.formula.proofs.Walk.{length-unmap, way, waysFrom, forward, ended, any-first, any-rest}
+use Rattle.clauses.specs.Leaves.{waysOf, Within}
+use Rattle.clauses.proofs.Loops.{forward, ended, fewer}
+use Rattle.formula.proofs.Some.{any-first, any-rest}
 use Rattle.formula.proofs.child.occurs.Statement.{statement}
 use Rattle.formula.proofs.child.occurs.Tie as tie
 
@@ -20,19 +20,17 @@ abbrev names : ℕ → Way → Bool
 names f v = bit f (faults v)
 
 abbrev Inv-loop : tie.InvT-loop
-Inv-loop f c i₀ i = (i ≤ c .len) × (any (names f) (waysFrom c i) ≡ any (names f) (waysOf c))
+Inv-loop f present absent left₀ left =
+    Within present absent left × (any (names f) (waysOf present absent left) ≡ any (names f) (waysOf present absent left₀))
 
 abbrev μ-loop : tie.MeasureT-loop
-μ-loop f c i₀ i = c .len - i
+μ-loop f present absent left₀ left = length (waysOf present absent left)
 
 loop-holds : tie.Need-loop-holds Inv-loop μ-loop
-loop-holds c = (omega arith, refl)
+loop-holds c = (c .before .before .pre, refl)
 
-mul-v : tie.Need-mul-v Inv-loop μ-loop
-mul-v c = search needs
-
-element-copy-out-v : tie.Need-element-copy-out-v Inv-loop μ-loop
-element-copy-out-v c = search needs
+taken-requires : tie.Need-taken-requires Inv-loop μ-loop
+taken-requires c κs = (c .before .before .loop .inv .0, c .if1 .taken)
 
 names-requires : tie.Need-names-requires Inv-loop μ-loop
 names-requires c κs = search needs
@@ -40,34 +38,36 @@ names-requires c κs = search needs
 returns : tie.Need-returns Inv-loop μ-loop
 unfolding occurs
 returns c =
-    let l = c .before .before .before .before .loop in
-    let a = c .before .before .before .before .before .args in
-    let long : length (a .t2 .list) ≡ 128 = search (needs, length-unmap) in
+    let t = c .before .before .before .before .taken in
+    let l = c .before .before .before .before .before .before .before .loop in
+    let f = c .before .before .before .before .before .before .before .before .before .before .args .f in
     let n = c .before .names .ensures in (
-      sym (any-first (names (a .f)) (way (a .t2) (l .i)) (waysFrom (a .t2) (l .i + 1)) (sym (n .0) ∙ c .if1 .taken))
-          ∙ forward (any (names (a .f))) (a .t2) (l .i) long (omega arith) (omega arith) (l .inv .1),
-      λ t. n .1 (c .if1 .taken),
+      sym (any-first (names f) (t .result .way) _ (sym (n .0) ∙ c .if2 .taken))
+          ∙ forward _ _ (l .left) (any (names f)) (t .result) (t .ensures) (l .inv .1),
+      λ e. n .1 (c .if2 .taken),
     )
 
-add-i : tie.Need-add-i Inv-loop μ-loop
-add-i c = search needs
-
 loop-less : tie.Need-loop-less Inv-loop μ-loop
-loop-less c = search needs
+loop-less c =
+    let t = c .before .before .before .before .taken in
+    let l = c .before .before .before .before .before .before .before .loop in
+    fewer _ _ (l .left) (t .result) (t .ensures)
 
 loop-again : tie.Need-loop-again Inv-loop μ-loop
 loop-again c =
-    let l = c .before .before .before .before .loop in
-    let a = c .before .before .before .before .before .args in
-    let long : length (a .t2 .list) ≡ 128 = search (needs, length-unmap) in (
-      omega arith,
-      sym (any-rest (names (a .f)) (way (a .t2) (l .i)) (waysFrom (a .t2) (l .i + 1)) (sym (c .before .names .ensures .0) ∙ c .if1 .left))
-          ∙ forward (any (names (a .f))) (a .t2) (l .i) long (omega arith) (omega arith) (l .inv .1),
+    let t = c .before .before .before .before .taken in
+    let l = c .before .before .before .before .before .before .before .loop in
+    let f = c .before .before .before .before .before .before .before .before .before .before .args .f in (
+      t .ensures .within,
+      sym (any-rest (names f) (t .result .way) _ (sym (c .before .names .ensures .0) ∙ c .if2 .left))
+          ∙ forward _ _ (l .left) (any (names f)) (t .result) (t .ensures) (l .inv .1),
     )
 
 returns-2 : tie.Need-returns-2 Inv-loop μ-loop
 unfolding occurs any
-returns-2 c = (ended (any (names (c .before .before .args .f))) (c .before .before .args .t2) (c .before .loop .i) (omega arith) (c .before .loop .inv .1), λ t. absurd (true≢false (sym t)))
+returns-2 c =
+    let l = c .before .before .loop in
+    (ended _ _ (l .left) (any (names (c .before .before .before .before .before .args .f))) (c .if1 .left) (l .inv .1), λ t. absurd (true≢false (sym t)))
 
 pub occurs-spec : {M : Type 1} → statement M
 occurs-spec =
@@ -76,11 +76,9 @@ occurs-spec =
     Inv-loop
     μ-loop
     loop-holds
-    mul-v
-    element-copy-out-v
+    taken-requires
     names-requires
     returns
-    add-i
     loop-less
     loop-again
     returns-2)

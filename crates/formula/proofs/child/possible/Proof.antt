@@ -1,12 +1,23 @@
 -- `possible` meets its contract, by the kind.
 -- Rests on the contracts of `falls_apart` and `occurs`.
-use mathlib.Core.Path.{sym, ap, _∙_}
+use mathlib.Core.Path.{_≡_}
+use mathlib.Core.Bool.{Bool, true}
+use mathlib.Core.List.{List}
 use borrow.Author.Needs.{needs}
+use Rattle.rules.specs.declared.Way.{Way}
 use Rattle.rules.specs.declared.Kind.{Kind}
 use Rattle.rules.specs.Tree.{possible}
-use Rattle.formula.specs.Clauses.{waysOf, FaultFits}
+use Rattle.formula.specs.Leaves.{FaultFits}
 use Rattle.formula.proofs.child.possible.Statement.{statement}
 use Rattle.formula.proofs.child.possible.Tie as tie
+
+-- What the contract says of an answer.
+abbrev Answers : Kind → List Way → Bool → Type 0
+Answers k vs r = (r ≡ possible k vs) × (r ≡ true → FaultFits k)
+
+-- The kind is this one.
+of-kind : (k j : Kind) (vs : List Way) (r : Bool) → k ≡ j → Answers j vs r → Answers k vs r
+of-kind k j vs r e h = rw e h
 
 enum-told : tie.Need-enum-told
 enum-told c = search needs
@@ -25,17 +36,11 @@ occurs-requires c κs = search needs
 
 returns : tie.Need-returns
 unfolding possible FaultFits
-returns c =
-    let a = c .before .before .before .args in
-    let e = c .before .enum-told .given .1 in
-    (c .falls-apart .ensures ∙ sym (ap (λ (k : Kind). possible k (waysOf (a .c))) e), λ t. rw e tt)
+returns c = of-kind _ _ _ _ (c .before .enum-told .given .1) (c .falls-apart .ensures, λ t. tt)
 
 returns-2 : tie.Need-returns-2
 unfolding possible FaultFits
-returns-2 c =
-    let a = c .before .before .before .before .args in
-    let e = c .before .before .k .given .1 in
-    (c .occurs .ensures .0 ∙ sym (ap (λ (k : Kind). possible k (waysOf (a .c))) e), λ t. rw e (c .occurs .ensures .1 t))
+returns-2 c = of-kind _ _ _ _ (c .before .before .k .given .1) (c .occurs .ensures)
 
 pub possible-spec : {M : Type 1} → statement M
 possible-spec =

@@ -13,7 +13,7 @@ use lib.ListN.{getD}
 use lib.Dec.{ltb}
 use Rattle.rules.specs.declared.Way.{Way}
 use Rattle.rules.specs.Run.{named, mostNamed}
-use Rattle.formula.specs.Clauses.{waysOf}
+use Rattle.clauses.specs.Leaves.{waysOf}
 use Rattle.formula.proofs.choice.most_named.Statement.{statement}
 use Rattle.formula.proofs.choice.most_named.Tie as tie
 
@@ -63,10 +63,10 @@ module _ (n : ℕ) (ns : List ℕ) (best most i : ℕ) (inv : Leads n ns best mo
   not-larger h = record { inside = omega arith; right = rw add-one (inv .right ∙ sym (next ns i false (sym test ∙ le-ltb most (getD ns i 0) h))); count = inv .count }
 
 abbrev Inv-loop : tie.InvT-loop
-Inv-loop n count best₀ most₀ i₀ best most i = Leads n count best most i
+Inv-loop n present absent count best₀ most₀ i₀ best most i = Leads n count best most i
 
 abbrev μ-loop : tie.MeasureT-loop
-μ-loop n count best₀ most₀ i₀ best most i = n - i
+μ-loop n present absent count best₀ most₀ i₀ best most i = n - i
 
 counts-requires : tie.Need-counts-requires Inv-loop μ-loop
 counts-requires c κs = search needs
@@ -93,15 +93,16 @@ loop-less c = search needs
 loop-again : tie.Need-loop-again Inv-loop μ-loop
 loop-again c =
     let l = c .before .before .loop in
-    let below : l .i < c .before .before .before .before .args .n = omega arith in
+    let below : l .i < c .before .before .before .before .before .before .args .n = omega arith in
     ⊎-elim (λ w. rw (w .1, w .2) (larger _ _ _ _ _ (l .inv) below (w .0 .taken))) (λ w. rw (w .1, w .2) (not-larger _ _ _ _ _ (l .inv) below (w .0 .left))) (c .if1 .came)
 
 returns : tie.Need-returns Inv-loop μ-loop
 returns c =
     let l = c .before .loop in
-    let a = c .before .before .before .args in
+    let a = c .before .before .before .before .before .args in
+    let vs = waysOf (a .present .now) (a .absent .now) (a .c) in
     let e : l .i ≡ a .n = omega arith in
-    l .inv .right ∙ named-most _ (waysOf (a .c)) (c .before .before .counts .ensures) (l .i) (omega arith) .0 ∙ ap (λ (k : ℕ). mostNamed k (waysOf (a .c))) e
+    l .inv .right ∙ named-most _ vs (c .before .before .counts .ensures) (l .i) (omega arith) .0 ∙ ap (λ (k : ℕ). mostNamed k vs) e
 
 pub most-named-spec : {M : Type 1} → statement M
 most-named-spec =

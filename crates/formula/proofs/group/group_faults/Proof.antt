@@ -1,138 +1,130 @@
--- `group_faults` meets its contract. The outer loop's invariant: the passes left, from the word so far, end in the group's faults; a pass
--- that changes nothing settles it. The inner loop's: a pass over the ways from i on, from the word so far, is the whole pass.
--- Rests on Walk.antt and the contract of `absorb`.
-use mathlib.Core.Path.{_≡_, refl, sym, ap, ap₂, _∙_}
-use mathlib.Core.List.{List, [], _∷_}
+-- `group_faults` meets its contract. The loop's invariant: the passes left, from the word so far, end in the group's faults.
+-- A pass that changes nothing settles it, and so do as many passes as there are ways, at most 128. Rests on `rules`, Groups, and `clauses`, Loops.
+use mathlib.Core.Path.{_≡_, refl, sym, ap, _∙_}
+use mathlib.Core.Bool.{Bool, true, false, _||_}
+use mathlib.Core.List.{List, [], _∷_, List·Memᴰ·head, List·Memᴰ·tail}
 use Prim.Native.Nat.{ℕ, zero, suc, _-_, _≤_, _<_}
 use native.Mathlib.Omega.{arith}
 use borrow.Author.Needs.{needs}
-use lib.ListN.{length, getD, take}
-use lib.Seq.{getD-take}
+use lib.ListN.{length}
+use lib.Bits.{bitOr}
 use Rattle.rules.specs.declared.Way.{Way}
-use Rattle.rules.specs.Table.{faults}
-use Rattle.rules.specs.Group.{pass, passes, groupFaults}
-use Rattle.formula.specs.declared.Clauses.{Clauses}
-use Rattle.formula.specs.Clauses.{waysOf}
-use Rattle.formula.proofs.Walk.{length-unmap, way, waysFrom, count, forward, ended}
+use Rattle.rules.specs.Table.{bit, faults}
+use Rattle.rules.specs.Group.{touches, pass, passes, groupFaults}
+use Rattle.rules.proofs.Bits.{bit-or, bits-ext}
+use Rattle.rules.proofs.Booleans.{or-first, or-cases, same-test}
+use Rattle.rules.proofs.Groups.{AtRest, group-rests}
+use Rattle.clauses.specs.Leaves.{waysOf}
+use Rattle.clauses.proofs.Loops.{none-left, few}
 use Rattle.formula.proofs.group.group_faults.Statement.{statement}
 use Rattle.formula.proofs.group.group_faults.Tie as tie
 
--- One pass of those left.
-one-more : (k m : ℕ) (vs : List Way) → 0 < k → passes k m vs ≡ passes (k - 1) (pass m vs) vs
-one-more zero m vs h = absurd (omega arith)
-one-more (suc k) m vs h = let e : k ≡ suc k - 1 = omega arith in ap (λ (n : ℕ). passes n (pass m vs) vs) e
+-- ---- passes
 
+-- A word that one pass does not change, no number of them changes.
 settled : (k m : ℕ) (vs : List Way) → pass m vs ≡ m → passes k m vs ≡ m
 settled zero m vs h = refl
 settled (suc k) m vs h = rw h (settled k m vs h)
 
--- The passes start from the faults of the first way.
-first-of : (vs : List Way) (d : Way) → 0 < length vs → passes (length vs) (faults (getD vs 0 d)) vs ≡ groupFaults vs
-first-of [] d h = absurd (omega arith)
-first-of (v ∷ vs) d h = refl
+-- The first of k passes, from the word m to the word n: if n is no other word they end there, else the rest of them go on from it.
+module _ (k m n : ℕ) (vs : List Way) {r : ℕ} (inv : passes k m vs ≡ r) (e : n ≡ pass m vs) where
+  ends-here : n ≡ m → n ≡ r
+  ends-here h = h ∙ sym (settled k m vs (sym e ∙ h)) ∙ inv
 
-first-word : (c : Clauses) → length (c .list) ≡ 128 → c .len ≤ 128 → 0 < c .len → passes (c .len) (faults (way c 0)) (waysOf c) ≡ groupFaults (waysOf c)
-first-word c long fits h =
-    let e = count c long fits in
-    ap₂ (λ (k : ℕ) (v : Way). passes k (faults v) (waysOf c)) (sym e) (sym (getD-take (c .len) (c .list) 0 _ h)) ∙ first-of (waysOf c) _ (omega arith)
+  goes-on : 0 < k → passes (k - 1) n vs ≡ r
+  goes-on h = rw e (sym (one-more k h) ∙ inv)
+    where
+      one-more : (k : ℕ) → 0 < k → passes k m vs ≡ passes (k - 1) (pass m vs) vs
+      one-more zero h = absurd (omega arith)
+      one-more (suc k) h = let e : k ≡ suc k - 1 = omega arith in ap (λ (n : ℕ). passes n (pass m vs) vs) e
 
-abbrev Inv-loop2 : tie.InvT-loop2
-Inv-loop2 c word₀ left before i₀ word i = (i ≤ c .len) × (pass word (waysFrom c i) ≡ pass before (waysOf c))
+-- Where a pass changes nothing after j passes, k are no different.
+no-different : (j k m : ℕ) (vs : List Way) → j ≤ k → pass (passes j m vs) vs ≡ passes j m vs → passes k m vs ≡ passes j m vs
+no-different zero k m vs h e = settled k m vs e
+no-different (suc j) zero m vs h e = absurd (omega arith)
+no-different (suc j) (suc k) m vs h e = no-different j k (pass m vs) vs (omega arith) e
 
-abbrev μ-loop2 : tie.MeasureT-loop2
-μ-loop2 c word₀ left before i₀ word i = c .len - i
+-- A pass does not change a word at rest.
+at-rest : (m : ℕ) (vs : List Way) → AtRest m vs → pass m vs ≡ m
+at-rest m [] r = refl
+at-rest m (v ∷ vs) r = ap (λ (n : ℕ). pass n vs) (go (touches m v) refl) ∙ at-rest m vs (λ u p. r u (List·Memᴰ·tail p))
+  where
+    same : touches m v ≡ true → bitOr m (faults v) ≡ m
+    same h = bits-ext (bitOr m (faults v)) m (λ i. bit-or i m (faults v) ∙ each i)
+      where
+        each : (i : ℕ) → bit i m || bit i (faults v) ≡ bit i m
+        each i =
+            same-test (bit i m || bit i (faults v)) (bit i m) (or-cases (bit i m) (bit i (faults v)) (λ b. b) (r v (List·Memᴰ·head refl) h i))
+            (or-first (bit i m) (bit i (faults v)))
+
+    go : (t : Bool) → touches m v ≡ t → (elim t as (λ b. ℕ) [ true ↦ bitOr m (faults v) | false ↦ m ]) ≡ m
+    go true e = same e
+    go false e = refl
+
+-- As many passes as there are ways, or more, from the faults of the first way, make the group's faults.
+enough : (k m : ℕ) (vs us : List Way) (v : Way) → vs ≡ v ∷ us → m ≡ faults v → length vs ≤ k → passes k m vs ≡ groupFaults vs
+enough k m vs us v e f h =
+    rw (e, f) (no-different (suc (length us)) k (faults v) (v ∷ us) (rw e at h) (at-rest (groupFaults (v ∷ us)) (v ∷ us) (group-rests (v ∷ us))))
+
+-- ---- the function
 
 abbrev Inv-loop : tie.InvT-loop
-Inv-loop c word₀ left₀ word left = passes left word (waysOf c) ≡ groupFaults (waysOf c)
+Inv-loop present absent c word₀ left₀ word left = passes left word (waysOf present absent c) ≡ groupFaults (waysOf present absent c)
 
 abbrev μ-loop : tie.MeasureT-loop
-μ-loop c word₀ left₀ word left = left
+μ-loop present absent c word₀ left₀ word left = left
 
--- After the inner loop the word is that of the whole pass.
-passed : (c : tie.After-loop2 Inv-loop2 μ-loop2 Inv-loop μ-loop) → c .before .loop2 .word ≡ pass (c .before .before .before .loop .word) (waysOf (c .before .before .before .before .before .before .before .args .t1))
-passed c = let l = c .before .loop2 in ended (λ vs. pass (l .word) vs) (c .before .before .before .before .before .before .before .args .t1) (l .i) (omega arith) (l .inv .1)
+returns : tie.Need-returns Inv-loop μ-loop
+returns c = sym (ap groupFaults (none-left _ _ (c .before .before .before .before .args .c) (c .if1 .taken)))
 
-returns : tie.Need-returns Inv-loop2 μ-loop2 Inv-loop μ-loop
-returns c = let a = c .before .args .t1 in sym (ap (λ (k : ℕ). groupFaults (take k (a .list))) (c .if1 .taken))
+taken-requires : tie.Need-taken-requires Inv-loop μ-loop
+taken-requires c κs = (c .before .before .before .before .pre, c .if1 .left)
 
-element-copy-out-first : tie.Need-element-copy-out-first Inv-loop2 μ-loop2 Inv-loop μ-loop
-element-copy-out-first c = search needs
-
-faults-requires : tie.Need-faults-requires Inv-loop2 μ-loop2 Inv-loop μ-loop
+faults-requires : tie.Need-faults-requires Inv-loop μ-loop
 faults-requires c κs = search needs
 
-loop-holds : tie.Need-loop-holds Inv-loop2 μ-loop2 Inv-loop μ-loop
+loop-holds : tie.Need-loop-holds Inv-loop μ-loop
 loop-holds c =
-    let a = c .before .before .before .args .t1 in
-    let long : length (a .list) ≡ 128 = search (needs, length-unmap) in
-    rw (c .faults .ensures) (first-word a long (omega arith) (omega arith))
+    let t = c .before .before .taken in
+    let s = c .before .before .before .before .before .before .before in
+    enough _ _ _ _ _ (t .ensures .first) (c .faults .ensures) (few _ _ (s .args .c) (s .pre))
 
-loop2-holds : tie.Need-loop2-holds Inv-loop2 μ-loop2 Inv-loop μ-loop
-loop2-holds c = (omega arith, refl)
+pass-requires : tie.Need-pass-requires Inv-loop μ-loop
+pass-requires c κs = c .before .before .before .before .before .before .before .before .before .pre
 
-mul-v : tie.Need-mul-v Inv-loop2 μ-loop2 Inv-loop μ-loop
-mul-v c = search needs
-
-element-copy-out-v : tie.Need-element-copy-out-v Inv-loop2 μ-loop2 Inv-loop μ-loop
-element-copy-out-v c = search needs
-
-absorb-requires : tie.Need-absorb-requires Inv-loop2 μ-loop2 Inv-loop μ-loop
-absorb-requires c κs = search needs
-
-add-i : tie.Need-add-i Inv-loop2 μ-loop2 Inv-loop μ-loop
-add-i c = search needs
-
-loop2-less : tie.Need-loop2-less Inv-loop2 μ-loop2 Inv-loop μ-loop
-loop2-less c = search needs
-
-loop2-again : tie.Need-loop2-again Inv-loop2 μ-loop2 Inv-loop μ-loop
-loop2-again c =
-    let l = c .before .before .before .loop2 in
-    let a = c .before .before .before .before .before .before .before .before .before .args .t1 in
-    let long : length (a .list) ≡ 128 = search (needs, length-unmap) in
-    (omega arith, rw (c .absorb .ensures) (forward (λ vs. pass (l .word) vs) a (l .i) long (omega arith) (omega arith) (l .inv .1)))
-
-returns-2 : tie.Need-returns-2 Inv-loop2 μ-loop2 Inv-loop μ-loop
+returns-2 : tie.Need-returns-2 Inv-loop μ-loop
 returns-2 c =
-    let l = c .before .before .before .before .loop in
-    c .if2 .taken ∙ sym (settled (l .left) (l .word) _ (sym (passed (c .before)) ∙ c .if2 .taken)) ∙ l .inv
+    let l = c .before .before .before .loop in
+    ends-here (l .left) (l .word) _ _ (l .inv) (c .before .pass .ensures) (c .if2 .taken)
 
-sub-left : tie.Need-sub-left Inv-loop2 μ-loop2 Inv-loop μ-loop
+sub-left : tie.Need-sub-left Inv-loop μ-loop
 sub-left c = search needs
 
-loop-less : tie.Need-loop-less Inv-loop2 μ-loop2 Inv-loop μ-loop
+loop-less : tie.Need-loop-less Inv-loop μ-loop
 loop-less c = search needs
 
-loop-again : tie.Need-loop-again Inv-loop2 μ-loop2 Inv-loop μ-loop
+loop-again : tie.Need-loop-again Inv-loop μ-loop
 loop-again c =
-    let l = c .before .before .before .before .loop in
-    rw (passed (c .before)) (sym (one-more (l .left) (l .word) (waysOf (c .before .before .before .before .before .before .before .before .args .t1)) (omega arith)) ∙ l .inv)
+    let l = c .before .before .before .loop in
+    goes-on (l .left) (l .word) _ _ (l .inv) (c .before .pass .ensures) (c .before .before .loop-test .taken)
 
-returns-3 : tie.Need-returns-3 Inv-loop2 μ-loop2 Inv-loop μ-loop
+returns-3 : tie.Need-returns-3 Inv-loop μ-loop
 returns-3 c =
     let l = c .before .loop in
-    let z : l .left ≡ 0 = omega arith in
+    let z : l .left ≡ 0 = omega (arith, c .loop-test .left) in
     rw z at (l .inv)
 
 pub group-faults-spec : {M : Type 1} → statement M
 group-faults-spec =
     tie.close
     (tie.spec
-    Inv-loop2
-    μ-loop2
     Inv-loop
     μ-loop
     returns
-    element-copy-out-first
+    taken-requires
     faults-requires
     loop-holds
-    loop2-holds
-    mul-v
-    element-copy-out-v
-    absorb-requires
-    add-i
-    loop2-less
-    loop2-again
+    pass-requires
     returns-2
     sub-left
     loop-less

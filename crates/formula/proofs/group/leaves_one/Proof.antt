@@ -1,17 +1,16 @@
--- `leaves_one` meets its contract. The loop's invariant: the ways from i on answer for all.
--- Rests on Walk.antt, and on Words.antt for the test.
+-- `leaves_one` meets its contract. The loop's invariant: the ways left answer for all.
+-- Rests on `clauses`, Loops, and on the contract of `touches`.
 use mathlib.Core.Path.{_≡_, refl, sym, _∙_}
 use mathlib.Core.Bool.{Bool, true, false}
 use mathlib.Core.List.{List, _∷_}
-use Prim.Native.Nat.{ℕ, _+_, _-_, _≤_}
-use native.Mathlib.Omega.{arith}
+use Prim.Native.Nat.{ℕ}
 use borrow.Author.Needs.{needs}
+use borrow.Author.Tests.{not-true, not-false}
 use lib.ListN.{length}
 use Rattle.rules.specs.declared.Way.{Way}
 use Rattle.rules.specs.Group.{touches, part, nonempty}
-use Rattle.formula.specs.Clauses.{waysOf}
-use Rattle.formula.proofs.Walk.{length-unmap, way, waysFrom, forward, ended}
-use Rattle.formula.proofs.Words.{apart, meets}
+use Rattle.clauses.specs.Leaves.{waysOf, Within}
+use Rattle.clauses.proofs.Loops.{forward, ended, fewer}
 use Rattle.formula.proofs.group.leaves_one.Statement.{statement}
 use Rattle.formula.proofs.group.leaves_one.Tie as tie
 
@@ -19,6 +18,7 @@ use Rattle.formula.proofs.group.leaves_one.Tie as tie
 abbrev one-left : ℕ → List Way → Bool
 one-left m vs = nonempty (part false m vs)
 
+-- By whether it touches the first way.
 module _ (m : ℕ) (v : Way) (vs : List Way) where
   first-untouched : touches m v ≡ false → one-left m (v ∷ vs) ≡ true
   unfolding nonempty
@@ -28,50 +28,52 @@ module _ (m : ℕ) (v : Way) (vs : List Way) where
   first-touched h = rw (h, part)
 
 abbrev Inv-loop : tie.InvT-loop
-Inv-loop m c i₀ i = (i ≤ c .len) × (one-left m (waysFrom c i) ≡ one-left m (waysOf c))
+Inv-loop present absent m left₀ left =
+    Within present absent left × (one-left m (waysOf present absent left) ≡ one-left m (waysOf present absent left₀))
 
 abbrev μ-loop : tie.MeasureT-loop
-μ-loop m c i₀ i = c .len - i
+μ-loop present absent m left₀ left = length (waysOf present absent left)
 
 loop-holds : tie.Need-loop-holds Inv-loop μ-loop
-loop-holds c = (omega arith, refl)
+loop-holds c = (c .before .before .pre, refl)
 
-mul-v : tie.Need-mul-v Inv-loop μ-loop
-mul-v c = search needs
+taken-requires : tie.Need-taken-requires Inv-loop μ-loop
+taken-requires c κs = (c .before .before .loop .inv .0, c .if1 .taken)
 
-element-copy-out-v : tie.Need-element-copy-out-v Inv-loop μ-loop
-element-copy-out-v c = search needs
-
-faults-requires : tie.Need-faults-requires Inv-loop μ-loop
-faults-requires c κs = search needs
+touches-requires : tie.Need-touches-requires Inv-loop μ-loop
+touches-requires c κs = search needs
 
 returns : tie.Need-returns Inv-loop μ-loop
 returns c =
-    let l = c .before .before .before .before .loop in
-    let a = c .before .before .before .before .before .args in
-    let long : length (a .t2 .list) ≡ 128 = search (needs, length-unmap) in
-    sym (first-untouched (a .m) (way (a .t2) (l .i)) (waysFrom (a .t2) (l .i + 1)) (apart (a .m) (c .before .faults .ensures) (c .if1 .taken)))
-    ∙ forward (one-left (a .m)) (a .t2) (l .i) long (omega arith) (omega arith) (l .inv .1)
-
-add-i : tie.Need-add-i Inv-loop μ-loop
-add-i c = search needs
+    let t = c .before .before .before .before .taken in
+    let l = c .before .before .before .before .before .before .before .loop in
+    let a = c .before .before .before .before .before .before .before .before .before .before .args in
+    let rest = waysOf (a .present .now) (a .absent .now) (t .result .others) in
+    sym (first-untouched (a .m) (t .result .way) rest (sym (c .before .touches .ensures) ∙ not-true (c .before .touches .result) (c .if2 .taken)))
+    ∙ forward _ _ (l .left) (one-left (a .m)) (t .result) (t .ensures) (l .inv .1)
 
 loop-less : tie.Need-loop-less Inv-loop μ-loop
-loop-less c = search needs
+loop-less c =
+    let t = c .before .before .before .before .taken in
+    let l = c .before .before .before .before .before .before .before .loop in
+    fewer _ _ (l .left) (t .result) (t .ensures)
 
 loop-again : tie.Need-loop-again Inv-loop μ-loop
 loop-again c =
-    let l = c .before .before .before .before .loop in
-    let a = c .before .before .before .before .before .args in
-    let long : length (a .t2 .list) ≡ 128 = search (needs, length-unmap) in (
-      omega arith,
-      sym (first-touched (a .m) (way (a .t2) (l .i)) (waysFrom (a .t2) (l .i + 1)) (meets (a .m) (c .before .faults .ensures) (c .if1 .left)))
-          ∙ forward (one-left (a .m)) (a .t2) (l .i) long (omega arith) (omega arith) (l .inv .1),
+    let t = c .before .before .before .before .taken in
+    let l = c .before .before .before .before .before .before .before .loop in
+    let a = c .before .before .before .before .before .before .before .before .before .before .args in
+    let rest = waysOf (a .present .now) (a .absent .now) (t .result .others) in (
+      t .ensures .within,
+      sym (first-touched (a .m) (t .result .way) rest (sym (c .before .touches .ensures) ∙ not-false (c .before .touches .result) (c .if2 .left)))
+          ∙ forward _ _ (l .left) (one-left (a .m)) (t .result) (t .ensures) (l .inv .1),
     )
 
 returns-2 : tie.Need-returns-2 Inv-loop μ-loop
 unfolding nonempty
-returns-2 c = ended (one-left (c .before .before .args .m)) (c .before .before .args .t2) (c .before .loop .i) (omega arith) (c .before .loop .inv .1)
+returns-2 c =
+    let l = c .before .before .loop in
+    ended _ _ (l .left) (one-left (c .before .before .before .before .before .args .m)) (c .if1 .left) (l .inv .1)
 
 pub leaves-one-spec : {M : Type 1} → statement M
 leaves-one-spec =
@@ -80,11 +82,9 @@ leaves-one-spec =
     Inv-loop
     μ-loop
     loop-holds
-    mul-v
-    element-copy-out-v
-    faults-requires
+    taken-requires
+    touches-requires
     returns
-    add-i
     loop-less
     loop-again
     returns-2)

@@ -1,57 +1,63 @@
--- `leaf_high` meets its contract. The loop's invariant: the sum so far and the chances of the ways from i on make the whole sum.
--- Each chance is at most S, so that the sum of 128 fits. Rests on Walk.antt and the contract of `chance`.
+-- `leaf_high` meets its contract. The loop's invariant: the sum so far and the chances of the ways left make the whole sum.
+-- Each chance is at most S, so that the sum of 128 fits. Rests on `clauses`, Loops, and the contract of `chance`.
 use mathlib.Core.Path.{_≡_}
-use Prim.Native.Nat.{_+_, _-_, _*_, _≤_}
+use Prim.Native.Nat.{_+_, _*_, _≤_}
 use native.Mathlib.Omega.{arith}
 use borrow.Author.Needs.{needs}
 use lib.ListN.{length}
 use Rattle.rules.specs.Rounding.{S}
 use Rattle.rules.specs.Leaf.{chances}
-use Rattle.formula.specs.Clauses.{waysOf}
-use Rattle.formula.proofs.Walk.{length-unmap, waysFrom, forward, ended}
+use Rattle.clauses.specs.Leaves.{waysOf, Within}
+use Rattle.clauses.proofs.Loops.{few, fewer, forward, ended}
 use Rattle.formula.proofs.leaf.leaf_high.Statement.{statement}
 use Rattle.formula.proofs.leaf.leaf_high.Tie as tie
 
 abbrev Inv-loop : tie.InvT-loop
-Inv-loop weights c sum₀ i₀ sum i = (i ≤ c .len) × (sum ≤ S * i) × (sum + chances weights (waysFrom c i) ≡ chances weights (waysOf c))
+Inv-loop weights present absent sum₀ left₀ sum left =
+    Within present absent left × (sum + S * length (waysOf present absent left) ≤ S * 128)
+    × (sum + chances weights (waysOf present absent left) ≡ chances weights (waysOf present absent left₀))
 
 abbrev μ-loop : tie.MeasureT-loop
-μ-loop weights c sum₀ i₀ sum i = c .len - i
+μ-loop weights present absent sum₀ left₀ sum left = length (waysOf present absent left)
 
-whole : (c : tie.After-loop Inv-loop μ-loop) → c .before .loop .sum + 0 ≡ chances (c .before .before .before .args .weights .now) (waysOf (c .before .before .before .args .t2))
+-- With no way left the sum is that of all chances.
+whole : (c : tie.Else1 Inv-loop μ-loop)
+    → let a = c .before .before .before .before .before .before .args in
+    c .before .before .loop .sum + 0 ≡ chances (a .weights .now) (waysOf (a .present .now) (a .absent .now) (a .c))
 whole c =
-    let l = c .before .loop in
-    let a = c .before .before .before .args in
-    ended (λ vs. l .sum + chances (a .weights .now) vs) (a .t2) (l .i) (omega arith) (l .inv .2)
+    let l = c .before .before .loop in
+    let a = c .before .before .before .before .before .before .args in
+    ended (a .present .now) (a .absent .now) (l .left) (λ vs. l .sum + chances (a .weights .now) vs) (c .if1 .left) (l .inv .2)
 
 loop-holds : tie.Need-loop-holds Inv-loop μ-loop
-loop-holds c = (omega arith, omega arith, omega arith)
+loop-holds c =
+    let w = c .before .before .before .pre .1 .1 in
+    (w, omega (arith, few _ _ _ w), omega arith)
 
-mul-v : tie.Need-mul-v Inv-loop μ-loop
-mul-v c = search needs
-
-element-copy-out-v : tie.Need-element-copy-out-v Inv-loop μ-loop
-element-copy-out-v c = search needs
+taken-requires : tie.Need-taken-requires Inv-loop μ-loop
+taken-requires c κs = search needs
 
 chance-requires : tie.Need-chance-requires Inv-loop μ-loop
 chance-requires c κs = search needs
 
 add-sum : tie.Need-add-sum Inv-loop μ-loop
-add-sum c = search needs
-
-add-i : tie.Need-add-i Inv-loop μ-loop
-add-i c = search needs
+add-sum c =
+    let t = c .before .before .before .taken in
+    let l = c .before .before .before .before .before .before .loop in
+    omega (arith, l .inv .1, c .chance .ensures .1, fewer _ _ (l .left) (t .result) (t .ensures))
 
 loop-less : tie.Need-loop-less Inv-loop μ-loop
-loop-less c = search needs
+loop-less c = fewer _ _ _ _ (c .before .before .before .taken .ensures)
 
 loop-again : tie.Need-loop-again Inv-loop μ-loop
 loop-again c =
-    let l = c .before .before .before .loop in
-    let a = c .before .before .before .before .before .args in
-    let long : length (a .t2 .list) ≡ 128 = search (needs, length-unmap) in
-    let turn = forward (λ vs. l .sum + chances (a .weights .now) vs) (a .t2) (l .i) long (omega arith) (omega arith) (l .inv .2) in
-    (omega arith, omega arith, omega (arith, turn, c .chance .ensures .0))
+    let t = c .before .before .before .taken in
+    let l = c .before .before .before .before .before .before .loop in
+    let a = c .before .before .before .before .before .before .before .before .before .before .args in
+    let ps = a .present .now in
+    let qs = a .absent .now in
+    let turn = forward ps qs (l .left) (λ vs. l .sum + chances (a .weights .now) vs) (t .result) (t .ensures) (l .inv .2) in
+    (t .ensures .within, omega (arith, l .inv .1, c .chance .ensures .1, fewer ps qs (l .left) (t .result) (t .ensures)), omega (arith, turn, c .chance .ensures .0))
 
 returns : tie.Need-returns Inv-loop μ-loop
 returns c = omega (arith, whole (c .before))
@@ -66,11 +72,9 @@ leaf-high-spec =
     Inv-loop
     μ-loop
     loop-holds
-    mul-v
-    element-copy-out-v
+    taken-requires
     chance-requires
     add-sum
-    add-i
     loop-less
     loop-again
     returns

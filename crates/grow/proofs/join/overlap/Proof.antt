@@ -7,7 +7,7 @@ use native.Mathlib.Omega.{arith}
 use borrow.Author.Tests.{ltb-true, ltb-false}
 use lib.Dec.{ltb}
 use Rattle.rules.specs.Tree.{overlap}
-use Rattle.formula.specs.Clauses.{dirOf}
+use Rattle.chances.specs.Directions.{dirOf}
 use Rattle.grow.proofs.join.overlap.Statement.{statement}
 use Rattle.grow.proofs.join.overlap.Tie as tie
 

@@ -1,10 +1,10 @@
 -- `weight_of` meets its contract: past the last weight a read gives 0.
--- Rests on `formula`, Weights.
+-- Rests on `chances`, Weights.
 use mathlib.Core.Path.{refl, sym}
 use native.Mathlib.Omega.{arith}
 use borrow.Author.Needs.{needs}
 use lib.ListN.{List·getD-eq-default}
-use Rattle.formula.proofs.Weights.{weight-le}
+use Rattle.chances.proofs.Weights.{weight-le}
 use Rattle.grow.proofs.join.weight_of.Statement.{statement}
 use Rattle.grow.proofs.join.weight_of.Tie as tie
 

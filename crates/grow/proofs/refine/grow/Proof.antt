@@ -1,108 +1,136 @@
 -- `grow` meets its contract: the three records are written as the definition says, and then raised.
--- Rests on Leaves.antt and the contracts of `ways_of`, `branch_of` and `raise`.
+-- Rests on Leaves.antt, on `rules`, Accepted, on `store`, Lent, and on the contracts of `branch_of`, `put_branch` and `raise`.
 use mathlib.Core.Path.{_≡_, ap, _∙_}
 use mathlib.Core.List.{List}
 use Prim.Native.Nat.{ℕ, _+_, _<_}
-use native.Mathlib.Omega.{arith}
 use borrow.Author.Needs.{needs}
 use lib.ListN.{length}
 use Rattle.rules.specs.Table.{Table}
 use Rattle.rules.specs.declared.Kind.{Kind}
+use Rattle.rules.proofs.Accepted.{few-faults, light}
+use Rattle.records.specs.Records.{recordIn}
 use Rattle.records.specs.Growing.{raise, refinedAt, grownAt}
 use Rattle.records.specs.declared.Node.{Node}
-use Rattle.formula.proofs.Walk.{length-unmap}
+use Rattle.records.specs.declared.Tree.{Tree}
+use Rattle.store.specs.Lent.{treeOf}
+use Rattle.store.specs.Safe.{Safe}
+use Rattle.store.proofs.Lent.{long}
+use Rattle.clauses.specs.declared.Clauses.{Clauses}
+use Rattle.clauses.specs.Leaves.{waysOf}
+use Rattle.grow.specs.Branched.{LeafWays, Branched, three}
+use Rattle.grow.specs.declared.refine.Branch.{Branch}
+use Rattle.grow.proofs.SafeLaws.{safe-read}
 use Rattle.grow.proofs.Leaves.{safe-three, three-refined}
 use Rattle.grow.proofs.refine.grow.Statement.{statement}
 use Rattle.grow.proofs.refine.grow.Tie as tie
 
-then-raised : (t : Table) (xs ys zs : List Node) (used j : ℕ) (k : Kind) → ys ≡ refinedAt t xs used j k → zs ≡ raise (t .weights) 64 ys j → zs ≡ grownAt t xs used j k
-unfolding grownAt
-then-raised t xs ys zs used j k e h = h ∙ ap (λ (us : List Node). raise (t .weights) 64 us j) e
+-- The table and the tree of the call.
+abbrev tableOf : tie.Start → Table
+tableOf s = record { weights = s .args .weights .now; present = s .args .present .now; absent = s .args .absent .now }
 
--- At the start, where the search has little to look at.
-long : (c : tie.Start) → length (c .args .t4 .nodes) ≡ 511
-long c = search (needs, length-unmap)
+abbrev given : tie.Start → Tree
+given s = treeOf (s .args .tree .now)
 
-mul-x : tie.Need-mul-x
-mul-x c = search needs
+-- The record that was read has the ways of record j, and there is room behind the records in use.
+read : (t : Table) (xs : List Node) (x : Node) (c : Clauses) (j : ℕ) → x ≡ recordIn xs j → LeafWays (t .present) (t .absent) (recordIn xs j) c
+    → LeafWays (t .present) (t .absent) x c
+read t xs x c j e h = rw e h
 
-element-copy-out-x : tie.Need-element-copy-out-x
-element-copy-out-x c = search needs
+room : (next used : ℕ) → next ≡ used → used + 1 < 511 → next + 1 < 511
+room next used e h = rw e h
 
-ways-of-requires : tie.Need-ways-of-requires
-ways-of-requires c κs = let s = c .before .before .before .before in (s .pre .1 .1 .0, s .pre .1 .1 .1 .0)
+-- The three records are put into the tree u, which gives v.
+module _ (t : Table) (u v : Tree) (x : Node) (c : Clauses) (k : Kind) (j next : ℕ) (b : Branch)
+    (made : Branched (t .weights) x (waysOf (t .present) (t .absent) c) k j next b)
+    (put : v ≡ record { nodes = three (u .nodes) next j (b .node) (b .left) (b .right); used = next + 2 }) where
+  safe-put : length (u .nodes) ≡ 511 → j < 511 → next + 1 < 511 → Safe (u .nodes) → Safe (v .nodes)
+  safe-put l h g s = rw put (safe-three (u .nodes) next j (b .node) (b .left) (b .right) l h g s (made .node-safe) (made .left-safe) (made .right-safe))
+
+  module _ (x-is : x ≡ recordIn (u .nodes) j) (next-is : next ≡ u .used) (leaf : LeafWays (t .present) (t .absent) (recordIn (u .nodes) j) c) where
+    refined-here : v .nodes ≡ refinedAt t (u .nodes) (u .used) j k
+    refined-here =
+        let m : Branched (t .weights) (recordIn (u .nodes) j) (waysOf (t .present) (t .absent) c) k j (u .used) b = rw (x-is, next-is) at made in
+        rw (put, next-is)
+        (three-refined t (u .nodes) (u .used) j k (waysOf (t .present) (t .absent) c) (leaf .ways-are (t .weights)) (b .node) (b .left) (b .right) (m .node-is) (m .left-is) (m .right-is))
+
+    -- And v is raised, which gives w.
+    grown : (w : Tree) → (w .nodes ≡ raise (t .weights) 64 (v .nodes) j) × (w .used ≡ v .used) × Safe (w .nodes)
+        → (w .nodes ≡ grownAt t (u .nodes) (u .used) j k) × (w .used ≡ u .used + 2) × Safe (w .nodes)
+    unfolding grownAt
+    grown w r = (r .0 ∙ ap (λ (xs : List Node). raise (t .weights) 64 xs j) refined-here, rw (r .1, put, next-is), r .2)
+
+record-at-requires : tie.Need-record-at-requires
+record-at-requires c κs = search needs
+
+used-in-requires : tie.Need-used-in-requires
+used-in-requires c κs = search needs
 
 branch-of-requires : tie.Need-branch-of-requires
 branch-of-requires c κs =
-    let s = c .before .before .before .before .before in
-    let p = s .pre .1 .1 .1 .1 in
-    let w = c .ways-of .ensures in
-    (s .pre .0, (s .pre .1 .0, (p .0, ((w .1, w .2), (p .1 .0 .each (s .args .j), p .1 .1)))))
+    let r = c .before .before in
+    let s = r .before .before .before .before .before in
+    let a = s .args in
+    let p = s .pre .1 in
+    let t = tableOf s in
+    let e = r .record-at .ensures in (
+      few-faults t (s .pre .0),
+      (
+        light t (s .pre .0),
+        (
+          read t (given s .nodes) _ (a .c) (a .j) e (p .0),
+          (
+            p .1 .0,
+            (
+              safe-read _ _ _ (p .1 .1 .0) e,
+              (
+                p .1 .1 .1 .0,
+                room _ _ (c .used-in .ensures) (p .1 .1 .1 .1),
+              ),
+            ),
+          ),
+        ),
+      ),
+    )
 
--- Room for the two leaves.
-fits : (c : tie.After-right) → (c .before .before .before .before .before .before .before .before .before .args .j < 511) × (c .before .before .before .before .before .before .before .before .before .args .t4 .used + 1 < 511)
-fits c = c .before .before .before .before .before .before .before .before .before .pre .1 .1 .1 .1 .1 .1
-
-mul-node : tie.Need-mul-node
-mul-node c = omega (arith, fits c .0)
-
-element-set-from-node : tie.Need-element-set-from-node
-element-set-from-node c = omega (arith, fits c .0)
-
-mul-left : tie.Need-mul-left
-mul-left c = omega (arith, fits c .1)
-
-element-set-from-left : tie.Need-element-set-from-left
-element-set-from-left c = omega (arith, fits c .1)
-
-add-right : tie.Need-add-right
-add-right c = omega (arith, fits c .1)
-
-mul-right : tie.Need-mul-right
-mul-right c = omega (arith, fits c .1)
-
-element-set-from-right : tie.Need-element-set-from-right
-element-set-from-right c = omega (arith, fits c .1)
-
-add-t : tie.Need-add-t
-add-t c = omega (arith, fits c .1)
+put-branch-requires : tie.Need-put-branch-requires
+put-branch-requires c κs =
+    let p = c .before .before in
+    let s = p .before .before .before .before .before .before .before in
+    let q = s .pre .1 .1 .1 .1 in
+    (q .0, room _ _ (p .used-in .ensures) (q .1))
 
 raise-requires : tie.Need-raise-requires
 raise-requires c κs =
-    let s = c .before .before .before .before .before .before .before .before .before in
-    let b = c .before .before .before .branch-of .ensures in
-    let p = s .pre .1 .1 .1 .1 in
-    (s .pre .1 .0, (safe-three (s .args .t4 .nodes) (s .args .t4 .used) (s .args .j) _ _ _ (long s) (p .1 .1 .0) (p .1 .1 .1) (p .1 .0) (b .node-safe) (b .left-safe) (b .right-safe), p .1 .1 .0))
+    let p = c .before .before .before .before in
+    let s = p .before .before .before .before .before .before .before in
+    let a = s .args in
+    let q = s .pre .1 .1 .1 in (
+      light (tableOf s) (s .pre .0),
+      (
+        safe-put (tableOf s) (given s) _ _ (a .c) (a .k) (a .j) _ _ (c .before .before .before .branch-of .ensures) (c .before .put-branch .ensures) (long _) (q .1 .0) (room _ _ (p .used-in .ensures) (q .1 .1)) (q .0),
+        q .1 .0,
+      ),
+    )
 
 returns : tie.Need-returns
 returns c =
-    let a = c .before .before .before .before .before .before .before .before .before .before .args in
-    let b = c .before .before .before .before .branch-of .ensures in
-    let t : Table = record { weights = a .weights .now; present = a .present .now; absent = a .absent .now } in
-    let r = c .raise .ensures in (
-      then-raised t (a .t4 .nodes) _ _ (a .t4 .used) (a .j) (a .k)
-          (three-refined t (a .t4 .nodes) (a .t4 .used) (a .j) (a .k) _ (c .before .before .before .before .before .ways-of .ensures .0 (a .weights .now)) _ _ _
-          (b .node-is) (b .left-is) (b .right-is))
-          (r .0),
-      r .1,
-      r .2,
-    )
+    let p = c .before .before .before .before .before in
+    let s = p .before .before .before .before .before .before .before in
+    let a = s .args in
+    grown (tableOf s) (given s) _ _ (a .c) (a .k) (a .j) _ _ (c .before .before .before .before .branch-of .ensures) (c .before .before .put-branch .ensures)
+    (p .before .before .record-at .ensures)
+    (p .used-in .ensures)
+    (s .pre .1 .0)
+    _
+    (c .raise .ensures)
 
 pub grow-spec : {M : Type 1} → statement M
 grow-spec =
     tie.close
     (tie.spec
-    mul-x
-    element-copy-out-x
-    ways-of-requires
+    record-at-requires
+    used-in-requires
     branch-of-requires
-    mul-node
-    element-set-from-node
-    mul-left
-    element-set-from-left
-    add-right
-    mul-right
-    element-set-from-right
-    add-t
+    put-branch-requires
     raise-requires
     returns)

@@ -8,7 +8,7 @@ use Rattle.rules.specs.declared.Kind.{Kind}
 use Rattle.records.specs.Records.{kindCode, faultCode}
 use Rattle.records.specs.Growing.{refinedRecord}
 use Rattle.records.specs.declared.Node.{Node}
-use Rattle.grow.specs.Safe.{SafeNode}
+use Rattle.store.specs.Safe.{SafeNode}
 use Rattle.grow.proofs.refine.refined.Statement.{statement}
 use Rattle.grow.proofs.refine.refined.Tie as tie
 

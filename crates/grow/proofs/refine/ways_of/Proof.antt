@@ -23,7 +23,12 @@ remaining-of-requires c κs = search needs
 returns : tie.Need-returns
 returns c =
     let r = c .remaining-of .ensures in
-    (all-remaining _ _ (c .before .before .before .args .x) _ (r .0), r .1, r .2)
+    record {
+      within = r .1;
+      ways-are = all-remaining _ _ (c .before .before .before .args .x) _ (r .0);
+      present-is = r .2;
+      absent-is = r .3;
+    }
 
 pub ways-of-spec : {M : Type 1} → statement M
 ways-of-spec = tie.close (tie.spec remaining-of-requires returns)

@@ -12,7 +12,7 @@ of-answer-requires : tie.Need-of-answer-requires
 of-answer-requires c κs = search needs
 
 returns : tie.Need-returns
-returns c = opening-told _ _ _ _ (c .before .before .open .ensures) (c .before .of-answer .ensures)
+returns c = opening-told _ _ _ _ (c .before .open .ensures) (c .of-answer .ensures)
 
 pub open-spec : {M : Type 1} → statement M
 open-spec = tie.close (tie.spec open-requires of-answer-requires returns)

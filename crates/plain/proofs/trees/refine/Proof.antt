@@ -16,8 +16,8 @@ of-answer-requires c κs = search needs
 
 returns : tie.Need-returns
 returns c =
-    let f = c .before .before in
-    refining-told _ _ _ _ _ _ _ (rw (f .before .kind-asked .ensures) at (f .refine .ensures)) (c .before .of-answer .ensures)
+    let f = c .before in
+    refining-told _ _ _ _ _ _ _ (rw (f .before .before .kind-asked .ensures) at (f .refine .ensures)) (c .of-answer .ensures)
 
 pub refine-spec : {M : Type 1} → statement M
 refine-spec = tie.close (tie.spec kind-asked-requires refine-requires of-answer-requires returns)

@@ -12,7 +12,7 @@ of-run-requires : tie.Need-of-run-requires
 of-run-requires c κs = search needs
 
 returns : tie.Need-returns
-returns c = running-told _ _ _ _ _ _ (c .before .before .run .ensures) (c .before .of-run .ensures)
+returns c = running-told _ _ _ _ _ _ (c .before .run .ensures) (c .of-run .ensures)
 
 pub run-spec : {M : Type 1} → statement M
 run-spec = tie.close (tie.spec run-requires of-run-requires returns)

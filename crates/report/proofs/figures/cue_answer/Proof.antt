@@ -12,7 +12,7 @@ run-requires : tie.Need-run-requires
 run-requires c κs = search needs
 
 returns : tie.Need-returns
-returns c = fresh-run _ (c .before .before .before .before .before .before .args .limits) (c .before .before .«open» .ensures .tree-is) (c .run .ensures .call .outcome-is)
+returns c = fresh-run _ (c .before .before .before .before .before .before .before .args .limits) (c .before .before .«open» .ensures .tree-is) (c .run .ensures .call .outcome-is)
 
 pub cue-answer-spec : {M : Type 1} → statement M
 cue-answer-spec = tie.close (tie.spec open-requires run-requires returns)

@@ -3,7 +3,7 @@
 use mathlib.Core.Path.{sym, _∙_}
 use native.Mathlib.Omega.{arith}
 use borrow.Author.Needs.{needs}
-use Rattle.formula.specs.Clauses.{FaultFits}
+use Rattle.formula.specs.Leaves.{FaultFits}
 use Rattle.running.proofs.Turns.{fault-low, choice-apart, choice-fault}
 use Rattle.running.proofs.turn.choose.Statement.{statement}
 use Rattle.running.proofs.turn.choose.Tie as tie
@@ -18,15 +18,15 @@ returns c = (λ ws l. choice-apart ws _ (sym (c .before .falls-apart .ensures) �
 most-named-requires : tie.Need-most-named-requires
 most-named-requires c κs = search needs
 
-cast-t5 : tie.Need-cast-t5
-cast-t5 c = let e = fault-low _ _ _ (c .before .before .before .pre .0) (c .most-named .ensures) in omega (arith, e)
+cast-t7 : tie.Need-cast-t7
+cast-t7 c = let e = fault-low _ _ _ (c .before .before .before .before .before .pre .0) (c .most-named .ensures) in omega (arith, e)
 
 returns-2 : tie.Need-returns-2
 unfolding FaultFits
 returns-2 c = (
   λ ws l. choice-fault ws _ _ _ l (sym (c .before .before .falls-apart .ensures) ∙ c .before .if1 .left) (c .most-named .ensures),
-  fault-low _ _ _ (c .before .before .before .pre .0) (c .most-named .ensures),
+  fault-low _ _ _ (c .before .before .before .before .before .pre .0) (c .most-named .ensures),
 )
 
 pub choose-spec : {M : Type 1} → statement M
-choose-spec = tie.close (tie.spec falls-apart-requires returns most-named-requires cast-t5 returns-2)
+choose-spec = tie.close (tie.spec falls-apart-requires returns most-named-requires cast-t7 returns-2)

@@ -34,11 +34,8 @@ returns c = search needs
 returns-2 : tie.Need-returns-2 Inv-loop μ-loop
 returns-2 c = search needs
 
-mul-n : tie.Need-mul-n Inv-loop μ-loop
-mul-n c = search needs
-
-element-copy-out-n : tie.Need-element-copy-out-n Inv-loop μ-loop
-element-copy-out-n c = search needs
+record-at-requires : tie.Need-record-at-requires Inv-loop μ-loop
+record-at-requires c κs = search needs
 
 print-place-requires : tie.Need-print-place-requires Inv-loop μ-loop
 print-place-requires c κs = search needs
@@ -97,8 +94,7 @@ show-spec =
     array-read-at
     returns
     returns-2
-    mul-n
-    element-copy-out-n
+    record-at-requires
     print-place-requires
     left-child-requires
     add-waiting

@@ -1,0 +1,2 @@
+-- How the code says a direction of rounding.
+pub mod Directions

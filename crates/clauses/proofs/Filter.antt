@@ -1,0 +1,198 @@
+-- The ways of a leaf that pass a test, kept by their numbers alone: the loop that takes the ways one by one, and the list of ways that its numbers stand for.
+-- Said once over the test. Rests on the definitions of Leaves.antt, and on `rules`, Remaining, for faults dropped after others.
+use mathlib.Core.Path.{_≡_, refl, sym, ap, ap₂, _∙_}
+use mathlib.Core.Bool.{Bool, true, false, not, _&&_, _||_, Bool·beq}
+use mathlib.Core.List.{List, [], _∷_, map}
+use Prim.Native.Nat.{ℕ, suc, _+_, _-_, _<_}
+use native.Mathlib.Omega.{arith}
+use lib.ListN.{length, getD}
+use lib.Bits.{bitOr}
+use lib.Dec.{eqb, ltb}
+use borrow.Author.Tests.{eqb-true, eq-eqb}
+use Rattle.rules.specs.declared.Way.{Way}
+use Rattle.rules.specs.Table.{bit, rows, absentRows}
+use Rattle.rules.specs.Leaf.{select, contradicted, dropped, remaining}
+use Rattle.rules.specs.Group.{touches, part}
+use Rattle.rules.proofs.Booleans.{and-left, and-false, or-first}
+use Rattle.rules.proofs.Bits.{bit-zero, or-zero}
+use Rattle.rules.proofs.Remaining.{dropped-twice, or-regroup}
+use Rattle.records.specs.Records.{inWords}
+use Rattle.clauses.specs.declared.Clauses.{Clauses}
+use Rattle.clauses.specs.declared.Taken.{Taken}
+use Rattle.clauses.specs.Leaves.{fixedOf, row, waysOf, Within, Takes}
+
+-- ---- lists of ways
+
+-- The ways that pass the test, each changed by h.
+abbrev pub passing : (Way → Bool) → (Way → Way) → List Way → List Way
+passing f h [] = []
+passing f h (v ∷ vs) = elim (f v) as (λ b. List Way) [ true ↦ h v ∷ passing f h vs | false ↦ passing f h vs ]
+
+-- What remains of ways is such a list.
+pub passing-remaining : (p q : ℕ) (vs : List Way) → passing (λ v. not (contradicted p q v)) (dropped (bitOr p q)) vs ≡ remaining p q vs
+unfolding remaining
+passing-remaining p q [] = refl
+passing-remaining p q (v ∷ vs) = by (contradicted p q v) (passing-remaining p q vs)
+  where
+    by : (b : Bool) {us ws : List Way} → us ≡ ws
+        → _≡_ {A = List Way} (elim (not b) as (λ b. List Way) [ true ↦ dropped (bitOr p q) v ∷ us | false ↦ us ])
+        (elim b as (λ b. List Way) [ true ↦ ws | false ↦ dropped (bitOr p q) v ∷ ws ])
+    by true e = e
+    by false e = ap (λ (us : List Way). dropped (bitOr p q) v ∷ us) e
+
+-- So are those that a word touches, and those that it does not.
+pub passing-part : (b : Bool) (m : ℕ) (vs : List Way) → passing (λ v. Bool·beq b (touches m v)) (λ v. v) vs ≡ part b m vs
+passing-part b m [] = refl
+passing-part b m (v ∷ vs) =
+    ap (λ (us : List Way). elim (Bool·beq b (touches m v)) as (λ c. List Way) [ true ↦ v ∷ us | false ↦ us ]) (passing-part b m vs)
+
+-- Every way of a list has a property.
+abbrev Each : (Way → Type 0) → List Way → Type 0
+Each Q [] = Unit {0}
+Each Q (v ∷ vs) = Q v × Each Q vs
+
+-- What holds of every number's way holds of every way of the table.
+each-row : (Q : Way → Type 0) (j : ℕ) (ps qs : List ℕ) → length qs ≡ length ps
+    → ((i k : ℕ) → k ≡ j + i → Q (record { number = k; present = getD ps i 0; absent = getD qs i 0 })) → Each Q (rows j ps qs)
+unfolding rows absentRows
+each-row Q j [] [] e h = tt
+each-row Q j [] (q ∷ qs) e h = absurd (omega arith)
+each-row Q j (p ∷ ps) [] e h = absurd (omega arith)
+each-row Q j (p ∷ ps) (q ∷ qs) e h = (h 0 j (omega arith), each-row Q (suc j) ps qs (omega arith) (λ i k l. h (suc i) k (omega arith)))
+
+-- Numbers chosen by another choice and a test of their ways: the chosen ways are those of the other choice that pass.
+module _ (K C : ℕ → Bool) (f : Way → Bool) (h : Way → Way) (m M : ℕ) (more : (v : Way) → h (dropped m v) ≡ dropped M v) where
+  select-passing : (vs : List Way) → Each (λ v. K (v .number) ≡ C (v .number) && f (dropped m v)) vs
+      → map (dropped M) (select K vs) ≡ passing f h (map (dropped m) (select C vs))
+  unfolding select
+  select-passing [] e = refl
+  select-passing (v ∷ vs) e = by (K (v .number)) (C (v .number)) (f (dropped m v)) refl (e .0) (select-passing vs (e .1))
+    where
+      by : (k c b : Bool) → f (dropped m v) ≡ b → k ≡ c && b → map (dropped M) (select K vs) ≡ passing f h (map (dropped m) (select C vs))
+          → map (dropped M) (elim k as (λ b. List Way) [ true ↦ v ∷ select K vs | false ↦ select K vs ])
+          ≡ passing f h (map (dropped m) (elim c as (λ b. List Way) [ true ↦ v ∷ select C vs | false ↦ select C vs ]))
+      by k true true d e ih = rw (e, d) (ap₂ (λ (x : Way) (y : List Way). x ∷ y) (sym (more v)) ih)
+      by k true false d e ih = rw (e, d) ih
+      by k false b d e ih = rw e ih
+
+-- ---- the numbers
+
+-- Words of 0 have no number.
+no-number : (i : ℕ) → inWords 0 0 i ≡ false
+unfolding inWords
+no-number i = by (ltb i 64)
+  where
+    by : (b : Bool) → (elim b as (λ x. Bool) [ true ↦ bit i 0 | false ↦ bit (i - 64) 0 ]) ≡ false
+    by true = bit-zero i
+    by false = bit-zero (i - 64)
+
+-- Nor have words that joined are 0.
+none : (a b : ℕ) → bitOr a b ≡ 0 → (i : ℕ) → inWords a b i ≡ false
+none a b h i = let z = or-zero a b h in ap₂ (λ (x y : ℕ). inWords x y i) (z .0) (z .1) ∙ no-number i
+
+-- One number (e) goes from those left (o, and this one) to those kept (k), if it passes (b).
+one-over : (b e k o g : Bool) → (e ≡ true → g ≡ b) → ((b && e) || k) || (o && g) ≡ k || ((e || o) && g)
+one-over true true true o g h = refl
+one-over true true false o g h = sym (h refl)
+one-over false true k o g h = rw (h refl, and-false)
+one-over true false k o g h = refl
+one-over false false k o g h = refl
+
+-- A way that is taken has one of the leaf's numbers, so it is below 128.
+pub numbered : (ps qs : List ℕ) (c : Clauses) (t : Taken) → Within ps qs c → Takes ps qs c t → t .way .number < 128
+numbered ps qs c t w h =
+    let n = t .way .number in
+    let i : n < length ps = w .inside n (h .numbers n ∙ or-first (eqb n n) _ (eq-eqb n n refl)) in
+    omega (arith, w .short)
+
+-- ---- the loop
+
+module _ (ps qs : List ℕ) (f : Way → Bool) (c : Clauses) where
+  -- The way with a number, as the leaf has it, passes.
+  abbrev passes : ℕ → Bool
+  passes i = f (dropped (fixedOf c) (row ps qs i))
+
+  -- In the midst of the loop: the kept numbers, and those left that pass, are those of the leaf that pass. The fixed faults stay.
+  pub record Sifting (kept₀ kept left : Clauses) : Type 0 where
+    pub numbers : (i : ℕ) → inWords (kept .low) (kept .high) i || (inWords (left .low) (left .high) i && passes i) ≡ inWords (c .low) (c .high) i && passes i
+    pub kept-present : kept .present ≡ kept₀ .present
+    pub kept-absent : kept .absent ≡ kept₀ .absent
+    pub left-present : left .present ≡ c .present
+    pub left-absent : left .absent ≡ c .absent
+    pub within : Within ps qs left
+
+  -- At first nothing is kept.
+  pub begun : (P A : ℕ) → Within ps qs c
+      → Sifting (record { low = 0; high = 0; present = P; absent = A }) (record { low = 0; high = 0; present = P; absent = A }) c
+  begun P A w =
+      record {
+        numbers = λ i. ap (λ (b : Bool). b || (inWords (c .low) (c .high) i && passes i)) (no-number i);
+        kept-present = refl;
+        kept-absent = refl;
+        left-present = refl;
+        left-absent = refl;
+        within = w;
+      }
+
+  module _ (kept₀ kept left : Clauses) (s : Sifting kept₀ kept left) where
+    -- One turn: the first way left is kept just if it passes (b).
+    pub turn : (t : Taken) → Takes ps qs left t → (b : Bool) → f (t .way) ≡ b → (k : Clauses)
+        → ((i : ℕ) → inWords (k .low) (k .high) i ≡ (b && eqb i (t .way .number)) || inWords (kept .low) (kept .high) i)
+        → k .present ≡ kept .present → k .absent ≡ kept .absent → Sifting kept₀ k (t .others)
+    turn t h b e k n p a =
+        record {
+          numbers = at;
+          kept-present = p ∙ s .kept-present;
+          kept-absent = a ∙ s .kept-absent;
+          left-present = h .same-present ∙ s .left-present;
+          left-absent = h .same-absent ∙ s .left-absent;
+          within = h .within;
+        }
+      where
+        it : passes (t .way .number) ≡ b
+        it =
+            ap (λ (m : ℕ). f (dropped m (row ps qs (t .way .number)))) (sym (ap₂ bitOr (s .left-present) (s .left-absent)))
+            ∙ sym (ap f (h .way-is)) ∙ e
+
+        at : (i : ℕ) → inWords (k .low) (k .high) i || (inWords (t .others .low) (t .others .high) i && passes i) ≡ inWords (c .low) (c .high) i && passes i
+        at i =
+            ap (λ (x : Bool). x || (inWords (t .others .low) (t .others .high) i && passes i)) (n i)
+            ∙ one-over b (eqb i (t .way .number)) (inWords (kept .low) (kept .high) i) (inWords (t .others .low) (t .others .high) i) (passes i)
+            (λ z. ap passes (eqb-true i (t .way .number) z) ∙ it)
+            ∙ sym (ap (λ (x : Bool). inWords (kept .low) (kept .high) i || (x && passes i)) (h .numbers i))
+            ∙ s .numbers i
+
+    module _ (w : Within ps qs c) (z : bitOr (left .low) (left .high) ≡ 0) where
+      -- At the end the kept numbers are those of the leaf that pass.
+      all-kept : (i : ℕ) → inWords (kept .low) (kept .high) i ≡ inWords (c .low) (c .high) i && passes i
+      all-kept i =
+          sym (or-none (inWords (kept .low) (kept .high) i))
+          ∙ sym (ap (λ (x : Bool). inWords (kept .low) (kept .high) i || (x && passes i)) (none (left .low) (left .high) z i))
+          ∙ s .numbers i
+        where
+          or-none : (x : Bool) → x || false ≡ x
+          or-none true = refl
+          or-none false = refl
+
+      -- So the kept ways are the leaf's ways that pass, with what else is fixed dropped (h).
+      pub ended : (h : Way → Way) → ((v : Way) → h (dropped (fixedOf c) v) ≡ dropped (fixedOf kept₀) v)
+          → (waysOf ps qs kept ≡ passing f h (waysOf ps qs c)) × Within ps qs kept
+      unfolding waysOf
+      ended h more = (
+        ap (λ (m : ℕ). map (dropped m) (select (inWords (kept .low) (kept .high)) (rows 0 ps qs))) (ap₂ bitOr (s .kept-present) (s .kept-absent))
+            ∙ select-passing (inWords (kept .low) (kept .high)) (inWords (c .low) (c .high)) f h (fixedOf c) (fixedOf kept₀) more (rows 0 ps qs)
+            (each-row (λ v. inWords (kept .low) (kept .high) (v .number) ≡ inWords (c .low) (c .high) (v .number) && f (dropped (fixedOf c) v)) 0 ps qs (w .paired)
+            (λ i k e. let l : i ≡ k = omega arith in rw l (all-kept k))),
+        record {
+          short = w .short;
+          paired = w .paired;
+          inside = λ i e. w .inside i (and-left (inWords (c .low) (c .high) i) (passes i) (sym (all-kept i) ∙ e));
+        },
+      )
+
+-- ---- the words that are fixed
+
+-- Faults fixed besides those of the leaf are dropped with them.
+pub fixed-more : (c : Clauses) (p q : ℕ) (v : Way)
+    → dropped (bitOr p q) (dropped (fixedOf c) v) ≡ dropped (bitOr (bitOr (c .present) p) (bitOr (c .absent) q)) v
+fixed-more c p q v = dropped-twice (fixedOf c) (bitOr p q) v ∙ ap (λ (m : ℕ). dropped m v) (or-regroup (c .present) (c .absent) p q)

@@ -1,0 +1,124 @@
+-- The numbers in two words, one by one: words with the same numbers are equal, words cut to the numbers below n, words with a number more.
+-- Rests on the laws of bits (`rules`, Bits, and Words.antt).
+use mathlib.Core.Path.{_≡_, refl, sym, ap, ap₂, _∙_}
+use mathlib.Core.Bool.{Bool, true, false, _&&_, _||_}
+use Prim.Native.Nat.{ℕ, _+_, _-_, _^_, _<_, _≤_}
+use native.Mathlib.Decide.{decLt}
+use native.Mathlib.Omega.{arith}
+use lib.Bits.{bitAnd, bitOr, or-comm}
+use lib.Dec.{eqb, ltb}
+use lib.Pow.{pow-pos}
+use borrow.Author.Tests.{ltb-true, ltb-false, lt-ltb, le-ltb, eqb-true, eq-eqb, ne-eqb}
+use Rattle.rules.specs.Table.{bit}
+use Rattle.rules.proofs.Booleans.{and-true, and-false, same-test}
+use Rattle.rules.proofs.Bits.{bit-zero, bit-and, bit-or, bit-pow, bit-high, bits-ext}
+use Rattle.records.specs.Records.{inWords}
+use Rattle.clauses.proofs.Words.{ones}
+
+-- A number below 64 is a bit of the low word.
+in-low : (a b i : ℕ) → i < 64 → inWords a b i ≡ bit i a
+unfolding inWords
+in-low a b i h = ap (λ (t : Bool). elim t as (λ x. Bool) [ true ↦ bit i a | false ↦ bit (i - 64) b ]) (lt-ltb i 64 h)
+
+-- One from 64 on, less 64, is a bit of the high word.
+in-high : (a b i : ℕ) → 64 ≤ i → inWords a b i ≡ bit (i - 64) b
+unfolding inWords
+in-high a b i h = ap (λ (t : Bool). elim t as (λ x. Bool) [ true ↦ bit i a | false ↦ bit (i - 64) b ]) (le-ltb i 64 h)
+
+-- ---- words with the same numbers
+
+module _ (a b x y : ℕ) (same : (i : ℕ) → inWords a b i ≡ inWords x y i) where
+  -- The low words are equal, where they fit 64 bits.
+  pub same-low : a < 2 ^ 64 → x < 2 ^ 64 → a ≡ x
+  same-low h k = bits-ext a x (λ i. by i (decLt i 64))
+    where
+      by : (i : ℕ) → Dec (i < 64) → bit i a ≡ bit i x
+      by i (yes g) = sym (in-low a b i g) ∙ same i ∙ in-low x y i g
+      by i (no g) = bit-high 64 i a (omega arith) h ∙ sym (bit-high 64 i x (omega arith) k)
+
+  -- The high words are equal.
+  pub same-high : b ≡ y
+  same-high = bits-ext b y (λ i. at i (i + 64) (omega arith) (omega arith))
+    where
+      at : (i j : ℕ) → 64 ≤ j → j - 64 ≡ i → bit i b ≡ bit i y
+      at i j h e = ap (λ (k : ℕ). bit k b) (sym e) ∙ sym (in-high a b j h) ∙ same j ∙ in-high x y j h ∙ ap (λ (k : ℕ). bit k y) e
+
+-- ---- words cut to the numbers below n
+
+-- A word cut to its n lowest bits has them and no other.
+cut-bit : (n m w i : ℕ) → m ≡ 2 ^ n - 1 → bit i (bitAnd w m) ≡ bit i w && ltb i n
+cut-bit n m w i e = bit-and i w m ∙ ap (λ (t : Bool). bit i w && t) (ap (bit i) e ∙ by (ltb i n) refl)
+  where
+    by : (t : Bool) → ltb i n ≡ t → bit i (2 ^ n - 1) ≡ t
+    by true q = ones n i (ltb-true i n q)
+    by false q = bit-high n i (2 ^ n - 1) (ltb-false i n q) (omega (arith, pow-pos n))
+
+module _ (n m a b : ℕ) where
+  -- Where n is below 64, the low word is cut and the high one dropped.
+  pub cut-low : n < 64 → m ≡ 2 ^ n - 1 → (i : ℕ) → inWords (bitAnd a m) 0 i ≡ inWords a b i && ltb i n
+  cut-low h e i = by (decLt i 64)
+    where
+      by : Dec (i < 64) → inWords (bitAnd a m) 0 i ≡ inWords a b i && ltb i n
+      by (yes g) = in-low (bitAnd a m) 0 i g ∙ cut-bit n m a i e ∙ ap (λ (t : Bool). t && ltb i n) (sym (in-low a b i g))
+      by (no g) =
+          in-high (bitAnd a m) 0 i (omega arith) ∙ bit-zero (i - 64)
+          ∙ sym (ap (λ (t : Bool). inWords a b i && t) (le-ltb i n (omega arith)) ∙ and-false (inWords a b i))
+
+  -- Otherwise the high word is cut.
+  pub cut-high : 64 ≤ n → m ≡ 2 ^ (n - 64) - 1 → (i : ℕ) → inWords a (bitAnd b m) i ≡ inWords a b i && ltb i n
+  cut-high h e i = by (decLt i 64)
+    where
+      less : 64 ≤ i → ltb (i - 64) (n - 64) ≡ ltb i n
+      less l = same-test _ _ (λ q. lt-ltb i n (omega (arith, ltb-true (i - 64) (n - 64) q))) (λ q. lt-ltb (i - 64) (n - 64) (omega (arith, ltb-true i n q)))
+
+      by : Dec (i < 64) → inWords a (bitAnd b m) i ≡ inWords a b i && ltb i n
+      by (yes g) =
+          in-low a (bitAnd b m) i g ∙ sym (in-low a b i g)
+          ∙ sym (ap (λ (t : Bool). inWords a b i && t) (lt-ltb i n (omega arith)) ∙ and-true (inWords a b i))
+      by (no g) =
+          in-high a (bitAnd b m) i (omega arith) ∙ cut-bit (n - 64) m b (i - 64) e
+          ∙ ap₂ (λ (s t : Bool). s && t) (sym (in-high a b i (omega arith))) (less (omega arith))
+
+-- Two words of ones have every number below 128.
+pub all-in : (i : ℕ) → i < 128 → inWords (2 ^ 64 - 1) (2 ^ 64 - 1) i ≡ true
+all-in i h = by (decLt i 64)
+  where
+    by : Dec (i < 64) → inWords (2 ^ 64 - 1) (2 ^ 64 - 1) i ≡ true
+    by (yes g) = in-low (2 ^ 64 - 1) (2 ^ 64 - 1) i g ∙ ones 64 i g
+    by (no g) = in-high (2 ^ 64 - 1) (2 ^ 64 - 1) i (omega arith) ∙ ones 64 (i - 64) (omega arith)
+
+-- ---- words with a number more
+
+-- A word with bit i more.
+more-bit : (w p i j : ℕ) → p ≡ 2 ^ i → bit j (bitOr w p) ≡ eqb j i || bit j w
+more-bit w p i j e = ap (bit j) (or-comm w p) ∙ bit-or j p w ∙ ap (λ (t : Bool). t || bit j w) (ap (bit j) e ∙ bit-pow j i)
+
+module _ (a b p i : ℕ) where
+  -- A number below 64 goes into the low word.
+  pub more-low : i < 64 → p ≡ 2 ^ i → (j : ℕ) → inWords (bitOr a p) b j ≡ eqb j i || inWords a b j
+  more-low h e j = by (decLt j 64)
+    where
+      other : (j < 64 → ⊥) → j ≡ i → ⊥
+      other g q = omega arith
+
+      by : Dec (j < 64) → inWords (bitOr a p) b j ≡ eqb j i || inWords a b j
+      by (yes g) = in-low (bitOr a p) b j g ∙ more-bit a p i j e ∙ ap (λ (t : Bool). eqb j i || t) (sym (in-low a b j g))
+      by (no g) =
+          in-high (bitOr a p) b j (omega arith) ∙ sym (in-high a b j (omega arith)) ∙ ap (λ (t : Bool). t || inWords a b j) (sym (ne-eqb j i (other g)))
+
+  -- One from 64 on, less 64, into the high word.
+  pub more-high : 64 ≤ i → p ≡ 2 ^ (i - 64) → (j : ℕ) → inWords a (bitOr b p) j ≡ eqb j i || inWords a b j
+  more-high h e j = by (decLt j 64)
+    where
+      other : j < 64 → j ≡ i → ⊥
+      other g q = omega arith
+
+      less : 64 ≤ j → eqb (j - 64) (i - 64) ≡ eqb j i
+      less l = same-test _ _ (λ q. eq-eqb j i (omega (arith, eqb-true (j - 64) (i - 64) q))) (λ q. eq-eqb (j - 64) (i - 64) (omega (arith, eqb-true j i q)))
+
+      by : Dec (j < 64) → inWords a (bitOr b p) j ≡ eqb j i || inWords a b j
+      by (yes g) =
+          in-low a (bitOr b p) j g ∙ sym (in-low a b j g) ∙ ap (λ (t : Bool). t || inWords a b j) (sym (ne-eqb j i (other g)))
+      by (no g) =
+          in-high a (bitOr b p) j (omega arith) ∙ more-bit b p (i - 64) (j - 64) e
+          ∙ ap₂ (λ (s t : Bool). s || t) (less (omega arith)) (sym (in-high a b j (omega arith)))

@@ -1,0 +1,75 @@
+-- `restrict` meets its contract. The loop's invariant: the numbers kept, and those left whose ways are not contradicted, are all that remain.
+-- Rests on Filter.antt, Loops.antt and the contracts of `taken`, `contradicted` and `with_number`.
+use mathlib.Core.Path.{refl, sym, ap, _∙_}
+use mathlib.Core.Bool.{true, false, not}
+use borrow.Author.Needs.{needs}
+use lib.ListN.{length}
+use lib.Bits.{bitOr}
+use Rattle.rules.specs.Leaf.{contradicted, dropped}
+use Rattle.clauses.specs.Leaves.{waysOf}
+use Rattle.clauses.proofs.Filter.{Sifting, numbered, begun, turn, ended, passing-remaining, fixed-more}
+use Rattle.clauses.proofs.Loops.{fewer}
+use Rattle.clauses.proofs.keeping.restrict.Statement.{statement}
+use Rattle.clauses.proofs.keeping.restrict.Tie as tie
+
+abbrev Inv-loop : tie.InvT-loop
+Inv-loop present absent p q kept₀ left₀ kept left = Sifting present absent (λ v. not (contradicted p q v)) left₀ kept₀ kept left
+
+abbrev μ-loop : tie.MeasureT-loop
+μ-loop present absent p q kept₀ left₀ kept left = length (waysOf present absent left)
+
+loop-holds : tie.Need-loop-holds Inv-loop μ-loop
+loop-holds c = begun _ _ _ _ _ _ (search needs)
+
+taken-requires : tie.Need-taken-requires Inv-loop μ-loop
+taken-requires c κs = (c .before .before .loop .inv .within, c .if1 .taken)
+
+contradicted-requires : tie.Need-contradicted-requires Inv-loop μ-loop
+contradicted-requires c κs = search needs
+
+with-number-requires : tie.Need-with-number-requires Inv-loop μ-loop
+with-number-requires c κs =
+    let l = c .before .before .before .before .before .before .before .loop in
+    numbered _ _ _ _ (l .inv .within) (c .before .before .before .before .taken .ensures)
+
+loop-less : tie.Need-loop-less Inv-loop μ-loop
+loop-less c = fewer _ _ _ _ (c .before .before .before .before .before .taken .ensures)
+
+loop-again : tie.Need-loop-again Inv-loop μ-loop
+loop-again c =
+    let l = c .before .before .before .before .before .before .before .before .loop in
+    let w = c .with-number .ensures in
+    turn _ _ _ _ _ _ _ (l .inv) _ (c .before .before .before .before .before .taken .ensures) true
+    (sym (ap not (c .before .before .contradicted .ensures)) ∙ c .before .if2 .taken) _ (w .0) (w .1) (w .2)
+
+loop-less-2 : tie.Need-loop-less-2 Inv-loop μ-loop
+loop-less-2 c = fewer _ _ _ _ (c .before .before .before .before .taken .ensures)
+
+loop-again-2 : tie.Need-loop-again-2 Inv-loop μ-loop
+loop-again-2 c =
+    let l = c .before .before .before .before .before .before .before .loop in
+    turn _ _ _ _ _ _ _ (l .inv) _ (c .before .before .before .before .taken .ensures) false
+    (sym (ap not (c .before .contradicted .ensures)) ∙ c .if2 .left) _ (λ i. refl) refl refl
+
+returns : tie.Need-returns Inv-loop μ-loop
+returns c =
+    let l = c .before .before .loop in
+    let a = c .before .before .before .before .before .before .before .args in
+    let e = ended _ _ _ _ _ _ _ (l .inv) (search needs) (c .if1 .left) (dropped (bitOr (a .p) (a .q))) (fixed-more (a .c) (a .p) (a .q)) in
+    (e .0 ∙ passing-remaining (a .p) (a .q) _, e .1, l .inv .kept-present, l .inv .kept-absent)
+
+pub restrict-spec : {M : Type 1} → statement M
+restrict-spec =
+    tie.close
+    (tie.spec
+    Inv-loop
+    μ-loop
+    loop-holds
+    taken-requires
+    contradicted-requires
+    with-number-requires
+    loop-less
+    loop-again
+    loop-less-2
+    loop-again-2
+    returns)

@@ -1,0 +1,2 @@
+-- What the ways of a leaf are, and what taking the first of them gives.
+pub mod Leaves

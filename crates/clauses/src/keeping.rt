@@ -1,0 +1,90 @@
+//! The ways of a leaf that pass a test: what remains of them with more faults fixed, and those that a word of faults touches.
+//! Rests on `rules`, Leaf and Group. Only the numbers are kept, so no way is copied.
+ghost use mathlib.Core.Path.{_≡_};
+ghost use Prim.Native.Nat.{_≤_};
+ghost use lib.Bits.{bitOr};
+ghost use lib.ListN.{length};
+ghost use Rattle.rules.specs.Table.{rows};
+ghost use Rattle.rules.specs.Leaf;
+ghost use Rattle.rules.specs.Leaf.{remaining};
+ghost use Rattle.rules.specs.Group;
+ghost use Rattle.records.specs.Records.{inWords};
+ghost use Rattle.clauses.specs.Leaves.{waysOf, Within};
+use super::Clauses;
+use super::sets::select;
+use super::sets::with_number;
+use super::taking::faults;
+use super::taking::taken;
+use rules::Way;
+
+/// A fault fixed present that the way names absent, or fixed absent that it names present.
+fn contradicted(present: u64, absent: u64, v: Way) -> bool
+    ensures { λ r. ⌜ r ≡ Leaf.contradicted present absent v ⌝ }
+{
+    (v.present & absent) | (v.absent & present) != 0
+}
+
+/// What remains of the ways with more faults fixed, present (p) and absent (q).
+pub fn restrict(present: &[u64], absent: &[u64], c: Clauses, p: u64, q: u64) -> Clauses
+    requires { ⌜ Within (now present) (now absent) c ⌝ }
+    ensures { λ r. ⌜ (waysOf (now (present .entry)) (now (absent .entry)) r ≡ remaining p q (waysOf (now (present .entry)) (now (absent .entry)) c))
+        × Within (now (present .entry)) (now (absent .entry)) r × (r .present ≡ bitOr (c .present) p) × (r .absent ≡ bitOr (c .absent) q) ⌝ }
+{
+    let mut kept = Clauses {
+        low: 0,
+        high: 0,
+        present: c.present | p,
+        absent: c.absent | q,
+    };
+    let mut left = c;
+    while left.low | left.high != 0 {
+        let t = taken(present, absent, left);
+        let v = t.way;
+        left = t.others;
+        if !contradicted(p, q, v) {
+            kept = with_number(kept, v.number);
+        }
+    }
+    kept
+}
+
+/// What remains of the ways of a table whose numbers are in the set of two words, with faults fixed present (p) and absent (q).
+pub fn remaining_of(present: &[u64], absent: &[u64], a: u64, b: u64, p: u64, q: u64) -> Clauses
+    requires { ⌜ length (now present) ≤ 128 ⌝ }
+    requires { ⌜ length (now absent) ≡ length (now present) ⌝ }
+    ensures { λ r. ⌜ (waysOf (now (present .entry)) (now (absent .entry)) r ≡ remaining p q (Leaf.select (inWords a b) (rows 0 (now (present .entry)) (now (absent .entry)))))
+        × Within (now (present .entry)) (now (absent .entry)) r × (r .present ≡ p) × (r .absent ≡ q) ⌝ }
+{
+    restrict(present, absent, select(present, absent, a, b), p, q)
+}
+
+/// The way names one of the faults of the word.
+pub fn touches(m: u64, v: Way) -> bool
+    ensures { λ r. ⌜ r ≡ Group.touches m v ⌝ }
+{
+    m & faults(v) != 0
+}
+
+/// The ways that the word touches, or those that it does not.
+pub fn part(present: &[u64], absent: &[u64], c: Clauses, m: u64, touched: bool) -> Clauses
+    requires { ⌜ Within (now present) (now absent) c ⌝ }
+    ensures { λ r. ⌜ (waysOf (now (present .entry)) (now (absent .entry)) r ≡ Group.part touched m (waysOf (now (present .entry)) (now (absent .entry)) c))
+        × Within (now (present .entry)) (now (absent .entry)) r × (r .present ≡ c .present) × (r .absent ≡ c .absent) ⌝ }
+{
+    let mut kept = Clauses {
+        low: 0,
+        high: 0,
+        present: c.present,
+        absent: c.absent,
+    };
+    let mut left = c;
+    while left.low | left.high != 0 {
+        let t = taken(present, absent, left);
+        let v = t.way;
+        left = t.others;
+        if touched == touches(m, v) {
+            kept = with_number(kept, v.number);
+        }
+    }
+    kept
+}

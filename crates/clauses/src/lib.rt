@@ -1,0 +1,22 @@
+//! The ways of a leaf without a copy of them: which of a table's ways they are, and the faults that are fixed. Rests on `rules`, Leaf and Group.
+//! `sets` has the words, `taking` the first way and the others, `keeping` the ways that pass a test.
+pub mod keeping;
+pub mod sets;
+pub mod taking;
+
+use rules::Way;
+
+/// The ways of a leaf, in number order: those of a table with these numbers, less the fixed faults. A number below 64 is a bit of
+/// `low`, one from 64 on, less 64, a bit of `high`; `present` and `absent` are the words of the faults that are fixed so.
+pub struct Clauses {
+    pub low: u64,
+    pub high: u64,
+    pub present: u64,
+    pub absent: u64,
+}
+
+/// The first way of a leaf, and the others.
+pub struct Taken {
+    pub way: Way,
+    pub others: Clauses,
+}

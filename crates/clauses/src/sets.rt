@@ -1,0 +1,77 @@
+//! Sets of ways by number, as two words of bits: the numbers 0 to 63 and those from 64 on. Rests on `records`, Records.
+//! Numbers beyond the last way of the table are left out.
+ghost use mathlib.Core.Path.{_≡_};
+ghost use mathlib.Core.Bool.{_||_};
+ghost use Prim.Native.Nat.{ℕ, _-_, _<_, _≤_, _^_};
+ghost use lib.Dec.{eqb};
+ghost use lib.ListN.{length};
+ghost use Rattle.rules.specs.Table.{rows};
+ghost use Rattle.rules.specs.Leaf;
+ghost use Rattle.records.specs.Records.{inWords};
+ghost use Rattle.clauses.specs.Leaves.{waysOf, Within};
+use super::Clauses;
+
+/// The word with bit i alone.
+pub fn one_bit(i: usize) -> u64
+    requires { ⌜ i < 64 ⌝ }
+    ensures { λ r. ⌜ r ≡ 2 ^ i ⌝ }
+{
+    1 << i
+}
+
+/// The word with every bit below n.
+fn bits_below(n: usize) -> u64
+    requires { ⌜ n ≤ 64 ⌝ }
+    ensures { λ r. ⌜ r ≡ 2 ^ n - 1 ⌝ }
+{
+    if n < 64 { one_bit(n) - 1 } else { !0 }
+}
+
+/// The ways of a table whose numbers are in the set of two words, with no fault fixed.
+pub fn select(present: &[u64], absent: &[u64], a: u64, b: u64) -> Clauses
+    requires { ⌜ length (now present) ≤ 128 ⌝ }
+    requires { ⌜ length (now absent) ≡ length (now present) ⌝ }
+    ensures { λ r. ⌜ (waysOf (now (present .entry)) (now (absent .entry)) r ≡ Leaf.select (inWords a b) (rows 0 (now (present .entry)) (now (absent .entry))))
+        × Within (now (present .entry)) (now (absent .entry)) r × (r .present ≡ 0) × (r .absent ≡ 0) ⌝ }
+{
+    let n = present.len();
+    if n < 64 {
+        return Clauses {
+            low: a & bits_below(n),
+            high: 0,
+            present: 0,
+            absent: 0,
+        };
+    }
+    Clauses {
+        low: a,
+        high: b & bits_below(n - 64),
+        present: 0,
+        absent: 0,
+    }
+}
+
+/// All ways of a table.
+pub fn whole(present: &[u64], absent: &[u64]) -> Clauses
+    requires { ⌜ length (now present) ≤ 128 ⌝ }
+    requires { ⌜ length (now absent) ≡ length (now present) ⌝ }
+    ensures { λ r. ⌜ (waysOf (now (present .entry)) (now (absent .entry)) r ≡ rows 0 (now (present .entry)) (now (absent .entry)))
+        × Within (now (present .entry)) (now (absent .entry)) r × (r .present ≡ 0) × (r .absent ≡ 0) ⌝ }
+{
+    select(present, absent, !0, !0)
+}
+
+/// The numbers with one more.
+pub fn with_number(c: Clauses, i: usize) -> Clauses
+    requires { ⌜ i < 128 ⌝ }
+    ensures { λ r. ⌜ ((j : ℕ) → inWords (r .low) (r .high) j ≡ (eqb j i || inWords (c .low) (c .high) j))
+        × (r .present ≡ c .present) × (r .absent ≡ c .absent) ⌝ }
+{
+    let mut r = c;
+    if i < 64 {
+        r.low = c.low | one_bit(i);
+    } else {
+        r.high = c.high | one_bit(i - 64);
+    }
+    r
+}

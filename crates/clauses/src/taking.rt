@@ -1,0 +1,66 @@
+//! The first way of a leaf and the others: the loops over a leaf's ways take them off one by one, in number order.
+//! Rests on `rules`, Leaf, and on trailing_zeros, so that a loop's cost follows the number of its ways.
+ghost use mathlib.Core.Path.{_≡_};
+ghost use Prim.Native.Nat.{_<_};
+ghost use lib.Bits.{bitOr};
+ghost use lib.ListN.{length};
+ghost use Rattle.rules.specs.Table;
+ghost use Rattle.rules.specs.Leaf;
+ghost use Rattle.clauses.specs.Leaves.{fixedOf, row, Within, Takes};
+use super::Clauses;
+use super::Taken;
+use rules::Way;
+
+/// The faults that a way names, as a word.
+pub fn faults(v: Way) -> u64
+    ensures { λ r. ⌜ r ≡ Table.faults v ⌝ }
+{
+    v.present | v.absent
+}
+
+/// The way without the faults of the word.
+fn dropped(m: u64, v: Way) -> Way
+    ensures { λ r. ⌜ r ≡ Leaf.dropped m v ⌝ }
+{
+    Way {
+        number: v.number,
+        present: v.present & !m,
+        absent: v.absent & !m,
+    }
+}
+
+/// The way of the table with number i, without the fixed faults.
+fn way_at(present: &[u64], absent: &[u64], c: Clauses, i: usize) -> Way
+    requires { ⌜ (i < length (now present)) × (i < length (now absent)) ⌝ }
+    ensures { λ r. ⌜ r ≡ Leaf.dropped (fixedOf c) (row (now (present .entry)) (now (absent .entry)) i) ⌝ }
+{
+    let v = Way {
+        number: i,
+        present: present[i],
+        absent: absent[i],
+    };
+    dropped(c.present | c.absent, v)
+}
+
+/// Takes the first way off.
+pub fn taken(present: &[u64], absent: &[u64], c: Clauses) -> Taken
+    requires { ⌜ Within (now present) (now absent) c ⌝ }
+    requires { ⌜ (bitOr (c .low) (c .high) ≡ 0 → ⊥) ⌝ }
+    ensures { λ r. ⌜ Takes (now (present .entry)) (now (absent .entry)) c r ⌝ }
+{
+    let mut others = c;
+    if c.low != 0 {
+        let i = u64::trailing_zeros(c.low) as usize;
+        others.low = c.low & (c.low - 1);
+        return Taken {
+            way: way_at(present, absent, c, i),
+            others,
+        };
+    }
+    let i = 64 + u64::trailing_zeros(c.high) as usize;
+    others.high = c.high & (c.high - 1);
+    Taken {
+        way: way_at(present, absent, c, i),
+        others,
+    }
+}

@@ -1,0 +1,37 @@
+-- A leaf's ends as one value, the ways of its two children, and the faults that have a bit in a word.
+-- Rests on `rules`, Leaf and Tree, and on `clauses`, Leaves.
+use mathlib.Core.Path.{_≡_}
+use mathlib.Core.Bool.{Bool, true, false}
+use mathlib.Core.List.{List}
+use Prim.Native.Nat.{ℕ, _<_}
+use Rattle.rules.specs.Table.{indicator}
+use Rattle.rules.specs.Leaf.{leafLow, leafHigh, isOpen}
+use Rattle.rules.specs.Tree.{Side, left, right, child, childFixed}
+use Rattle.rules.specs.declared.Way.{Way}
+use Rattle.rules.specs.declared.Kind.{Kind}
+use Rattle.rules.specs.declared.Kind.the-variants.{IndependentOr, Shannon}
+use Rattle.clauses.specs.declared.Clauses.{Clauses}
+use Rattle.clauses.specs.Leaves.{waysOf, Within}
+use Rattle.formula.specs.declared.Ends.{Ends}
+use Rattle.formula.specs.declared.Children.{Children}
+
+-- The fault of a kind has a bit in a word.
+unfoldable pub FaultFits : Kind → Type 0
+FaultFits IndependentOr = Unit {0}
+FaultFits (Shannon f) = f < 64
+
+-- A leaf's ends, and whether it is open.
+unfoldable pub endsOf : List ℕ → List Way → Ends
+endsOf ws vs = record { low = leafLow ws vs; high = leafHigh ws vs; live = indicator (isOpen ws vs) }
+
+-- The ways of the child on one side of a leaf c that is refined so, with the faults that are fixed there.
+pub record Part (ps qs : List ℕ) (c : Clauses) (k : Kind) (b : Side) (d : Clauses) : Type 0 where
+  pub ways-are : waysOf ps qs d ≡ child k b (waysOf ps qs c)
+  pub present-is : d .present ≡ childFixed left k b (c .present)
+  pub absent-is : d .absent ≡ childFixed right k b (c .absent)
+  pub within : Within ps qs d
+
+-- And of both children.
+pub record Parts (ps qs : List ℕ) (c : Clauses) (k : Kind) (r : Children) : Type 0 where
+  pub on-left : Part ps qs c k left (r .left)
+  pub on-right : Part ps qs c k right (r .right)

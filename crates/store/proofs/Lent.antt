@@ -1,0 +1,85 @@
+-- The tree of lent words: it has 511 records, and words whose records and count are those of a tree are that tree.
+-- So a store of the count, and words that are all 0, give the tree that they should. Rests on the definitions of Lent.antt and the kit's lists.
+use mathlib.Core.Path.{_≡_, refl, sym, ap, _∙_}
+use mathlib.Core.List.{List, []}
+use Prim.Native.Nat.{ℕ, zero, suc, _+_, _*_, _<_}
+use native.Mathlib.Nat.{add-zero}
+use native.Mathlib.Omega.{arith}
+use lib.ListN.{length, getD, set, replicate, length-replicate, getD-replicate}
+use lib.Seq.{getD-set-same, getD-set-other, ext-getD}
+use Rattle.records.specs.Records.{blank, recordIn, noNodes}
+use Rattle.records.specs.declared.Tree.{Tree}
+use Rattle.store.specs.Lent.{nodeAt, nodesFrom, treeOf, withUsed}
+
+-- ---- the records of the words
+
+-- k records are k.
+nodes-long : (ws : List ℕ) (j k : ℕ) → length (nodesFrom ws j k) ≡ k
+unfolding nodesFrom
+nodes-long ws j zero = refl
+nodes-long ws j (suc k) = ap suc (nodes-long ws (suc j) k)
+
+-- Record i of them is record j + i of the words.
+nodes-at : (ws : List ℕ) (j k i : ℕ) → i < k → getD (nodesFrom ws j k) i blank ≡ nodeAt ws (j + i)
+unfolding nodesFrom
+nodes-at ws j zero i h = absurd (omega arith)
+nodes-at ws j (suc k) zero h = ap (nodeAt ws) (sym (add-zero j))
+nodes-at ws j (suc k) (suc i) h = nodes-at ws (suc j) k i (omega arith) ∙ ap (nodeAt ws) (omega arith)
+
+-- The tree has 511 records.
+pub long : (ws : List ℕ) → length (treeOf ws .nodes) ≡ 511
+unfolding treeOf
+long ws = nodes-long ws 0 511
+
+-- Its record i is in the words from 13i on.
+pub record-is : (ws : List ℕ) (i : ℕ) → i < 511 → recordIn (treeOf ws .nodes) i ≡ nodeAt ws i
+unfolding treeOf
+record-is ws i h = nodes-at ws 0 511 i h ∙ ap (nodeAt ws) (omega arith)
+
+-- Words whose records and count are those of a tree of 511 records are that tree.
+pub tree-is : (ws : List ℕ) (x : Tree) → length (x .nodes) ≡ 511 → ((i : ℕ) → i < 511 → nodeAt ws i ≡ recordIn (x .nodes) i) → getD ws 6643 0 ≡ x .used
+    → treeOf ws ≡ x
+unfolding treeOf
+tree-is ws x e f u =
+    let r = ext-getD blank (treeOf ws .nodes) (x .nodes) (long ws ∙ sym e) (λ i l. let h : i < 511 = omega (arith, long ws) in record-is ws i h ∙ f i h) in
+    λ i. record { nodes = r i; used = u i }
+
+-- Records of equal words are equal.
+pub same-record : (us ws : List ℕ) (i j : ℕ) → ((q : ℕ) → q < 13 → getD us (13 * i + q) 0 ≡ getD ws (13 * j + q) 0) → nodeAt us i ≡ nodeAt ws j
+same-record us ws i j f =
+    λ z. record {
+      kind = (ap (λ k. getD us k 0) (sym (add-zero (13 * i))) ∙ f 0 (omega arith) ∙ ap (λ k. getD ws k 0) (add-zero (13 * j))) z;
+      fault = f 1 (omega arith) z;
+      live = f 2 (omega arith) z;
+      parent = f 3 (omega arith) z;
+      left = f 4 (omega arith) z;
+      waysa = f 5 (omega arith) z;
+      waysb = f 6 (omega arith) z;
+      present = f 7 (omega arith) z;
+      absent = f 8 (omega arith) z;
+      low = f 9 (omega arith) z;
+      high = f 10 (omega arith) z;
+      ownlow = f 11 (omega arith) z;
+      ownhigh = f 12 (omega arith) z;
+    }
+
+-- ---- the count and no nodes
+
+-- The words with another count are the tree with that count.
+pub counted : (ws : List ℕ) (n : ℕ) → length ws ≡ 6644 → treeOf (set ws 6643 n) ≡ withUsed (treeOf ws) n
+counted ws n e =
+    tree-is (set ws 6643 n) (withUsed (treeOf ws) n) (long ws)
+    (λ i h. same-record (set ws 6643 n) ws i i (λ q l. getD-set-other ws 6643 (13 * i + q) n 0 (λ z. omega arith)) ∙ sym (record-is ws i h))
+    (getD-set-same ws 6643 n 0 (omega arith))
+
+-- Words that are all 0 are the tree without nodes. Their number is a variable, so that nothing is computed for each of them.
+all-zero : (k : ℕ) → k ≡ 6644 → treeOf (replicate k 0) ≡ noNodes
+unfolding noNodes
+all-zero k e =
+    tree-is (replicate k 0) noNodes (length-replicate 511 blank)
+    (λ i h. same-record (replicate k 0) [] i 0 (λ q l. getD-replicate k (13 * i + q) 0 0 (omega arith)) ∙ sym (getD-replicate 511 i blank blank h))
+    (getD-replicate k 6643 0 0 (omega arith))
+
+-- The same at the number of the words.
+pub cleared : treeOf (replicate 6644 0) ≡ noNodes
+cleared = all-zero 6644 refl

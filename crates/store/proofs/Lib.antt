@@ -1,0 +1,5 @@
+-- Laws on the tree of lent words that the functions' proofs rest on.
+-- Those marked pub are for the proofs of callers too.
+pub mod Lent
+mod Stores
+mod Loading

@@ -1,0 +1,76 @@
+-- A record's 13 words, stored one after the other, give the tree with that record.
+-- Rests on the laws of Lent.antt and the kit's laws of `set`.
+use mathlib.Core.Path.{_≡_, refl, sym, ap, _∙_}
+use mathlib.Core.List.{List, [], _∷_}
+use Prim.Native.Nat.{ℕ, zero, suc, _+_, _*_, _≤_, _<_}
+use native.Mathlib.Nat.{add-zero, zero-add}
+use native.Mathlib.Decide.{ℕ-discrete}
+use native.Mathlib.Omega.{arith}
+use lib.ListN.{length, getD, set, length-set}
+use lib.Seq.{getD-set-same, getD-set-other}
+use Rattle.records.specs.Records.{blank, recordIn}
+use Rattle.records.specs.declared.Node.{Node}
+use Rattle.store.specs.Lent.{nodeAt, treeOf, withRecord}
+use Rattle.store.proofs.Lent.{long, record-is, tree-is, same-record}
+
+-- Numbers stored one after the other from word i + k on.
+unfoldable pub stores : List ℕ → ℕ → ℕ → List ℕ → List ℕ
+stores ws i k [] = ws
+stores ws i k (x ∷ xs) = stores (set ws (i + k) x) i (suc k) xs
+
+-- Every other word stays.
+kept : (xs ws : List ℕ) (i k p : ℕ) → ((q : ℕ) → k ≤ q → q < k + length xs → p ≡ i + q → ⊥) → getD (stores ws i k xs) p 0 ≡ getD ws p 0
+unfolding stores
+kept [] ws i k p f = refl
+kept (x ∷ xs) ws i k p f =
+    kept xs (set ws (i + k) x) i (suc k) p (λ q l h. f q (omega arith) (omega arith)) ∙ getD-set-other ws (i + k) p x 0 (f k (omega arith) (omega arith))
+
+-- And the stored ones are there.
+found : (xs ws : List ℕ) (i k : ℕ) → i + k + length xs ≤ length ws → (m : ℕ) → m < length xs → getD (stores ws i k xs) (i + (k + m)) 0 ≡ getD xs m 0
+unfolding stores
+found [] ws i k fits m h = absurd (omega arith)
+found (x ∷ xs) ws i k fits zero h =
+    kept xs (set ws (i + k) x) i (suc k) (i + (k + 0)) (λ q l r z. omega arith)
+    ∙ ap (λ p. getD (set ws (i + k) x) (i + p) 0) (add-zero k)
+    ∙ getD-set-same ws (i + k) x 0 (omega arith)
+found (x ∷ xs) ws i k fits (suc m) h =
+    ap (λ p. getD (stores (set ws (i + k) x) i (suc k) xs) p 0) (omega arith)
+    ∙ found xs (set ws (i + k) x) i (suc k) (omega (arith, length-set ws (i + k) x)) m (omega arith)
+
+-- The words of a record after its first.
+abbrev pub others : Node → List ℕ
+others n =
+    n .fault ∷ n .live ∷ n .parent ∷ n .left ∷ n .waysa ∷ n .waysb ∷ n .present ∷ n .absent ∷ n .low ∷ n .high ∷ n .ownlow ∷ n .ownhigh ∷ []
+
+module _ (ws : List ℕ) (j : ℕ) (n : Node) (h : j < 511) (e : length ws ≡ 6644) where
+  -- The words with the record stored.
+  us : List ℕ
+  us = stores ws (13 * j) 0 (n .kind ∷ others n)
+
+  -- Record j is the one that was stored.
+  there : nodeAt us j ≡ n
+  unfolding us
+  there =
+      same-record us (n .kind ∷ others n) j 0
+      (λ q l. ap (λ p. getD us (13 * j + p) 0) (sym (zero-add q)) ∙ found (n .kind ∷ others n) ws (13 * j) 0 (omega arith) q l ∙ ap (λ p. getD (n .kind ∷ others n) p 0) (sym (zero-add q)))
+
+  -- Every other record is as it was.
+  elsewhere : (i : ℕ) → (i ≡ j → ⊥) → nodeAt us i ≡ nodeAt ws i
+  unfolding us
+  elsewhere i f = same-record us ws i i (λ q l. kept (n .kind ∷ others n) ws (13 * j) 0 (13 * i + q) (λ p a b z. f (omega arith)))
+
+  -- So the tree is the one with that record.
+  stored : treeOf us ≡ withRecord (treeOf ws) j n
+  unfolding us treeOf
+  stored =
+      tree-is us (withRecord (treeOf ws) j n) (length-set (treeOf ws .nodes) j n ∙ long ws) (λ i l. by i l (ℕ-discrete i j))
+      (kept (n .kind ∷ others n) ws (13 * j) 0 6643 (λ q a b z. omega arith))
+    where
+      by : (i : ℕ) → i < 511 → Dec (i ≡ j) → nodeAt us i ≡ recordIn (set (treeOf ws .nodes) j n) i
+      by i l (yes z) = ap (nodeAt us) z ∙ there ∙ sym (getD-set-same (treeOf ws .nodes) j n blank (omega (arith, long ws))) ∙ ap (recordIn (set (treeOf ws .nodes) j n)) (sym z)
+      by i l (no f) = elsewhere i f ∙ sym (record-is ws i l) ∙ sym (getD-set-other (treeOf ws .nodes) j i n blank f)
+
+  -- The same of the stores as the code makes them, the first at word 13j.
+  pub written : treeOf (stores (set ws (13 * j) (n .kind)) (13 * j) 1 (others n)) ≡ withRecord (treeOf ws) j n
+  unfolding stores us
+  written = ap (λ p. treeOf (stores (set ws p (n .kind)) (13 * j) 1 (others n))) (sym (add-zero (13 * j))) ∙ stored
