@@ -34,13 +34,16 @@ rest-even-half m l e =
 
 -- ---- a chance whose words are cut down to the faults of m
 
+-- The chance from c on, by the faults of m alone.
 abbrev pub left : Dir → List ℕ → ℕ → ℕ → ℕ → ℕ → ℕ
 left d ws p q m c = chanceFrom d ws (bitAnd p m) (bitAnd q m) c
 
+-- Half of a common part.
 and-half : (x y : ℕ) → bitAnd x y / 2 ≡ bitAnd (x / 2) (y / 2)
 and-half x y = omega (arith, and-step x y)
 
 module _ (d : Dir) (w : ℕ) (ws : List ℕ) (p q m c : ℕ) where
+  -- Fault 0 counts as the cut words say (x, y), and the others follow.
   halves : (x y : Bool) → odd (bitAnd p m) ≡ x → odd (bitAnd q m) ≡ y → left d (w ∷ ws) p q m c ≡ left d ws (p / 2) (q / 2) (m / 2) (step d w x y c)
   halves x y e f = rw (e, f, and-half p m, and-half q m)
 
@@ -101,16 +104,19 @@ no-fault d (suc k) (w ∷ ws) p q m c h = go (m % 2) refl h (no-fault d k ws (p 
 
 -- ---- the start: all faults that the words name
 
+-- What is in one of two sets is in both together.
 and-or-first : (x y : Bool) → x && (x || y) ≡ x
 and-or-first true y = refl
 and-or-first false y = refl
 
+-- And so for the other.
 and-or-second : (x y : Bool) → y && (x || y) ≡ y
 and-or-second true true = refl
 and-or-second true false = refl
 and-or-second false true = refl
 and-or-second false false = refl
 
+-- So cutting the words down to all faults that they name changes nothing.
 pub all-faults : (d : Dir) (ws : List ℕ) (p q c : ℕ) → left d ws p q (bitOr p q) c ≡ chanceFrom d ws p q c
 all-faults d ws p q c =
     ap₂ (λ (x y : ℕ). chanceFrom d ws x y c)

@@ -12,6 +12,7 @@ use Rattle.rules.specs.Rounding.{S}
 use Rattle.rules.specs.Refusals.{overweight, someAbove}
 use Rattle.rules.proofs.Booleans.{or-left, or-right}
 
+-- Weight i is at most S, and so is the 0 past the end.
 pub weight-le : (ws : List ℕ) (i : ℕ) → overweight ws ≡ false → getD ws i 0 ≤ S
 unfolding overweight someAbove
 weight-le [] i h = omega arith

@@ -1,2 +1,3 @@
 -- How the code says a direction of rounding.
+-- Rests on the definitions of `rules`.
 pub mod Directions

@@ -1,34 +1,30 @@
--- The ways of a leaf that pass a test, kept by their numbers alone: the loop that takes the ways one by one, and the list of ways that its numbers stand for.
--- Said once over the test. Rests on the definitions of Leaves.antt, and on `rules`, Remaining, for faults dropped after others.
+-- The ways of a leaf that pass a test, kept by their numbers alone: the loop that takes the ways one by one.
+-- Said once over the test. Rests on Selected.antt and Pairs.antt, and on `rules`, Remaining, for faults dropped after others.
 use mathlib.Core.Path.{_≡_, refl, sym, ap, ap₂, _∙_}
 use mathlib.Core.Bool.{Bool, true, false, not, _&&_, _||_, Bool·beq}
 use mathlib.Core.List.{List, [], _∷_, map}
-use Prim.Native.Nat.{ℕ, suc, _+_, _-_, _<_}
+use Prim.Native.Nat.{ℕ, _<_}
 use native.Mathlib.Omega.{arith}
-use lib.ListN.{length, getD}
+use lib.ListN.{length}
 use lib.Bits.{bitOr}
-use lib.Dec.{eqb, ltb}
+use lib.Dec.{eqb}
 use borrow.Author.Tests.{eqb-true, eq-eqb}
 use Rattle.rules.specs.declared.Way.{Way}
-use Rattle.rules.specs.Table.{bit, rows, absentRows}
+use Rattle.rules.specs.Table.{rows}
 use Rattle.rules.specs.Leaf.{select, contradicted, dropped, remaining}
 use Rattle.rules.specs.Group.{touches, part}
 use Rattle.rules.proofs.Booleans.{and-left, and-false, or-first}
-use Rattle.rules.proofs.Bits.{bit-zero, or-zero}
 use Rattle.rules.proofs.Remaining.{dropped-twice, or-regroup}
 use Rattle.records.specs.Records.{inWords}
 use Rattle.clauses.specs.declared.Clauses.{Clauses}
 use Rattle.clauses.specs.declared.Taken.{Taken}
 use Rattle.clauses.specs.Leaves.{fixedOf, row, waysOf, Within, Takes}
+use Rattle.clauses.proofs.Pairs.{in-none}
+use Rattle.clauses.proofs.Selected.{each-row, passing, select-passing}
 
--- ---- lists of ways
+-- ---- the ways that pass
 
--- The ways that pass the test, each changed by h.
-abbrev pub passing : (Way → Bool) → (Way → Way) → List Way → List Way
-passing f h [] = []
-passing f h (v ∷ vs) = elim (f v) as (λ b. List Way) [ true ↦ h v ∷ passing f h vs | false ↦ passing f h vs ]
-
--- What remains of ways is such a list.
+-- What remains of ways is what is not contradicted, without the fixed faults.
 pub passing-remaining : (p q : ℕ) (vs : List Way) → passing (λ v. not (contradicted p q v)) (dropped (bitOr p q)) vs ≡ remaining p q vs
 unfolding remaining
 passing-remaining p q [] = refl
@@ -40,55 +36,13 @@ passing-remaining p q (v ∷ vs) = by (contradicted p q v) (passing-remaining p 
     by true e = e
     by false e = ap (λ (us : List Way). dropped (bitOr p q) v ∷ us) e
 
--- So are those that a word touches, and those that it does not.
+-- The part that a word touches, or does not, is what a test for that passes.
 pub passing-part : (b : Bool) (m : ℕ) (vs : List Way) → passing (λ v. Bool·beq b (touches m v)) (λ v. v) vs ≡ part b m vs
 passing-part b m [] = refl
 passing-part b m (v ∷ vs) =
     ap (λ (us : List Way). elim (Bool·beq b (touches m v)) as (λ c. List Way) [ true ↦ v ∷ us | false ↦ us ]) (passing-part b m vs)
 
--- Every way of a list has a property.
-abbrev Each : (Way → Type 0) → List Way → Type 0
-Each Q [] = Unit {0}
-Each Q (v ∷ vs) = Q v × Each Q vs
-
--- What holds of every number's way holds of every way of the table.
-each-row : (Q : Way → Type 0) (j : ℕ) (ps qs : List ℕ) → length qs ≡ length ps
-    → ((i k : ℕ) → k ≡ j + i → Q (record { number = k; present = getD ps i 0; absent = getD qs i 0 })) → Each Q (rows j ps qs)
-unfolding rows absentRows
-each-row Q j [] [] e h = tt
-each-row Q j [] (q ∷ qs) e h = absurd (omega arith)
-each-row Q j (p ∷ ps) [] e h = absurd (omega arith)
-each-row Q j (p ∷ ps) (q ∷ qs) e h = (h 0 j (omega arith), each-row Q (suc j) ps qs (omega arith) (λ i k l. h (suc i) k (omega arith)))
-
--- Numbers chosen by another choice and a test of their ways: the chosen ways are those of the other choice that pass.
-module _ (K C : ℕ → Bool) (f : Way → Bool) (h : Way → Way) (m M : ℕ) (more : (v : Way) → h (dropped m v) ≡ dropped M v) where
-  select-passing : (vs : List Way) → Each (λ v. K (v .number) ≡ C (v .number) && f (dropped m v)) vs
-      → map (dropped M) (select K vs) ≡ passing f h (map (dropped m) (select C vs))
-  unfolding select
-  select-passing [] e = refl
-  select-passing (v ∷ vs) e = by (K (v .number)) (C (v .number)) (f (dropped m v)) refl (e .0) (select-passing vs (e .1))
-    where
-      by : (k c b : Bool) → f (dropped m v) ≡ b → k ≡ c && b → map (dropped M) (select K vs) ≡ passing f h (map (dropped m) (select C vs))
-          → map (dropped M) (elim k as (λ b. List Way) [ true ↦ v ∷ select K vs | false ↦ select K vs ])
-          ≡ passing f h (map (dropped m) (elim c as (λ b. List Way) [ true ↦ v ∷ select C vs | false ↦ select C vs ]))
-      by k true true d e ih = rw (e, d) (ap₂ (λ (x : Way) (y : List Way). x ∷ y) (sym (more v)) ih)
-      by k true false d e ih = rw (e, d) ih
-      by k false b d e ih = rw e ih
-
 -- ---- the numbers
-
--- Words of 0 have no number.
-no-number : (i : ℕ) → inWords 0 0 i ≡ false
-unfolding inWords
-no-number i = by (ltb i 64)
-  where
-    by : (b : Bool) → (elim b as (λ x. Bool) [ true ↦ bit i 0 | false ↦ bit (i - 64) 0 ]) ≡ false
-    by true = bit-zero i
-    by false = bit-zero (i - 64)
-
--- Nor have words that joined are 0.
-none : (a b : ℕ) → bitOr a b ≡ 0 → (i : ℕ) → inWords a b i ≡ false
-none a b h i = let z = or-zero a b h in ap₂ (λ (x y : ℕ). inWords x y i) (z .0) (z .1) ∙ no-number i
 
 -- One number (e) goes from those left (o, and this one) to those kept (k), if it passes (b).
 one-over : (b e k o g : Bool) → (e ≡ true → g ≡ b) → ((b && e) || k) || (o && g) ≡ k || ((e || o) && g)
@@ -126,7 +80,7 @@ module _ (ps qs : List ℕ) (f : Way → Bool) (c : Clauses) where
       → Sifting (record { low = 0; high = 0; present = P; absent = A }) (record { low = 0; high = 0; present = P; absent = A }) c
   begun P A w =
       record {
-        numbers = λ i. ap (λ (b : Bool). b || (inWords (c .low) (c .high) i && passes i)) (no-number i);
+        numbers = λ i. ap (λ (b : Bool). b || (inWords (c .low) (c .high) i && passes i)) (in-none 0 0 refl i);
         kept-present = refl;
         kept-absent = refl;
         left-present = refl;
@@ -167,7 +121,7 @@ module _ (ps qs : List ℕ) (f : Way → Bool) (c : Clauses) where
       all-kept : (i : ℕ) → inWords (kept .low) (kept .high) i ≡ inWords (c .low) (c .high) i && passes i
       all-kept i =
           sym (or-none (inWords (kept .low) (kept .high) i))
-          ∙ sym (ap (λ (x : Bool). inWords (kept .low) (kept .high) i || (x && passes i)) (none (left .low) (left .high) z i))
+          ∙ sym (ap (λ (x : Bool). inWords (kept .low) (kept .high) i || (x && passes i)) (in-none (left .low) (left .high) z i))
           ∙ s .numbers i
         where
           or-none : (x : Bool) → x || false ≡ x
@@ -182,7 +136,7 @@ module _ (ps qs : List ℕ) (f : Way → Bool) (c : Clauses) where
         ap (λ (m : ℕ). map (dropped m) (select (inWords (kept .low) (kept .high)) (rows 0 ps qs))) (ap₂ bitOr (s .kept-present) (s .kept-absent))
             ∙ select-passing (inWords (kept .low) (kept .high)) (inWords (c .low) (c .high)) f h (fixedOf c) (fixedOf kept₀) more (rows 0 ps qs)
             (each-row (λ v. inWords (kept .low) (kept .high) (v .number) ≡ inWords (c .low) (c .high) (v .number) && f (dropped (fixedOf c) v)) 0 ps qs (w .paired)
-            (λ i k e. let l : i ≡ k = omega arith in rw l (all-kept k))),
+            (λ i k b e. let l : i ≡ k = omega arith in rw l (all-kept k))),
         record {
           short = w .short;
           paired = w .paired;

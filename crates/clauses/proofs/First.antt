@@ -1,18 +1,20 @@
 -- The first number of a set: the lowest set bit of a word, and of two words, and the set without it.
--- Rests on `chances`, Lowest, for a word without its lowest bit, and on the kit's count of trailing zeros.
+-- Rests on `chances`, Lowest, for a word without its lowest bit, on the kit's count of trailing zeros, and on Pairs.antt.
 use mathlib.Core.Path.{_≡_, refl, sym, ap, ap₂, _∙_}
-use mathlib.Core.Bool.{Bool, true, false, _||_}
-use Prim.Native.Nat.{ℕ, zero, suc, _+_, _-_, _/_, _%_, _^_, _≤_, _<_}
+use mathlib.Core.Bool.{Bool, true, false, _||_, true≢false}
+use Prim.Native.Nat.{ℕ, zero, suc, _+_, _-_, _/_, _%_, _^_, _<_}
+use native.Mathlib.Decide.{decLt}
 use native.Mathlib.Omega.{arith}
 use lib.Bits.{bitAnd, bitOr}
 use lib.Count.{trailingZeros, under}
-use lib.Dec.{eqb, ltb, eqb·zero-suc, eqb·suc-zero, eqb·suc-suc}
-use borrow.Author.Tests.{ltb-true, ltb-false, lt-ltb, le-ltb, eqb-true, eq-eqb, ne-eqb}
+use lib.Dec.{eqb, eqb·zero-suc, eqb·suc-zero, eqb·suc-suc}
+use borrow.Author.Tests.{eq-eqb, ne-eqb}
 use Rattle.rules.specs.Table.{odd, bit}
-use Rattle.rules.proofs.Booleans.{same-test, or-right, or-first, or-second}
-use Rattle.rules.proofs.Bits.{bit-zero}
+use Rattle.rules.proofs.Booleans.{or-right, or-first, or-second}
+use Rattle.rules.proofs.Bits.{bit-zero, bit-high}
 use Rattle.records.specs.Records.{inWords}
 use Rattle.chances.proofs.Lowest.{rest-even, rest-odd-half, rest-even-half}
+use Rattle.clauses.proofs.Pairs.{in-low, in-high, one-low, one-high}
 
 -- The number n is the first that passes P, and Q passes the others.
 pub record First (P Q : ℕ → Bool) (n : ℕ) : Type 0 where
@@ -38,16 +40,6 @@ module _ {P Q : ℕ → Bool} {n : ℕ} (f : First P Q n) where
   same-beyond j l = f .numbers j ∙ ap (λ (b : Bool). b || Q j) (ne-eqb j n (λ e. omega arith))
 
 -- ---- a word
-
--- The lowest set bit is one of the word's k bits.
-pub lowest-below : (k m : ℕ) → 0 < m → m < 2 ^ k → trailingZeros k m < k
-unfolding trailingZeros
-lowest-below zero m pos fits = absurd (omega arith)
-lowest-below (suc k) m pos fits = go (m % 2) refl (λ l. lowest-below k (m / 2) l (omega arith))
-  where
-    go : (r : ℕ) → m % 2 ≡ r → (0 < m / 2 → trailingZeros k (m / 2) < k) → under r (trailingZeros k (m / 2)) < suc k
-    go zero e ih = omega (arith, ih (omega arith))
-    go (suc r) e ih = omega arith
 
 -- The set bits of a word: the lowest, and those that stay without it.
 pub lowest : (k m : ℕ) → 0 < m → m < 2 ^ k → First (λ j. bit j m) (λ j. bit j (bitAnd m (m - 1))) (trailingZeros k m)
@@ -88,30 +80,25 @@ lowest (suc k) m pos fits = go (m % 2) refl (λ l. lowest k (m / 2) l (omega ari
         all (suc j) = rw (rest-odd-half m e, eqb·suc-zero j) refl
     go (suc (suc r)) e ih = absurd (omega arith)
 
+-- The lowest is one of the word's k bits.
+pub lowest-below : (k m : ℕ) → 0 < m → m < 2 ^ k → trailingZeros k m < k
+lowest-below k m pos fits = by (decLt (trailingZeros k m) k)
+  where
+    by : Dec (trailingZeros k m < k) → trailingZeros k m < k
+    by (yes g) = g
+    by (no g) = absurd (true≢false (sym (is-one (lowest k m pos fits)) ∙ bit-high k (trailingZeros k m) m (omega arith) fits))
+
 -- ---- two words
 
--- What a test of two words says of a number below 64, and of one from 64 on.
-pub in-low : (a b j : ℕ) → j < 64 → inWords a b j ≡ bit j a
-unfolding inWords
-in-low a b j l = rw (inWords, lt-ltb j 64 l) refl
-
-pub in-high : (a b j : ℕ) → 64 ≤ j → inWords a b j ≡ bit (j - 64) b
-unfolding inWords
-in-high a b j l = rw (inWords, le-ltb j 64 l) refl
-
--- Two words that are 0 have no number.
-pub in-none : (a b j : ℕ) → a ≡ 0 → b ≡ 0 → inWords a b j ≡ false
-unfolding inWords
-in-none a b j e f = by (ltb j 64)
-  where
-    by : (x : Bool) → (elim x as (λ x. Bool) [ true ↦ bit j a | false ↦ bit (j - 64) b ]) ≡ false
-    by true = rw e (bit-zero j)
-    by false = rw f (bit-zero (j - 64))
-
 module _ (a b : ℕ) where
-  -- The first number is in the first word, if that has one.
+  -- The first number is in the low word, if that has one.
   pub first-low : 0 < a → a < 2 ^ 64 → First (inWords a b) (inWords (bitAnd a (a - 1)) b) (trailingZeros 64 a)
-  first-low pos fits = record { before = low; numbers = λ j. all j (ltb j 64) refl; gone = in-low rest b t inside ∙ f .gone }
+  first-low pos fits =
+      record {
+        before = λ j l. in-low a b j (omega (arith, l, inside)) ∙ f .before j l;
+        numbers = one-low rest b a t inside (f .numbers);
+        gone = in-low rest b t inside ∙ f .gone;
+      }
     where
       t : ℕ
       t = trailingZeros 64 a
@@ -125,21 +112,18 @@ module _ (a b : ℕ) where
       inside : t < 64
       inside = lowest-below 64 a pos fits
 
-      low : (j : ℕ) → j < t → inWords a b j ≡ false
-      low j l = in-low a b j (omega (arith, l, inside)) ∙ f .before j l
-
-      all : (j : ℕ) (x : Bool) → ltb j 64 ≡ x → inWords a b j ≡ (eqb j t || inWords rest b j)
-      all j true e = let l : j < 64 = ltb-true j 64 e in rw (in-low a b j l, in-low rest b j l) (f .numbers j)
-      all j false e =
-          let l : 64 ≤ j = ltb-false j 64 e in
-          rw (in-high a b j l, in-high rest b j l, ne-eqb j t (λ q. omega (arith, l, inside, q))) refl
-
-  -- Else it is in the second.
+  -- Else the high word has one.
   pub second : (bitOr a b ≡ 0 → ⊥) → a ≡ 0 → 0 < b
   second h z = let q : b ≡ 0 → ⊥ = λ e. h (ap₂ bitOr z e) in omega arith
 
+  -- And the first is there.
   pub first-high : (bitOr a b ≡ 0 → ⊥) → a ≡ 0 → b < 2 ^ 64 → First (inWords a b) (inWords a (bitAnd b (b - 1))) (64 + trailingZeros 64 b)
-  first-high h z fits = record { before = λ j. low j (ltb j 64) refl; numbers = λ j. all j (ltb j 64) refl; gone = none }
+  first-high h z fits =
+      record {
+        before = λ j l. low j l (decLt j 64);
+        numbers = one-high a rest b (64 + t) t refl (f .numbers);
+        gone = let e : 64 + t - 64 ≡ t = omega arith in in-high a rest (64 + t) (omega arith) ∙ ap (λ (i : ℕ). bit i rest) e ∙ f .gone;
+      }
     where
       t : ℕ
       t = trailingZeros 64 b
@@ -150,20 +134,6 @@ module _ (a b : ℕ) where
       f : First (λ j. bit j b) (λ j. bit j rest) t
       f = lowest 64 b (second h z) fits
 
-      low : (j : ℕ) (x : Bool) → ltb j 64 ≡ x → j < 64 + t → inWords a b j ≡ false
-      low j true e l = in-low a b j (ltb-true j 64 e) ∙ ap (bit j) z ∙ bit-zero j
-      low j false e l = let h : 64 ≤ j = ltb-false j 64 e in in-high a b j h ∙ f .before (j - 64) (omega arith)
-
-      less : (j : ℕ) → 64 ≤ j → eqb (j - 64) t ≡ eqb j (64 + t)
-      less j h =
-          same-test _ _ (λ q. eq-eqb j (64 + t) (omega (arith, h, eqb-true (j - 64) t q)))
-          (λ q. eq-eqb (j - 64) t (omega (arith, h, eqb-true j (64 + t) q)))
-
-      all : (j : ℕ) (x : Bool) → ltb j 64 ≡ x → inWords a b j ≡ (eqb j (64 + t) || inWords a rest j)
-      all j true e =
-          let l : j < 64 = ltb-true j 64 e in
-          rw (in-low a b j l, in-low a rest j l, ne-eqb j (64 + t) (λ q. omega (arith, l, q))) refl
-      all j false e = let h : 64 ≤ j = ltb-false j 64 e in rw (in-high a b j h, in-high a rest j h, ← (less j h)) (f .numbers (j - 64))
-
-      none : inWords a rest (64 + t) ≡ false
-      none = let e : 64 + t - 64 ≡ t = omega arith in in-high a rest (64 + t) (omega arith) ∙ ap (λ (i : ℕ). bit i rest) e ∙ f .gone
+      low : (j : ℕ) → j < 64 + t → Dec (j < 64) → inWords a b j ≡ false
+      low j l (yes g) = in-low a b j g ∙ ap (bit j) z ∙ bit-zero j
+      low j l (no g) = in-high a b j (omega arith) ∙ f .before (j - 64) (omega arith)

@@ -1,10 +1,8 @@
 -- Laws on the ways of a leaf that the functions' proofs rest on.
 -- Those marked pub are for the proofs of callers too.
-mod Back
-mod Chosen
 mod Filter
 pub mod First
 pub mod Loops
 mod Pairs
 mod Selected
-pub mod Words
+mod Words

@@ -1,6 +1,7 @@
 -- Loops over the ways of a leaf, which take them off one by one: one turn, the end, how many turns there are; and the words of their numbers.
--- Rests on the definitions of Leaves.antt, and on Back.antt for the words.
-use mathlib.Core.Path.{_≡_, sym, ap, _∙_}
+-- Rests on Selected.antt and Pairs.antt, and on `records`, Words, for the words of some ways.
+use mathlib.Core.Path.{_≡_, refl, sym, ap, _∙_}
+use mathlib.Core.Bool.{Bool, true, false, _&&_}
 use mathlib.Core.List.{List, [], _∷_, map}
 use Prim.Native.Nat.{ℕ, _≤_, _<_, _^_}
 use native.Mathlib.Omega.{arith}
@@ -8,40 +9,31 @@ use lib.ListN.{length, length-map}
 use lib.Bits.{bitOr}
 use Rattle.rules.specs.declared.Way.{Way}
 use Rattle.rules.specs.Table.{rows}
-use Rattle.rules.specs.Leaf.{select, dropped}
-use Rattle.rules.proofs.Bits.{or-zero}
+use Rattle.rules.specs.Leaf.{select, hasNumber, dropped}
+use Rattle.rules.proofs.Booleans.{and-true, and-false}
 use Rattle.records.specs.Records.{lowWord, highWord, inWords}
+use Rattle.records.proofs.Words.{words-number, low-fits}
 use Rattle.clauses.specs.declared.Clauses.{Clauses}
 use Rattle.clauses.specs.declared.Taken.{Taken}
 use Rattle.clauses.specs.Leaves.{fixedOf, waysOf, Within, Takes}
-use Rattle.clauses.proofs.Back.{low-same, high-same}
-use Rattle.clauses.proofs.First.{in-none}
-use Rattle.clauses.proofs.Chosen.{select-none, select-few}
+use Rattle.clauses.proofs.Pairs.{in-none, same-low, same-high}
+use Rattle.clauses.proofs.Selected.{rows-number, select-number, dropped-number, select-none, select-few}
 
 module _ (ps qs : List ℕ) (c : Clauses) where
+  -- The test that selects the ways.
+  abbrev chosen : ℕ → Bool
+  chosen = inWords (c .low) (c .high)
+
   -- With no number there is no way.
   pub none-left : bitOr (c .low) (c .high) ≡ 0 → waysOf ps qs c ≡ []
   unfolding waysOf
-  none-left h =
-      ap (map (dropped (fixedOf c)))
-      (select-none (inWords (c .low) (c .high)) (λ j. in-none (c .low) (c .high) j (both .0) (both .1)) (rows 0 ps qs))
-    where
-      both : (c .low ≡ 0) × (c .high ≡ 0)
-      both = or-zero (c .low) (c .high) h
+  none-left h = ap (map (dropped (fixedOf c))) (select-none chosen (in-none (c .low) (c .high) h) (rows 0 ps qs))
 
   -- There are at most 128 ways.
   pub few : Within ps qs c → length (waysOf ps qs c) ≤ 128
   unfolding waysOf
   few w =
-      let P = inWords (c .low) (c .high) in
-      omega (arith, length-map (select P (rows 0 ps qs)) (dropped (fixedOf c)), select-few P 0 ps qs (w .paired), w .short)
-
-  -- The numbers of the ways, as words, are those that the ways were taken by.
-  pub low-back : Within ps qs c → c .low < 2 ^ 64 → lowWord (waysOf ps qs c) ≡ c .low
-  low-back w h = low-same ps qs c w h
-
-  pub high-back : Within ps qs c → c .high < 2 ^ 64 → highWord (waysOf ps qs c) ≡ c .high
-  high-back w h = high-same ps qs c w
+      omega (arith, length-map (select chosen (rows 0 ps qs)) (dropped (fixedOf c)), select-few chosen 0 ps qs (w .paired), w .short)
 
   -- A turn leaves one way fewer.
   pub fewer : (t : Taken) → Takes ps qs c t → length (waysOf ps qs (t .others)) < length (waysOf ps qs c)
@@ -55,3 +47,23 @@ module _ (ps qs : List ℕ) (c : Clauses) where
     -- The end of it.
     pub ended : {R : A} → bitOr (c .low) (c .high) ≡ 0 → f (waysOf ps qs c) ≡ R → f [] ≡ R
     ended h inv = sym (ap f (none-left h)) ∙ inv
+
+  -- ---- the words of the ways' numbers
+
+  -- The ways' own words have the numbers that the ways were taken by.
+  same-numbers : Within ps qs c → (i : ℕ) → inWords (lowWord (waysOf ps qs c)) (highWord (waysOf ps qs c)) i ≡ chosen i
+  unfolding waysOf
+  same-numbers w i =
+      words-number (waysOf ps qs c) i ∙ dropped-number (fixedOf c) (select chosen (rows 0 ps qs)) i ∙ select-number chosen (rows 0 ps qs) i ∙ by (chosen i) refl
+    where
+      by : (b : Bool) → chosen i ≡ b → hasNumber (rows 0 ps qs) i && b ≡ b
+      by true e = and-true (hasNumber (rows 0 ps qs) i) ∙ rows-number 0 i ps qs (omega arith) (omega (arith, w .inside i e))
+      by false e = and-false (hasNumber (rows 0 ps qs) i)
+
+  -- So the low word is the same.
+  pub low-back : Within ps qs c → c .low < 2 ^ 64 → lowWord (waysOf ps qs c) ≡ c .low
+  low-back w h = same-low (lowWord (waysOf ps qs c)) (highWord (waysOf ps qs c)) (c .low) (c .high) (same-numbers w) (low-fits (waysOf ps qs c)) h
+
+  -- And so is the high one.
+  pub high-back : Within ps qs c → c .high < 2 ^ 64 → highWord (waysOf ps qs c) ≡ c .high
+  high-back w h = same-high (lowWord (waysOf ps qs c)) (highWord (waysOf ps qs c)) (c .low) (c .high) (same-numbers w)

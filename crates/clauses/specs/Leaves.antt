@@ -1,7 +1,7 @@
 -- The ways that a Clauses stands for, over a table's two lists of words, and what taking the first of them gives.
 -- Rests on `rules`, Table and Leaf, and on `records`, Records, for the two words of numbers.
 use mathlib.Core.Path.{_≡_}
-use mathlib.Core.Bool.{true, false, _||_}
+use mathlib.Core.Bool.{true, _||_}
 use mathlib.Core.List.{List, _∷_, map}
 use Prim.Native.Nat.{ℕ, _≤_, _<_}
 use lib.ListN.{length, getD}
@@ -32,12 +32,11 @@ pub record Within (ps qs : List ℕ) (c : Clauses) : Type 0 where
   pub paired : length qs ≡ length ps
   pub inside : (i : ℕ) → inWords (c .low) (c .high) i ≡ true → i < length ps
 
--- The first way and the others make the ways. Its number is one of those, and not one of the others'.
+-- The first way and the others make the ways, and its number and theirs the numbers.
 pub record Takes (ps qs : List ℕ) (c : Clauses) (t : Taken) : Type 0 where
   pub first : waysOf ps qs c ≡ t .way ∷ waysOf ps qs (t .others)
   pub way-is : t .way ≡ dropped (fixedOf c) (row ps qs (t .way .number))
   pub numbers : (i : ℕ) → inWords (c .low) (c .high) i ≡ (eqb i (t .way .number) || inWords (t .others .low) (t .others .high) i)
-  pub gone : inWords (t .others .low) (t .others .high) (t .way .number) ≡ false
   pub same-present : t .others .present ≡ c .present
   pub same-absent : t .others .absent ≡ c .absent
   pub within : Within ps qs (t .others)

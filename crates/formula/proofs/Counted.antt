@@ -1,61 +1,40 @@
 -- The faults of ways, counted by set bits: the lowest bit of a word m adds one to its fault's count, and m goes on without it.
--- Rests on `chances`, Lowest, for a word without its lowest bit, and on `rules`, Run.
-use mathlib.Core.Path.{_≡_, refl, sym, ap, _∙_}
-use mathlib.Core.Bool.{Bool, true, false}
+-- Rests on `clauses`, First, for the lowest bit, and on `rules`, Run.
+use mathlib.Core.Path.{_≡_, refl, ap, _∙_}
+use mathlib.Core.Bool.{Bool, true, false, _||_, true≢false}
 use mathlib.Core.List.{List, [], _∷_}
-use Prim.Native.Nat.{ℕ, zero, suc, _+_, _-_, _/_, _%_, _^_, _≤_, _<_}
+use Prim.Native.Nat.{ℕ, suc, _+_, _-_, _^_, _≤_, _<_}
 use native.Mathlib.Decide.{ℕ-discrete}
 use native.Mathlib.Omega.{arith}
-use lib.ListN.{length, getD, set, replicate, length-set}
+use lib.ListN.{length, getD, set, replicate, length-set, getD-replicate}
 use lib.Seq.{getD-set-same, getD-set-other}
 use lib.Bits.{bitAnd, and-le-l}
-use lib.Count.{trailingZeros, under}
-use lib.Dec.{eqb, eqb·zero-suc, eqb·suc-zero, eqb·suc-suc}
-use borrow.Author.Tests.{eq-eqb, ne-eqb}
+use lib.Count.{trailingZeros}
+use lib.Dec.{eqb}
+use borrow.Author.Tests.{eqb-true, eq-eqb, ne-eqb}
 use Rattle.rules.specs.declared.Way.{Way}
-use Rattle.rules.specs.Table.{odd, bit, faults, indicator}
+use Rattle.rules.specs.Table.{bit, faults, indicator}
 use Rattle.rules.specs.Run.{named}
 use Rattle.rules.proofs.Bits.{bit-zero}
-use Rattle.chances.proofs.Lowest.{rest-even, rest-odd-half, rest-even-half}
-
--- ---- the lowest bit of a word
+use Rattle.clauses.proofs.First.{First, lowest, lowest-below}
 
 -- The word has the bit of its lowest fault, and those that are left without it.
-lowest : (k m f : ℕ) → 0 < m → m < 2 ^ k → indicator (bit f m) ≡ indicator (bit f (bitAnd m (m - 1))) + indicator (eqb f (trailingZeros k m))
-unfolding trailingZeros
-lowest zero m f pos fits = absurd (omega arith)
-lowest (suc k) m f pos fits = go (m % 2) refl f (λ g l. lowest k (m / 2) g l (omega arith))
+lowest-one : (k m f : ℕ) → 0 < m → m < 2 ^ k → indicator (bit f m) ≡ indicator (bit f (bitAnd m (m - 1))) + indicator (eqb f (trailingZeros k m))
+lowest-one k m f pos fits = ap indicator (l .numbers f) ∙ by (eqb f t) (bit f rest) (λ e. ap (λ (i : ℕ). bit i rest) (eqb-true f t e) ∙ l .gone)
   where
     t : ℕ
-    t = trailingZeros k (m / 2)
+    t = trailingZeros k m
 
-    next : ℕ
-    next = bitAnd m (m - 1)
+    rest : ℕ
+    rest = bitAnd m (m - 1)
 
-    even : (x : ℕ) → x % 2 ≡ 0 → odd x ≡ false
-    even x e = rw e
+    l : First (λ j. bit j m) (λ j. bit j rest) t
+    l = lowest k m pos fits
 
-    go : (r : ℕ) → m % 2 ≡ r → (f : ℕ)
-        → ((g : ℕ) → 0 < m / 2 → indicator (bit g (m / 2)) ≡ indicator (bit g (bitAnd (m / 2) (m / 2 - 1))) + indicator (eqb g t))
-        → indicator (bit f m) ≡ indicator (bit f next) + indicator (eqb f (under r t))
-    go zero e zero ih = rw (even m e, even next (rest-even m pos), eqb·zero-suc t) refl
-    go zero e (suc g) ih =
-        ih g (omega arith)
-        ∙ ap (λ (x : ℕ). indicator (bit g x) + indicator (eqb g t)) (sym (rest-even-half m pos e))
-        ∙ ap (λ (b : Bool). indicator (bit g (next / 2)) + indicator b) (sym (eqb·suc-suc g t))
-    go (suc zero) e zero ih = rw (e, even next (rest-even m pos)) refl
-    go (suc zero) e (suc g) ih = ap (λ (x : ℕ). indicator (bit g x)) (sym (rest-odd-half m e)) ∙ omega (arith, ap indicator (eqb·suc-zero g))
-    go (suc (suc r)) e f ih = absurd (omega arith)
-
--- It is one of the word's k bits.
-pub lowest-below : (k m : ℕ) → 0 < m → m < 2 ^ k → trailingZeros k m < k
-unfolding trailingZeros
-lowest-below zero m pos fits = absurd (omega arith)
-lowest-below (suc k) m pos fits = go (m % 2) refl (λ l. lowest-below k (m / 2) l (omega arith))
-  where
-    go : (r : ℕ) → m % 2 ≡ r → (0 < m / 2 → trailingZeros k (m / 2) < k) → under r (trailingZeros k (m / 2)) < suc k
-    go zero e ih = omega (arith, ih (omega arith))
-    go (suc r) e ih = omega arith
+    by : (x y : Bool) → (x ≡ true → y ≡ false) → indicator (x || y) ≡ indicator y + indicator x
+    by true true h = absurd (true≢false (h refl))
+    by true false h = refl
+    by false y h = omega arith
 
 -- ---- the counts
 
@@ -68,10 +47,12 @@ named-step f v vs = by (bit f (faults v))
     by true = omega arith
     by false = omega arith
 
+-- A test counts for at most one.
 one-at-most : (b : Bool) → indicator b ≤ 1
 one-at-most true = omega arith
 one-at-most false = omega arith
 
+-- No fault is named in more ways than there are.
 named-le : (f : ℕ) (vs : List Way) → named f vs ≤ length vs
 unfolding named
 named-le f [] = omega arith
@@ -85,12 +66,7 @@ pub record Counting (all left : List Way) (n : List ℕ) (m : ℕ) : Type 0 wher
 
 -- At the start every count is 0.
 pub begun : (vs : List Way) → Counting vs vs (replicate 64 0) 0
-begun vs = record { long = refl; fits = omega arith; sum = λ f h. omega (arith, zeros 64 f, ap indicator (bit-zero f)) }
-  where
-    zeros : (k f : ℕ) → _≡_ {A = ℕ} (getD (replicate k 0) f 0) 0
-    zeros zero f = refl
-    zeros (suc k) zero = refl
-    zeros (suc k) (suc f) = zeros k f
+begun vs = record { long = refl; fits = omega arith; sum = λ f h. omega (arith, getD-replicate {A = ℕ} 64 f 0 0 h, ap indicator (bit-zero f)) }
 
 module _ (all left : List Way) (n : List ℕ) where
   -- Every count is small.
@@ -133,7 +109,7 @@ module _ (all left : List Way) (n : List ℕ) where
             omega (
               arith,
               inv .sum f h,
-              lowest 64 m f pos (inv .fits),
+              lowest-one 64 m f pos (inv .fits),
               ap indicator (eq-eqb f t e),
               ap (λ (i : ℕ). getD (set n t (getD n t 0 + 1)) i 0) e ∙ getD-set-same n t (getD n t 0 + 1) 0 inside,
               ap (λ (i : ℕ). getD n i 0) e,
@@ -142,7 +118,7 @@ module _ (all left : List Way) (n : List ℕ) where
             omega (
               arith,
               inv .sum f h,
-              lowest 64 m f pos (inv .fits),
+              lowest-one 64 m f pos (inv .fits),
               ap indicator (ne-eqb f t q),
               getD-set-other n t f (getD n t 0 + 1) 0 q,
             )

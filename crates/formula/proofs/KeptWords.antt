@@ -10,11 +10,11 @@ use lib.ListN.{length, getD, take, set, length-take}
 use lib.Seq.{getD-take, take-suc, take-suc-set}
 use lib.Bits.{bitAnd}
 use lib.Dec.{eqb}
+use borrow.Author.Tests.{eq-eqb, ne-eqb}
 use Rattle.rules.specs.declared.Way.{Way}
 use Rattle.rules.specs.Table.{faults}
 use Rattle.rules.specs.Leaf.{sharesAny, keep, kept}
 use Rattle.rules.proofs.Booleans.{or-neither, or-first, or-second}
-use Rattle.clauses.proofs.Words.{apart, meets}
 
 -- The word m has a bit in common with one of the words.
 abbrev pub hits : ℕ → List ℕ → Bool
@@ -28,11 +28,13 @@ keepWords xs (v ∷ vs) = elim (hits (faults v) xs) as (λ b. List Way) [ true �
 
 -- ---- one word more
 
+-- Three tests joined, the first two exchanged.
 or-swap : (x y z : Bool) → x || (y || z) ≡ y || (x || z)
 or-swap true true z = refl
 or-swap true false z = refl
 or-swap false y z = refl
 
+-- A word at the end may be hit too.
 hits-more : (m x : ℕ) (xs : List ℕ) → hits m (xs ++ (x ∷ [])) ≡ not (eqb (bitAnd m x) 0) || hits m xs
 hits-more m x [] = refl
 hits-more m x (y ∷ ys) =
@@ -44,10 +46,12 @@ hits-more m x (y ∷ ys) =
 abbrev Agree : List Way → List ℕ → Type 0
 Agree before xs = (v : Way) → sharesAny v before ≡ hits (faults v) xs
 
+-- They agree with one way and its word more.
 agree-more : (u : Way) (before : List Way) (xs : List ℕ) → Agree before xs → Agree (u ∷ before) (xs ++ (faults u ∷ []))
 agree-more u before xs a v =
     ap (λ (b : Bool). not (eqb (bitAnd (faults v) (faults u)) 0) || b) (a v) ∙ sym (hits-more (faults v) (faults u) xs)
 
+-- Where they agree, the same ways are kept from there on.
 keep-words : (before : List Way) (xs : List ℕ) (vs : List Way) → Agree before xs → keep before vs ≡ keepWords xs vs
 keep-words before xs [] a = refl
 keep-words before xs (v ∷ vs) a =
@@ -60,30 +64,36 @@ keep-words before xs (v ∷ vs) a =
     go true t e p q = rw (sym e) p
     go false t e p q = rw (sym e) (ap (λ (us : List Way). v ∷ us) q)
 
+-- At the start they do.
 pub kept-words : (vs : List Way) → keepWords [] vs ≡ kept vs
 kept-words vs = sym (keep-words [] [] vs (λ v. refl))
 
 -- ---- one way more
 
+-- A way that hits one of the words is passed over.
 pub keep-passed : (xs : List ℕ) (v : Way) (vs : List Way) → hits (faults v) xs ≡ true → keepWords xs (v ∷ vs) ≡ keepWords xs vs
 keep-passed xs v vs h = rw (h, keepWords)
 
+-- One that hits none is kept, and its word with the others.
 pub keep-taken : (xs : List ℕ) (v : Way) (vs : List Way) → hits (faults v) xs ≡ false → keepWords xs (v ∷ vs) ≡ v ∷ keepWords (xs ++ (faults v ∷ [])) vs
 keep-taken xs v vs h = rw (h, keepWords)
 
 -- ---- the search for a common bit among the first words of an array
 
+-- A word with a common bit is hit.
 hits-at : (m : ℕ) (xs : List ℕ) (j : ℕ) → j < length xs → (bitAnd m (getD xs j 0) ≡ 0 → ⊥) → hits m xs ≡ true
 hits-at m [] j h e = absurd (omega arith)
-hits-at m (x ∷ xs) zero h e = or-first (not (eqb (bitAnd m x) 0)) (hits m xs) (meets m refl e)
+hits-at m (x ∷ xs) zero h e = or-first (not (eqb (bitAnd m x) 0)) (hits m xs) (ap not (ne-eqb (bitAnd m x) 0 e))
 hits-at m (x ∷ xs) (suc j) h e = or-second (not (eqb (bitAnd m x) 0)) (hits m xs) (hits-at m xs j (omega arith) e)
 
+-- So the search finds one among the first k.
 pub hit : (m : ℕ) (xs : List ℕ) (j k : ℕ) → j < k → k ≤ length xs → (bitAnd m (getD xs j 0) ≡ 0 → ⊥) → hits m (take k xs) ≡ true
 hit m xs j k h l e = hits-at m (take k xs) j (simp length-take (omega arith)) (rw getD-take e)
 
+-- Or none so far, and not the next.
 pub miss : (m : ℕ) (xs : List ℕ) (j : ℕ) → j < length xs → hits m (take j xs) ≡ false → bitAnd m (getD xs j 0) ≡ 0 → hits m (take (j + 1) xs) ≡ false
 miss m xs j h e z =
-    rw (add-one, take-suc xs j 0, hits-more) (or-neither (not (eqb (bitAnd m (getD xs j 0)) 0)) (hits m (take j xs)) (apart m refl z) e)
+    rw (add-one, take-suc xs j 0, hits-more) (or-neither (not (eqb (bitAnd m (getD xs j 0)) 0)) (hits m (take j xs)) (ap not (eq-eqb (bitAnd m (getD xs j 0)) 0 z)) e)
 
 -- ---- a store in the array
 

@@ -1,7 +1,6 @@
 -- A leaf's ends as one value, the ways of its two children, and the faults that have a bit in a word.
 -- Rests on `rules`, Leaf and Tree, and on `clauses`, Leaves.
 use mathlib.Core.Path.{_≡_}
-use mathlib.Core.Bool.{Bool, true, false}
 use mathlib.Core.List.{List}
 use Prim.Native.Nat.{ℕ, _<_}
 use Rattle.rules.specs.Table.{indicator}

@@ -12,14 +12,14 @@ use super::Children;
 use super::group::falls_apart;
 use super::group::group_faults;
 use chances::chance::has;
-use rules::Kind;
-use rules::Way;
 use clauses::Clauses;
 use clauses::keeping::part;
 use clauses::keeping::restrict;
 use clauses::sets::one_bit;
 use clauses::taking::faults;
 use clauses::taking::taken;
+use rules::Kind;
+use rules::Way;
 
 /// The ways of both children. Under a fault the left child has it present, the right absent.
 pub fn children(present: &[u64], absent: &[u64], c: Clauses, k: Kind) -> Children

@@ -5,11 +5,11 @@ ghost use mathlib.Core.Bool.{false};
 ghost use Rattle.rules.specs.Group;
 ghost use Rattle.rules.specs.Group.{groupFaults, part, nonempty, fallApart};
 ghost use Rattle.clauses.specs.Leaves.{waysOf, Within};
-use rules::Way;
 use clauses::Clauses;
 use clauses::keeping::touches;
 use clauses::taking::faults;
 use clauses::taking::taken;
+use rules::Way;
 
 /// The most ways of a table, and so the most passes that a word needs to come to rest.
 const MOST_WAYS: usize = 128;

@@ -14,7 +14,7 @@ use Rattle.records.specs.Records.{inWords}
 use Rattle.clauses.specs.declared.Clauses.{Clauses}
 use Rattle.clauses.specs.Leaves.{fixedOf, row, waysOf, Within, Takes}
 use Rattle.clauses.proofs.First.{First, is-one, others-too, second, first-low, first-high}
-use Rattle.clauses.proofs.Chosen.{select-first}
+use Rattle.clauses.proofs.Selected.{select-first}
 use Rattle.clauses.proofs.taking.taken.Statement.{statement}
 use Rattle.clauses.proofs.taking.taken.Tie as tie
 
@@ -33,7 +33,6 @@ module _ (ps qs : List ℕ) (c : Clauses) (w : Within ps qs c) where
         first = ap (map (dropped (fixedOf c))) (select-first f ps qs (w .paired) (inside n f .0));
         way-is = refl;
         numbers = f .numbers;
-        gone = f .gone;
         same-present = refl;
         same-absent = refl;
         within = record { short = w .short; paired = w .paired; inside = λ i h. w .inside i (others-too f i h) };

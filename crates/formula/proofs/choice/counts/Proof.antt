@@ -11,7 +11,8 @@ use lib.Count.{trailingZeros, trailing-le}
 use Rattle.rules.specs.declared.Way.{Way}
 use Rattle.clauses.specs.Leaves.{waysOf, Within}
 use Rattle.clauses.proofs.Loops.{none-left, few, fewer}
-use Rattle.formula.proofs.Counted.{Counting, begun, small, taken-up, counted, lowest-below, all-counted}
+use Rattle.clauses.proofs.First.{lowest-below}
+use Rattle.formula.proofs.Counted.{Counting, begun, small, taken-up, counted, all-counted}
 use Rattle.formula.proofs.choice.counts.Statement.{statement}
 use Rattle.formula.proofs.choice.counts.Tie as tie
 
