@@ -2,9 +2,8 @@
 -- Rests on the tree of lent words, `store`, Lent, and on the test of `records`, Sixteen.
 use mathlib.Core.Path.{_≡_, refl, sym, ap, ap₂, _∙_}
 use mathlib.Core.Bool.{Bool, true, false}
-use mathlib.Core.List.{List, [], _∷_}
-use Prim.Native.Nat.{ℕ, zero, suc, _+_, _*_, _/_, _%_, _≤_, _<_}
-use native.Mathlib.Nat.{add-zero}
+use mathlib.Core.List.{List}
+use Prim.Native.Nat.{ℕ, _+_, _*_, _≤_, _<_}
 use native.Mathlib.Decide.{ℕ-discrete}
 use native.Mathlib.Numerals.{lt-of-le-of-ne}
 use native.Mathlib.Omega.{arith}
@@ -15,34 +14,10 @@ use lib.Seq.{ext-getD}
 use borrow.Author.Tests.{eq-eqb, ne-eqb}
 use Rattle.rules.proofs.Bits.{or-zero}
 use Rattle.records.specs.Records.{blank, recordIn, sameNodes}
-use Rattle.records.specs.declared.Node.{Node}
 use Rattle.records.proofs.Sixteen.{same-nodes, nodes-self}
-use Rattle.store.specs.Lent.{nodeAt, treeOf}
+use Rattle.store.specs.Lent.{treeOf}
 use Rattle.store.proofs.Lent.{long, record-is, same-record}
-
--- ---- a record's words
-
--- A record's fields, in the order of its words.
-abbrev fields : Node → List ℕ
-fields n =
-    n .kind ∷ n .fault ∷ n .live ∷ n .parent ∷ n .left ∷ n .waysa ∷ n .waysb ∷ n .present ∷ n .absent ∷ n .low ∷ n .high ∷ n .ownlow ∷ n .ownhigh ∷ []
-
--- n words from word i + k on.
-unfoldable run : List ℕ → ℕ → ℕ → ℕ → List ℕ
-run ws i k zero = []
-run ws i k (suc n) = getD ws (i + k) 0 ∷ run ws i (suc k) n
-
-run-at : (ws : List ℕ) (i k n q : ℕ) → q < n → getD (run ws i k n) q 0 ≡ getD ws (i + (k + q)) 0
-unfolding run
-run-at ws i k zero q h = absurd (omega arith)
-run-at ws i k (suc n) zero h = ap (λ p. getD ws (i + p) 0) (sym (add-zero k))
-run-at ws i k (suc n) (suc q) h = run-at ws i (suc k) n q (omega arith) ∙ ap (λ p. getD ws p 0) (omega arith)
-
--- The fields of record j are the 13 words from word 13j on.
-field-at : (ws : List ℕ) (j q : ℕ) → q < 13 → getD (fields (nodeAt ws j)) q 0 ≡ getD ws (13 * j + q) 0
-unfolding run
-field-at ws j q h =
-    ap (λ p. getD (getD ws p 0 ∷ run ws (13 * j) 1 12) q 0) (sym (add-zero (13 * j))) ∙ run-at ws (13 * j) 0 13 q h ∙ ap (λ p. getD ws (13 * j + p) 0) (omega arith)
+use Rattle.store.proofs.Same.{same-word}
 
 -- ---- the words of two trees
 
@@ -59,18 +34,6 @@ module _ (us ws : List ℕ) where
     where
       at : (i : ℕ) → i < 511 → recordIn (treeOf us .nodes) i ≡ recordIn (treeOf ws .nodes) i
       at i h = record-is us i h ∙ same-record us ws i i (λ q r. s (13 * i + q) (omega arith)) ∙ sym (record-is ws i h)
-
-  -- And the other way.
-  same-words : treeOf us .nodes ≡ treeOf ws .nodes → Same 6643
-  same-words e k h =
-      let j = k / 13 in
-      let q = k % 13 in
-      let l : j < 511 = omega arith in
-      let r : q < 13 = omega arith in
-      let n : nodeAt us j ≡ nodeAt ws j = sym (record-is us j l) ∙ ap (λ (xs : List Node). recordIn xs j) e ∙ record-is ws j l in
-      let f : getD us (13 * j + q) 0 ≡ getD ws (13 * j + q) 0 = sym (field-at us j q r) ∙ ap (λ (x : Node). getD (fields x) q 0) n ∙ field-at ws j q r in
-      let w : 13 * j + q ≡ k = omega arith in
-      ap (λ (p : ℕ). getD us p 0) (sym w) ∙ f ∙ ap (λ (p : ℕ). getD ws p 0) w
 
   -- What was unlike in the words before word i.
   pub record Compared (unlike i : ℕ) : Type 0 where
@@ -104,7 +67,7 @@ module _ (us ws : List ℕ) where
   answer m i c h = by (ℕ-discrete m 0)
     where
       differ : (m ≡ 0 → ⊥) → (b : Bool) → sameNodes (treeOf us .nodes) (treeOf ws .nodes) ≡ b → false ≡ sameNodes (treeOf us .nodes) (treeOf ws .nodes)
-      differ f true e = absurd (f (c .nothing (λ k l. same-words (same-nodes _ _ e) k (omega arith))))
+      differ f true e = absurd (f (c .nothing (λ k l. same-word us ws (same-nodes _ _ e) k (omega arith))))
       differ f false e = sym e
 
       by : Dec (m ≡ 0) → eqb m 0 ≡ sameNodes (treeOf us .nodes) (treeOf ws .nodes)

@@ -1,5 +1,5 @@
 -- The tree that lent words are: 511 records of 13 words each, and in the last of 6,644 words how many are in use.
--- Every word is one field of one record, or the count, so equal trees are equal words. Rests on the records of `records`.
+-- Every word is one field of one record, or the count, so equal trees are equal words (proofs/Same.antt). Rests on the records of `records`.
 use mathlib.Core.List.{List, [], _∷_}
 use Prim.Native.Nat.{ℕ, zero, suc, _+_, _*_}
 use lib.ListN.{getD, set}

@@ -219,8 +219,29 @@ impl Tree {
             };
             fresh.grow(table, at, &ways, kind);
         }
-        self.nodes == fresh.nodes
+        same_nodes(&self.nodes, &fresh.nodes)
     }
+}
+
+/// All records are equal. Every field is compared, with no way out before the last.
+fn same_nodes(x: &[Node], y: &[Node]) -> bool {
+    let mut unlike = 0;
+    for (x, y) in x.iter().zip(y) {
+        unlike |= x.kind ^ y.kind;
+        unlike |= x.fault ^ y.fault;
+        unlike |= x.live ^ y.live;
+        unlike |= (x.parent ^ y.parent) as u64;
+        unlike |= (x.left ^ y.left) as u64;
+        unlike |= x.ways[0] ^ y.ways[0];
+        unlike |= x.ways[1] ^ y.ways[1];
+        unlike |= x.present ^ y.present;
+        unlike |= x.absent ^ y.absent;
+        unlike |= x.low ^ y.low;
+        unlike |= x.high ^ y.high;
+        unlike |= x.own_low ^ y.own_low;
+        unlike |= x.own_high ^ y.own_high;
+    }
+    unlike == 0
 }
 
 /// What a record says was done, if it can be done with these ways.
