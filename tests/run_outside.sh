@@ -1,6 +1,7 @@
 #!/bin/bash
 # Sets the library, linked through its C interface, beside the reference, over seeded cases: every answer, every place of every
-# tree, every byte written. Usage: tests/run_outside.sh [--seed N] [--long]; a case that fails is left in target/outside.
+# tree, every byte written. Usage: tests/run_outside.sh [--seed N] [--long] [--trace]; a case that fails is left in target/outside, and
+# with --trace the last case of each family too, each step before it is made, should a call never return.
 set -e
 cd "$(dirname "$0")/.."
 rt staticlib capi

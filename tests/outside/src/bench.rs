@@ -3,7 +3,7 @@
 use crate::session::{Mismatch, Outcome, Session};
 use crate::tally::Tally;
 use reference::random::Random;
-use std::fs;
+use std::fs::{self, File};
 use std::path::Path;
 
 pub struct Bench<'a> {
@@ -13,15 +13,23 @@ pub struct Bench<'a> {
     pub times: usize,
     pub tally: Tally,
     pub folder: &'a Path,
+    /// Each case is written to a file as it goes, over the one before it.
+    pub trace: bool,
 }
 
 impl Bench<'_> {
     /// Plays one case.
     pub fn case(&mut self, name: &str, play: impl FnOnce(&mut Session, &mut Random) -> Outcome) -> Outcome {
-        let mut session = Session::new();
+        let mut session = Session::new(self.traced());
         let outcome = play(&mut session, &mut self.random);
         self.tally.add(&session.tally);
         outcome.map_err(|Mismatch(said)| Mismatch(self.keep(name, &said, &session)))
+    }
+
+    /// The file that the next case is told to, if it is.
+    fn traced(&self) -> Option<File> {
+        let file = self.folder.join(format!("last-{}.case", self.family));
+        self.trace.then(|| File::create(file).expect("a file for the case"))
     }
 
     /// Writes a case that failed to a file; the words say where.

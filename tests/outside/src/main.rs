@@ -1,5 +1,5 @@
 //! Sets the library, linked through its C interface, beside the reference: every answer, every place of every tree,
-//! every byte written. `outside [--seed N] [--long] [--family NAME] [--folder DIR]`, or `outside --replay FILE`.
+//! every byte written. `outside [--seed N] [--long] [--family NAME] [--folder DIR] [--trace]`, or `outside --replay FILE`.
 
 mod bench;
 mod calls;
@@ -32,11 +32,13 @@ struct Wanted {
     times: usize,
     family: Option<String>,
     folder: PathBuf,
+    trace: bool,
     replay: Option<PathBuf>,
 }
 
 fn wanted() -> Result<Wanted, String> {
-    let mut wanted = Wanted { seed: SEED, times: 1, family: None, folder: PathBuf::from("."), replay: None };
+    let folder = PathBuf::from(".");
+    let mut wanted = Wanted { seed: SEED, times: 1, family: None, folder, trace: false, replay: None };
     let mut words = env::args().skip(1);
     while let Some(word) = words.next() {
         let mut next = || words.next().ok_or(format!("{word} wants a word after it"));
@@ -45,6 +47,7 @@ fn wanted() -> Result<Wanted, String> {
             "--long" => wanted.times = LONG,
             "--family" => wanted.family = Some(known(next()?)?),
             "--folder" => wanted.folder = next()?.into(),
+            "--trace" => wanted.trace = true,
             "--replay" => wanted.replay = Some(next()?.into()),
             _ => return Err(format!("not known: {word}")),
         }
@@ -65,8 +68,8 @@ fn play_family(wanted: &Wanted, number: usize) -> (Tally, Option<String>) {
     let (family, play) = FAMILIES[number];
     // A family's own draws, whichever others are played.
     let random = Random::new(wanted.seed.wrapping_mul(1000).wrapping_add(number as u64));
-    let (times, folder) = (wanted.times, &wanted.folder);
-    let mut bench = Bench { family, random, times, folder, tally: Tally::default() };
+    let (times, folder, trace) = (wanted.times, &wanted.folder, wanted.trace);
+    let mut bench = Bench { family, random, times, folder, trace, tally: Tally::default() };
     let said = play(&mut bench).err().map(|mismatch| mismatch.0);
     (bench.tally, said)
 }
@@ -106,7 +109,7 @@ fn play(wanted: &Wanted) -> bool {
 /// Makes the steps of a case again, each told before it is made.
 fn replay(file: &PathBuf) -> Result<bool, String> {
     let text = fs::read_to_string(file).map_err(|error| format!("{}: {error}", file.display()))?;
-    let mut session = Session::new();
+    let mut session = Session::new(None);
     for step in step::parse(&text)? {
         println!("{step}");
         if let Err(mismatch) = session.make(step) {

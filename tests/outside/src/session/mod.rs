@@ -10,6 +10,8 @@ use crate::step::{parse, Field, Step};
 use crate::tally::Tally;
 use reference::{Act, Answer, Table, Tree};
 use std::fmt::Debug;
+use std::fs::File;
+use std::io::Write;
 use trees::Held;
 
 /// A disagreement, in words.
@@ -20,6 +22,8 @@ pub type Outcome = Result<(), Mismatch>;
 pub struct Session {
     pub steps: Vec<Step>,
     pub tally: Tally,
+    /// Where each step is told before it is made, so that one that never returns is known.
+    trace: Option<File>,
     table: Table,
     exact: Option<Exact>,
     held: [Held; 2],
@@ -29,10 +33,11 @@ pub struct Session {
 }
 
 impl Session {
-    pub fn new() -> Session {
+    pub fn new(trace: Option<File>) -> Session {
         Session {
             steps: Vec::new(),
             tally: Tally::default(),
+            trace,
             table: Table::default(),
             exact: None,
             held: [Held::new(), Held::new()],
@@ -100,6 +105,9 @@ impl Session {
 
     pub fn make(&mut self, step: Step) -> Outcome {
         debug_assert_eq!(parse(&step.to_string()), Ok(vec![step.clone()]), "its text is the step");
+        if let Some(trace) = &mut self.trace {
+            writeln!(trace, "{step}").expect("a step told");
+        }
         self.steps.push(step.clone());
         match step {
             Step::Table(table) => self.lend_table(table),
