@@ -1,5 +1,5 @@
 //! The ways of a leaf and what follows from them: chances, both ends, groups and the fault named most.
-//! The same loops as the library's `clauses` and `formula`: no list of ways is written down.
+//! The same loops as the library's `chances`, `clauses` and `formula`: no list of ways is written down.
 
 pub const S: u64 = 1_000_000_000;
 pub const MOST_WAYS: usize = 128;

@@ -1,4 +1,5 @@
 //! A table opened and run, with every refusal that the call tries.
+//! The same turns as the library's `running`, on the tree of `tree`.
 
 use crate::formula::*;
 use crate::tree::*;
