@@ -6,6 +6,7 @@ ghost use Prim.Native.Nat.{_≤_};
 ghost use Rattle.rules.specs.Table.{rows};
 ghost use Rattle.rules.specs.Refusals.{namesBeyond, namesBoth};
 ghost use Rattle.rules.specs.Sheet.{faultsIn, presentIn, absentIn};
+ghost use Rattle.sheet.specs.Amiss;
 use super::contents::ways_in;
 use super::fields::u64_at;
 use super::head::bodies_in;
@@ -13,12 +14,22 @@ use super::head::faults_in;
 use checks::ways::names_beyond;
 use checks::ways::names_both;
 
-/// 12: a way names a fault at or above the number of faults.
-pub fn rows_beyond(s: &[u8]) -> bool
-    requires { ⌜ faultsIn (now s) ≤ 64 ⌝ }
-    ensures { λ r. ⌜ r ≡ namesBeyond (faultsIn (now (s .entry))) (rows 0 (presentIn (now (s .entry))) (absentIn (now (s .entry)))) ⌝ }
+/// One of the two tests on some rows: 13 if `both`, otherwise 12 for n faults.
+fn amiss(both: bool, n: usize, present: &[u64], absent: &[u64]) -> bool
+    requires { ⌜ n ≤ 64 ⌝ }
+    ensures { λ r. ⌜ r ≡ Amiss.amiss both n (rows 0 (now (present .entry)) (now (absent .entry))) ⌝ }
 {
-    let faults = faults_in(s);
+    if both {
+        return names_both(present, absent);
+    }
+    names_beyond(n, present, absent)
+}
+
+/// The same test on all rows of the sheet.
+fn rows_amiss(both: bool, n: usize, s: &[u8]) -> bool
+    requires { ⌜ n ≤ 64 ⌝ }
+    ensures { λ r. ⌜ r ≡ Amiss.amiss both n (rows 0 (presentIn (now (s .entry))) (absentIn (now (s .entry)))) ⌝ }
+{
     let present = bodies_in(s);
     let absent = present + 8;
     let ways = ways_in(s);
@@ -26,7 +37,7 @@ pub fn rows_beyond(s: &[u8]) -> bool
     while i < ways {
         let p = [u64_at(s, present + 16 * i)];
         let q = [u64_at(s, absent + 16 * i)];
-        if names_beyond(faults, &p, &q) {
+        if amiss(both, n, &p, &q) {
             return true;
         }
         i += 1;
@@ -34,21 +45,17 @@ pub fn rows_beyond(s: &[u8]) -> bool
     false
 }
 
-/// 13: a way names one fault both present and absent.
+/// 12: a way names a fault at or above the number of faults.
+pub fn rows_beyond(s: &[u8]) -> bool
+    requires { ⌜ faultsIn (now s) ≤ 64 ⌝ }
+    ensures { λ r. ⌜ r ≡ namesBeyond (faultsIn (now (s .entry))) (rows 0 (presentIn (now (s .entry))) (absentIn (now (s .entry)))) ⌝ }
+{
+    rows_amiss(false, faults_in(s), s)
+}
+
+/// 13: a way names one fault both present and absent. How many faults there are plays no part.
 pub fn rows_both(s: &[u8]) -> bool
     ensures { λ r. ⌜ r ≡ namesBoth (rows 0 (presentIn (now (s .entry))) (absentIn (now (s .entry)))) ⌝ }
 {
-    let present = bodies_in(s);
-    let absent = present + 8;
-    let ways = ways_in(s);
-    let mut i: usize = 0;
-    while i < ways {
-        let p = [u64_at(s, present + 16 * i)];
-        let q = [u64_at(s, absent + 16 * i)];
-        if names_both(&p, &q) {
-            return true;
-        }
-        i += 1;
-    }
-    false
+    rows_amiss(true, 0, s)
 }

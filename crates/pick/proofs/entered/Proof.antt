@@ -3,6 +3,7 @@
 use mathlib.Core.Path.{_≡_, sym, ap, _∙_}
 use mathlib.Core.Bool.{true, false}
 use Prim.Native.Nat.{ℕ, _<_, _≤_}
+use native.Mathlib.Omega.{arith}
 use borrow.Author.Needs.{needs}
 use borrow.Author.Tests.{eq-eqb, ne-eqb}
 use Rattle.records.specs.Growing.{recordWidth}
@@ -63,7 +64,7 @@ returns-2 : tie.Need-returns-2
 returns-2 c =
     let w = c .before .before .before .before in
     let s = w .before .before .before .args .s in
-    c .moved2 .ensures ∙ with-best _ (not-larger s _ (w .before .if1 .left) _ (w .width .ensures) (c .before .before .before .if2 .taken) (c .before .if3 .taken))
+    c .moved2 .ensures ∙ with-best _ (not-larger s _ (w .before .if1 .left) _ (w .width .ensures) (c .before .before .before .if2 .taken) (omega (arith, c .before .if3 .taken)))
 
 returns-3 : tie.Need-returns-3
 returns-3 c =

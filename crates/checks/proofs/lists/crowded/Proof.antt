@@ -5,7 +5,7 @@ use Prim.Native.Nat.{_-_, _≤_}
 use native.Mathlib.Omega.{arith}
 use borrow.Author.Needs.{needs}
 use borrow.Author.Tests.{lt-ltb, le-ltb}
-use lib.ListN.{length, drop}
+use lib.ListN.{length, getD, drop}
 use Rattle.rules.specs.Refusals.{crowded, someAbove}
 use Rattle.checks.proofs.Walk.{found, passed, forward, ended}
 use Rattle.checks.proofs.lists.crowded.Statement.{statement}
@@ -30,7 +30,8 @@ returns : tie.Need-returns Inv-loop μ-loop
 unfolding crowded someAbove
 returns c =
     let l = c .before .before .before .loop in
-    found _ (lt-ltb _ _ (c .if1 .taken)) (forward crowded (c .before .before .before .before .args .counts .now) (l .i) (omega arith) (l .inv .1))
+    let counts = c .before .before .before .before .args .counts .now in
+    found _ (lt-ltb 128 (getD counts (l .i) 0) (omega (arith, c .if1 .taken))) (forward crowded counts (l .i) (omega arith) (l .inv .1))
 
 add-i : tie.Need-add-i Inv-loop μ-loop
 add-i c = search needs
