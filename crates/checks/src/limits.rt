@@ -6,14 +6,14 @@ use super::lists::S;
 use rules::Limits;
 
 /// 14: the allowance is above S.
-pub fn allowance_above(m: Limits) -> bool
+fn allowance_above(m: Limits) -> bool
     ensures { λ r. ⌜ r ≡ allowanceAbove m ⌝ }
 {
     S < m.allowance
 }
 
 /// 15: the budget is above 255.
-pub fn budget_above(m: Limits) -> bool
+fn budget_above(m: Limits) -> bool
     ensures { λ r. ⌜ r ≡ budgetAbove m ⌝ }
 {
     255 < m.budget

@@ -41,6 +41,7 @@ module _ (us ws : List ℕ) where
     pub alike : unlike ≡ 0 → Same i
     pub nothing : Same i → unlike ≡ 0
 
+  -- Before the first word nothing is unlike.
   pub start : Compared 0 0
   start = record { inside = omega arith; alike = λ _ k h. absurd (omega arith); nothing = λ _. refl }
 

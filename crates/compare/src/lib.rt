@@ -1,4 +1,4 @@
-//! Records read and compared, whatever they hold: what a record says was done and whether that is possible, and whether two trees' records are equal.
+//! Records read and compared, whatever they hold: whether what a record says was done is possible, and whether two trees' records are equal.
 //! Rests on `records`, Records, where 16 compares a tree with the one that its own refinements build.
 ghost use mathlib.Core.Path.{_≡_};
 ghost use mathlib.Core.Bool.{true};
@@ -11,7 +11,6 @@ use clauses::Clauses;
 use formula::child::occurs;
 use formula::group::falls_apart;
 use records::Node;
-use rules::Kind;
 use store::Words;
 
 /// What a record says was done is possible with these ways. A fault that has no bit in a word occurs in none.
@@ -23,18 +22,6 @@ pub fn possible_told(n: Node, present: &[u64], absent: &[u64], c: Clauses) -> bo
         falls_apart(present, absent, c)
     } else {
         occurs(n.fault as usize, present, absent, c)
-    }
-}
-
-/// What a record says was done.
-pub fn kind_told(n: Node) -> Kind
-    requires { ⌜ FaultFits (kindOf n) ⌝ }
-    ensures { λ r. ⌜ r ≡ kindOf n ⌝ }
-{
-    if n.kind == 2 {
-        Kind::IndependentOr
-    } else {
-        Kind::Shannon(n.fault as u32)
     }
 }
 

@@ -1,4 +1,5 @@
--- A hand refinement on an accepted table and a good tree: refused by 17 to 20, or made. Rests on `find`, ByHand, and on `records`, Grown.
+-- A hand refinement on an accepted table and a good tree: refused by 17 to 20, or made.
+-- Rests on `find`, ByHand, and on `records`, Grown.
 use mathlib.Core.Path.{_≡_, refl, sym, ap, ap₂, _∙_}
 use mathlib.Core.Bool.{true, false}
 use mathlib.Core.List.{List, [], _∷_, _++_}

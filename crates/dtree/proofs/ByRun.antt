@@ -1,4 +1,5 @@
--- A run on an accepted table and a good tree: it leaves and hands back what the rules say. Rests on the contract of `running`.
+-- A run on an accepted table and a good tree: it leaves and hands back what the rules say.
+-- Rests on the contract of `running`.
 use mathlib.Core.Path.{_≡_, refl, sym, ap, _∙_}
 use mathlib.Core.Bool.{true, false}
 use mathlib.Core.List.{List, _++_}

@@ -25,11 +25,12 @@ use Rattle.records.proofs.Sixteen.{good-sure}
 use Rattle.records.proofs.ByTheRules.{call-tree, call-outcome}
 use Rattle.dtree.specs.Promises.{rootOf, numberOf, Worked, Called}
 
--- The root's record has the ends of the tree.
+-- The root's record has the low end of the tree.
 pub root-low : (t : Table) (ns : List Refinement) → rootOf (layout t ns) .low ≡ low t (tree ns)
 unfolding layout recordsOf places recordAt subtreeOr subtree descend low
 root-low t ns = refl
 
+-- And its high end.
 pub root-high : (t : Table) (ns : List Refinement) → rootOf (layout t ns) .high ≡ high t (tree ns)
 unfolding layout recordsOf places recordAt subtreeOr subtree descend high
 root-high t ns = refl
@@ -54,7 +55,7 @@ sixteen-free true xs h = absurd (omega (arith, h, first-here (refusal 16 true) x
 sixteen-free false xs h = refl
 
 -- Nothing is refused only on an accepted table and a good tree.
-pub free : (t : Table) (x : Tree) (c : Call) → numberOf t x c ≡ 0 → (Accepted t) × (bad t x ≡ false)
+free : (t : Table) (x : Tree) (c : Call) → numberOf t x c ≡ 0 → (Accepted t) × (bad t x ≡ false)
 unfolding numberOf handNumber runNumber handRefusals runRefusals tableNumber tableRefusals wayRefusals limitRefusals
 free t x (byHand bs k) h = (front-free (tableRefusals t) _ h, sixteen-free (bad t x) _ (back-free (tableRefusals t) _ refl h))
 free t x (byRun m) h =
@@ -82,6 +83,7 @@ by-the-rules t c P on x e =
     subst (λ (z : Tree). P z (callTree t z c) (callOutcome t z c)) (sym (g .is))
     (rw (call-tree t (g .made) (g .accepted) c, call-outcome t (g .made) (g .accepted) c) (on (f .0) (g .made) (g .accepted) n))
 
+-- On the tree of a series an accepted call does what Worked says.
 on-layout : (t : Table) (c : Call) → Accepted t → (ns : List Refinement) → series t ns ≡ true → callNumber t (tree ns) c ≡ 0
     → Worked t (layout t ns) (layout t (ns ++ makes t (tree ns) c)) (reply (outcome t (tree ns) c))
 on-layout t c ok ns h e =
@@ -94,11 +96,13 @@ on-layout t c ok ns h e =
           (arith, layout-count t ns, layout-count t (ns ++ makes t (tree ns) c), length-append ns (makes t (tree ns) c), report-is t ok (tree ns) c);
     }
 
+-- And so on every tree.
 worked : (t : Table) (x : Tree) (c : Call) → numberOf t x c ≡ 0 → Worked t x (callTree t x c) (reply (callOutcome t x c))
 worked t x c e = by-the-rules t c (λ y z o. Worked t y z (reply o)) (on-layout t c) x e
 
 -- ---- refused
 
+-- A refused call leaves the tree as it was.
 pub refused-tree : (t : Table) (x : Tree) (c : Call) (n : ℕ) → numberOf t x c ≡ suc n → callTree t x c ≡ x
 unfolding numberOf callTree handTree runTree treeBy
 refused-tree t x (byHand bs k) n e = ap (λ (m : ℕ). treeBy m t x (handMakes bs k)) e
@@ -109,18 +113,21 @@ abbrev pub refusedBy : Call → ℕ → Outcome
 refusedBy (byHand bs k) n = handed (Answer.Refused n)
 refusedBy (byRun m) n = ran (RunAnswer.Refused n)
 
+-- It hands back its number as the refusal.
 pub refused-outcome : (t : Table) (x : Tree) (c : Call) (n : ℕ) → numberOf t x c ≡ suc n → callOutcome t x c ≡ refusedBy c (suc n)
 unfolding numberOf callOutcome handAnswer runAnswer answerBy runAnswerBy
 refused-outcome t x (byHand bs k) n e = ap (λ (m : ℕ). handed (answerBy m (figures t (tree (history x)) (handMakes bs k)))) e
 refused-outcome t x (byRun l) n e =
     ap (λ (m : ℕ). ran (runAnswerBy m (verdict t (l .allowance) (l .budget) (tree (history x))) (figures t (tree (history x)) (runMakes t (tree (history x)) l)))) e
 
+-- In the reply too, with nought to the full billion and count 0.
 refused-reply : (t : Table) (x : Tree) (c : Call) (n : ℕ) → numberOf t x c ≡ suc n → reply (callOutcome t x c) ≡ refused (suc n)
 refused-reply t x (byHand bs k) n e = ap reply (refused-outcome t x (byHand bs k) n e)
 refused-reply t x (byRun l) n e = ap reply (refused-outcome t x (byRun l) n e)
 
 -- ---- both
 
+-- The reply of an accepted call has number 0.
 accepted-number : (t : Table) (x : Tree) (c : Call) → numberOf t x c ≡ 0 → reply (callOutcome t x c) .number ≡ 0
 unfolding numberOf callOutcome handAnswer runAnswer answerBy runAnswerBy
 accepted-number t x (byHand bs k) e = ap (λ (m : ℕ). answerReply (answerBy m (figures t (tree (history x)) (handMakes bs k))) .number) e
@@ -150,5 +157,6 @@ promised t x c = by (numberOf t x c) refl
           otherwise = λ _. (r, refused-tree t x c n e);
         }
 
+-- The same of a tree and an outcome that are the defined ones.
 pub called : (t : Table) (x : Tree) (c : Call) (y : Tree) (o : Outcome) → y ≡ callTree t x c → o ≡ callOutcome t x c → Called t x c y o
 called t x c y o e f = rw (e, f) (promised t x c)

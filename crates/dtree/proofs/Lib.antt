@@ -1,4 +1,5 @@
 -- What the definitions of the calls come to; each function's proof stands in its own directory.
+-- Rests on the theorems of `rules` and `records`, and on the contracts below.
 mod Opens
 mod Again
 mod Calling

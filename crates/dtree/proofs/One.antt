@@ -1,4 +1,5 @@
--- What an accepted hand refinement changes, seen in the records. Rests on `rules`, Demands (one refinement), and on `records`, Seen.
+-- What an accepted hand refinement changes, seen in the records.
+-- Rests on `rules`, Demands (one refinement), and on `records`, Seen.
 use mathlib.Core.Path.{_≡_, sym, ap, subst, _∙_}
 use mathlib.Core.Bool.{true, false}
 use mathlib.Core.List.{List, [], _∷_, _++_}

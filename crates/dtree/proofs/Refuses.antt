@@ -1,4 +1,5 @@
--- When a call on a tree is refused, and what it then hands back. Rests on Calling.antt and on `rules`, First.
+-- When a call on a tree is refused, and what it then hands back.
+-- Rests on Calling.antt and on `rules`, First.
 use mathlib.Core.Path.{_≡_, refl, sym, ap, subst, _∙_}
 use mathlib.Core.Bool.{Bool, true, false, not}
 use mathlib.Core.List.{List, []}
@@ -15,10 +16,8 @@ use Rattle.records.specs.declared.Node.{Node}
 use Rattle.records.specs.declared.Tree.{Tree}
 use Rattle.records.proofs.Positions.{length-places}
 use Rattle.records.proofs.Sixteen.{good-sure}
-use Rattle.store.specs.Safe.{Safe}
 use Rattle.clauses.specs.declared.Clauses.{Clauses}
 use Rattle.grow.specs.Branched.{LeafWays}
-use Rattle.find.specs.Finds.{Within}
 use Rattle.dtree.specs.Promises.{numberOf, Called}
 use Rattle.dtree.proofs.Calling.{called, refusedBy, refused-tree, refused-outcome}
 
@@ -57,13 +56,16 @@ run-sixteen t x m ok l b =
 -- ---- what the test of 16 tells
 
 module _ (t : Table) (x : Tree) (r : Bool) (e : r ≡ isGood t x) where
+  -- A test that fails says that 16 applies.
   pub found-bad : r ≡ false → bad t x ≡ true
   unfolding bad
   found-bad h = ap not (sym e ∙ h)
 
+  -- One that holds says that the tree is good.
   pub found-good : r ≡ true → Good t x
   found-good h = good-sure t x (sym e ∙ h)
 
+  -- And that 16 does not apply.
   pub not-bad : r ≡ true → bad t x ≡ false
   unfolding bad
   not-bad h = ap not (sym e ∙ h)
@@ -72,11 +74,6 @@ module _ (t : Table) (x : Tree) (r : Bool) (e : r ≡ isGood t x) where
 pub odd-room : (t : Table) (x : Tree) → Good t x → x .used < 511 → x .used + 1 < 511
 unfolding layout
 odd-room t x g h = omega (arith, h, ap (λ (y : Tree). y .used) (g .is), length-places (g .made))
-
--- Safe records have their children among the 511.
-pub safe-within : (xs : List Node) → Safe xs → Within xs
-unfolding Within
-safe-within xs s i = omega (arith, s .each i .children-inside)
 
 -- Equal records have equal ways.
 pub ways-there : (ps qs : List ℕ) (x y : Node) (c : Clauses) → x ≡ y → LeafWays ps qs x c → LeafWays ps qs y c

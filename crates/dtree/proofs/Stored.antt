@@ -22,6 +22,7 @@ pub record Stored (t : Table) (x : Tree) (p : Place) (i : Interval) : Type 0 whe
   pub by-the-rules : i ≡ interval (t .weights) node
   pub certain : Certain (t .weights) node
 
+-- An interval that the tree of a series has at a place is what Stored says, for every tree of records that tells this series.
 on-series : (t : Table) → Accepted t → (ns : List Refinement) → series t ns ≡ true → (x : Tree) → history x ≡ ns → (p : Place) (i : Interval)
     → intervalAt t p (tree ns) ≡ some i → Stored t x p i
 unfolding intervalAt
@@ -37,6 +38,7 @@ on-series t ok ns h x own p i e = by (subtree t p (tree ns)) refl e
           certain = enclosure t ok ns h p y d;
         }
 
+-- So is every interval that the records of a good tree show.
 pub stored : (t : Table) → Accepted t → (x : Tree) → Good t x → (p : Place) (i : Interval) → treeInterval x p ≡ some i → Stored t x p i
 stored t ok x g p i e =
     on-series t ok (g .made) (g .accepted) x (ap history (g .is) ∙ history-layout t (g .made) (g .accepted)) p i

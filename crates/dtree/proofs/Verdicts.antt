@@ -1,4 +1,5 @@
--- What an accepted run says and how much it makes. Rests on `rules`, Runs, where each verdict is what it says.
+-- What an accepted run says and how much it makes.
+-- Rests on `rules`, Runs, where each verdict is what it says.
 use mathlib.Core.Path.{_≡_, ap, _∙_}
 use mathlib.Core.Bool.{true, false}
 use mathlib.Core.List.{List, _++_}

@@ -6,7 +6,7 @@ use mathlib.Core.List.{List, [], _∷_, _++_}
 use mathlib.Core.Option.{none, some}
 use mathlib.Core.Logic.{_↔_}
 use Prim.Native.Nat.{ℕ, _+_, _-_, _≤_}
-use lib.ListN.{getD, set}
+use lib.ListN.{set}
 use Rattle.rules.specs.Rounding.{S}
 use Rattle.rules.specs.Table.{Table, ways, Encloses}
 use Rattle.rules.specs.Refusals.{tableNumber, Accepted}
@@ -18,7 +18,7 @@ use Rattle.rules.specs.declared.Limits.{Limits}
 use Rattle.rules.specs.declared.Verdict.the-variants.{Met}
 use Rattle.rules.specs.declared.Answer.{Answer}
 use Rattle.rules.specs.declared.RunAnswer.{RunAnswer}
-use Rattle.records.specs.Records.{blank, noNodes, history, treeCount, bad, treeKind, treeInterval}
+use Rattle.records.specs.Records.{recordIn, noNodes, history, treeCount, bad, treeKind, treeInterval}
 use Rattle.records.specs.Library.{openTree, callTree, callOutcome}
 use Rattle.records.specs.declared.Node.{Node}
 use Rattle.records.specs.declared.Tree.{Tree}
@@ -49,14 +49,14 @@ pub record Opening (t : Table) (x : Tree) (a : Answer) : Type 0 where
 
 -- The record of the root.
 abbrev pub rootOf : Tree → Node
-rootOf x = getD (x .nodes) 0 blank
+rootOf x = recordIn (x .nodes) 0
 
 -- The number of a call on any tree, 16 judged by the records.
 unfoldable pub numberOf : Table → Tree → Call → ℕ
 numberOf t x (byHand bs k) = handNumber t (bad t x) (tree (history x)) bs k
 numberOf t x (byRun m) = runNumber t (bad t x) m
 
--- What an accepted call does that is handed x and returns y with the reply r.
+-- What an accepted call does that is lent x and leaves y, with the reply r.
 pub record Worked (t : Table) (x y : Tree) (r : Reply) : Type 0 where
   -- A certain interval, no wider than the one that stood at the root before.
   pub certain : Certain t r

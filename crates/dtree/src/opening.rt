@@ -1,11 +1,11 @@
 //! The opening: a table is accepted with its root leaf, or refused by the first number that applies.
-//! Rests on `checks` for the refusals and on `node` for the root leaf's record.
+//! Rests on `checks` for the refusals, on `clauses` and `node` for the root leaf's record, and on `store` for the lent tree.
 ghost use mathlib.Core.Path.{_≡_};
+ghost use mathlib.Core.List.{[]};
 ghost use Rattle.rules.specs.Refusals.{Accepted};
 ghost use Rattle.records.specs.Records.{recordAt};
 ghost use Rattle.store.specs.Lent.{treeOf};
 ghost use Rattle.dtree.specs.Promises.{Opening, oneRecord};
-ghost use mathlib.Core.List.{[]};
 use checks::table::table_number;
 use clauses::sets::whole;
 use node::leaf_record;

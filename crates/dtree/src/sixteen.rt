@@ -1,5 +1,6 @@
 //! Refusal 16: whether a tree, whatever it holds, is one that the table and some series of accepted refinements gives.
-//! The refinements that the records tell are made again from the root leaf, and the outcome is compared (`records`, Growing and Rebuilt).
+//! The refinements that the records tell are made again from the root leaf, and the outcome is compared.
+//! Rests on `records`, Growing, where this is defined, on `grow` and `compare`, and on `store` for the lent trees.
 ghost use mathlib.Core.Path.{_≡_};
 ghost use mathlib.Core.Bool.{true, _&&_};
 ghost use mathlib.Core.List.{List};
@@ -16,9 +17,9 @@ ghost use Rattle.dtree.specs.Remade.{Remade};
 use super::opening::put_alone;
 use super::opening::root_leaf;
 use clauses::Clauses;
-use compare::kind_told;
 use compare::possible_told;
 use compare::same_nodes;
+use grow::join::kind_of;
 use grow::refine::grow;
 use grow::refine::ways_of;
 use records::Node;
@@ -62,7 +63,7 @@ fn remake(weights: &[u32], present: &[u64], absent: &[u64], x: &Words, y: &mut W
     if !may(present, absent, leaf, c, n) {
         return false;
     }
-    grow(weights, present, absent, y, c, kind_told(n), j);
+    grow(weights, present, absent, y, c, kind_of(n), j);
     true
 }
 

@@ -2,41 +2,34 @@
 -- Rests on the records' Seen.antt, Live.antt and Rebuilt.antt, and on the rules' laws of `first`.
 use mathlib.Core.Path.{_≡_, refl, sym, ap, _∙_}
 use mathlib.Core.Bool.{Bool, true, false, not, _&&_}
-use mathlib.Core.List.{List, [], _∷_, _++_, List·Memᴰ·tail}
+use mathlib.Core.List.{List, [], _∷_}
 use mathlib.Core.Option.{Option, none, some, Option·none-ne-some, Option·some-injective}
-use Prim.Native.Nat.{ℕ, suc, _<_}
+use Prim.Native.Nat.{ℕ}
 use native.Mathlib.Omega.{arith}
-use native.Mathlib.Decide.{decLt}
 use lib.ListN.{length, getD}
 use lib.Dec.{eqb, ltb}
 use borrow.Author.Tests.{eq-eqb, ne-eqb, not-false}
 use Rattle.rules.specs.Table.{Table, ways}
 use Rattle.rules.specs.declared.Way.{Way}
 use Rattle.rules.specs.Leaf.{isOpen}
-use Rattle.rules.specs.Tree.{left, right, Place, possible, roomy, Refinement, tree, kindAt, leafWays, Subtree, subtree, root, acceptable, series}
+use Rattle.rules.specs.Tree.{left, Place, possible, roomy, Refinement, tree, kindAt, leafWays, Subtree, subtree, root, acceptable, series}
 use Rattle.rules.specs.Refusals.{refusal, first, wayRefusals, tableRefusals, tableNumber, Accepted}
 use Rattle.rules.specs.Calls.{placeOf, leafNamed, noLeaf, ofLeaf, leafRefusals, handRefusals, handNumber, handMakes}
 use Rattle.rules.specs.declared.Kind.{Kind}
 use Rattle.rules.proofs.Booleans.{and-both}
 use Rattle.rules.proofs.First.{none-applies, first-here, first-later, first-after}
 use Rattle.rules.proofs.Places.{has-subtree, subtree-has, leaf-subtree, undone-leaf, done-no-leaf}
-use Rattle.rules.proofs.Series.{In, only-done}
 use Rattle.records.specs.Records.{blank, places, position, leftCode, recordWays, recordsOf, layout, walk}
 use Rattle.records.specs.declared.Node.{Node}
 use Rattle.records.specs.declared.Tree.{Tree}
-use Rattle.records.proofs.Positions.{Held, held-at, position-of, position-lt, child-held, has-held, held-has, places-once, position-child, right-next}
-use Rattle.records.proofs.InPlace.{few-places, record-at, record-rest}
+use Rattle.records.proofs.Positions.{Held, has-held, held-has, position-child}
+use Rattle.records.proofs.InPlace.{record-at}
 use Rattle.records.proofs.Live.{Holds, refined, unrefined, holds}
 use Rattle.records.proofs.Rebuilt.{room-is}
 use Rattle.records.proofs.Seen.{shown, left-link, walk-leads}
-use Rattle.find.specs.Finds.{Within, led, found, wordTable, recordRefusals, recordNumber, numberAt, leafNumber}
+use Rattle.find.specs.Finds.{led, found, wordTable, recordRefusals, recordNumber, numberAt, leafNumber}
 
--- ---- the weights do not count
-
-pub weightless-ways : (t : Table) (n : Node) → recordWays (wordTable (t .present) (t .absent)) n ≡ recordWays t n
-unfolding recordWays ways
-weightless-ways t n = refl
-
+-- The number does not depend on the weights.
 pub weightless : (t : Table) (x : Tree) (bs : List ℕ) (k : Kind) → leafNumber (wordTable (t .present) (t .absent)) x bs k ≡ leafNumber t x bs k
 unfolding leafNumber numberAt recordNumber recordRefusals recordWays ways
 weightless t x bs k = ap (λ (n : ℕ). elim (ltb 64 (length bs)) as (λ b. ℕ) [ true ↦ 17 | false ↦ n ]) (by (found (x .nodes) bs))
@@ -49,7 +42,6 @@ weightless t x bs k = ap (λ (n : ℕ). elim (ltb 64 (length bs)) as (λ b. ℕ)
 pub record Names (t : Table) (ns : List Refinement) (bs : List ℕ) (k : Kind) (j : ℕ) : Type 0 where
   pub place : Place
   pub named : placeOf bs ≡ some place
-  pub held : Held place (places ns)
   pub found-at : position place (places ns) ≡ j
   pub accepted : acceptable t (tree ns) (record { place = place; kind = k }) ≡ true
   pub makes : handMakes bs k ≡ record { place = place; kind = k } ∷ []
@@ -62,34 +54,6 @@ agree e f g h = rw (e, f, g, h)
 module _ (t : Table) (ns : List Refinement) (whole : series t ns ≡ true) where
   abbrev xs : List Node
   xs = recordsOf t ns
-
-  -- ---- the links lead to records
-
-  -- Both children of a place's record.
-  within-at : (p : Place) → Held p (places ns) → suc (getD xs (position p (places ns)) blank .left) < 511
-  unfolding leftCode places
-  within-at p held = by (kindAt p (tree ns)) refl
-    where
-      by : (o : Option Kind) → kindAt p (tree ns) ≡ o → suc (getD xs (position p (places ns)) blank .left) < 511
-      by none d = omega (arith, left-link t ns p none d held)
-      by (some k) d =
-          let i : In (record { place = p; kind = k }) ns = only-done ns p k d in
-          omega (
-            arith,
-            left-link t ns p (some k) d held,
-            right-next p k ns i,
-            position-lt ns (p ++ (right ∷ [])) (List·Memᴰ·tail (child-held p k right ns i)),
-            few-places t ns whole,
-          )
-
-  -- EVERY LAYOUT OF A SERIES IS WITHIN THE 511 RECORDS, so that `leaf_at` may be called on it.
-  pub layout-within : Within (layout t ns .nodes)
-  unfolding Within layout
-  layout-within i = by (decLt i (length (places ns)))
-    where
-      by : Dec (i < length (places ns)) → suc (getD xs i blank .left) < 511
-      by (yes l) = rw (position-of (places ns) i (places-once t ns whole) l) at (within-at (getD (places ns) i []) (held-at (places ns) i l))
-      by (no l) = omega (arith, ap (λ (x : Node). x .left) (record-rest t ns i (omega arith)))
 
   -- ---- the number
 
@@ -200,7 +164,6 @@ module _ (t : Table) (ns : List Refinement) (whole : series t ns ≡ true) where
             record {
               place = p;
               named = d;
-              held = has-held ns p (subtree-has p (root t) (tree ns) y g);
               found-at = Option·some-injective (position p (places ns)) j f;
               accepted = accepted-at p d z;
               makes = rw (d, handMakes);

@@ -1,5 +1,5 @@
 -- The numbers of a record, case by case as the code tries them, and what an answer then tells.
--- Rests on the rules' laws of `first`.
+-- Rests on the rules' laws of `first` and on `store`, Safe.
 use mathlib.Core.Path.{_≡_, refl, sym, ap, ap₂, _∙_}
 use mathlib.Core.Bool.{Bool, true, false, not}
 use mathlib.Core.List.{List, [], _∷_}
@@ -20,11 +20,12 @@ use Rattle.rules.proofs.First.{none-applies, first-none, first-here, first-late
 use Rattle.records.specs.Records.{blank, recordIn, inWords, recordWays, childRecord, walk}
 use Rattle.records.specs.declared.Node.{Node}
 use Rattle.records.specs.declared.Tree.{Tree}
+use Rattle.store.specs.Safe.{Safe}
 use Rattle.formula.specs.Leaves.{FaultFits}
 use Rattle.find.specs.declared.Spot.{Spot}
 use Rattle.find.specs.declared.Spot.the-variants.{At, Nowhere}
 use Rattle.find.specs.declared.Named.the-variants.{Leaf, Refused}
-use Rattle.find.specs.Finds.{Within, led, found, spotOf, wordTable, recordRefusals, recordNumber, numberAt, leafNumber, Tells}
+use Rattle.find.specs.Finds.{led, found, spotOf, wordTable, recordRefusals, recordNumber, numberAt, leafNumber, Tells}
 
 -- ---- the number of a record
 
@@ -102,25 +103,25 @@ leads-to o s e = sym (same o) ∙ ap back (sym e)
     same (some j) = refl
 
 -- It is one of the 511 records.
-walk-inside : (xs : List Node) → Within xs → (p : Place) (i j : ℕ) → i < 511 → walk xs p i ≡ some j → j < 511
-unfolding walk Within
+walk-inside : (xs : List Node) → Safe xs → (p : Place) (i j : ℕ) → i < 511 → walk xs p i ≡ some j → j < 511
+unfolding walk
 walk-inside xs w [] i j h e = rw (Option·some-injective i j e) at h
 walk-inside xs w (b ∷ p) i j h e = by (eqb (getD xs i blank .left) 0) refl (walk-inside xs w p (childRecord b (getD xs i blank .left)) j (child b))
   where
     child : (b : Side) → childRecord b (getD xs i blank .left) < 511
-    child left = omega (arith, w i)
-    child right = w i
+    child left = omega (arith, w .each i .children-inside)
+    child right = omega (arith, w .each i .children-inside)
 
     by : (c : Bool) → eqb (getD xs i blank .left) 0 ≡ c → (walk xs p (childRecord b (getD xs i blank .left)) ≡ some j → j < 511) → j < 511
     by true d ih = absurd (Option·none-ne-some _ (sym (rw (d, walk) refl) ∙ e))
     by false d ih = ih (sym (rw (d, walk) refl) ∙ e)
 
-led-inside : (xs : List Node) → Within xs → (o : Option Place) (j : ℕ) → led xs 0 o ≡ some j → j < 511
+led-inside : (xs : List Node) → Safe xs → (o : Option Place) (j : ℕ) → led xs 0 o ≡ some j → j < 511
 unfolding led
 led-inside xs w none j e = absurd (Option·none-ne-some _ e)
 led-inside xs w (some p) j e = walk-inside xs w p 0 j (omega arith) e
 
-pub spot-inside : (xs : List Node) → Within xs → (bs : List ℕ) (j : ℕ) → At j ≡ spotOf (found xs bs) → j < 511
+pub spot-inside : (xs : List Node) → Safe xs → (bs : List ℕ) (j : ℕ) → At j ≡ spotOf (found xs bs) → j < 511
 spot-inside xs w bs j e = led-inside xs w (placeOf bs) j (leads-to (found xs bs) (At j) e)
 
 -- ---- what the answers of `leaf_at` tell
@@ -155,7 +156,7 @@ module _ (t : Table) (x : Tree) (bs : List ℕ) (k : Kind) where
       unfolding Tells
       refused q = (number, q)
 
-      pub refinable : m ≡ 0 → FaultFits k → Within (x .nodes) → Tells t x bs k (Leaf j)
+      pub refinable : m ≡ 0 → FaultFits k → Safe (x .nodes) → Tells t x bs k (Leaf j)
       unfolding Tells
       refinable z fits w =
           let p = passes t (x .used) k (recordIn (x .nodes) j) (sym number-is ∙ z) in

@@ -1,5 +1,5 @@
 -- The walk of `find`, byte by byte: what one byte does, and the loop's invariant, that the rest of the place leads on to the answer.
--- Rests on specs/Finds.antt alone.
+-- Rests on specs/Finds.antt and on `store`, Safe.
 use mathlib.Core.Path.{_≡_, refl, sym, ap, _∙_}
 use mathlib.Core.List.{List, _∷_}
 use mathlib.Core.Option.{Option, none, some}
@@ -13,8 +13,9 @@ use Rattle.rules.specs.Tree.{Side, left, right, Place}
 use Rattle.rules.specs.Calls.{stepTo, placeOf}
 use Rattle.records.specs.Records.{blank, recordIn, childRecord, walk}
 use Rattle.records.specs.declared.Node.{Node}
+use Rattle.store.specs.Safe.{Safe}
 use Rattle.find.specs.declared.Spot.the-variants.{At, Nowhere}
-use Rattle.find.specs.Finds.{Within, led, found, spotOf}
+use Rattle.find.specs.Finds.{led, found, spotOf}
 
 -- A byte above 1 names no place.
 place-none : (b : ℕ) (bs : List ℕ) → 1 < b → placeOf (b ∷ bs) ≡ none
@@ -85,10 +86,9 @@ module _ {xs : List Node} {bs : List ℕ} {j i : ℕ} (w : Walk xs bs j i) where
       at-leaf z = ap spotOf (sym (byte-none xs j (getD bs i 0) (drop (suc i) bs) (sym link ∙ z)) ∙ next)
 
       -- Else it goes on to the child.
-      pub turn : Within xs → (n .left ≡ 0 → ⊥) → getD bs i 0 ≤ 1 → Walk xs bs (n .left + getD bs i 0) (i + 1)
-      unfolding Within
+      pub turn : Safe xs → (n .left ≡ 0 → ⊥) → getD bs i 0 ≤ 1 → Walk xs bs (n .left + getD bs i 0) (i + 1)
       turn k q g =
           record {
-            inside = omega (arith, k j, link, g);
+            inside = omega (arith, k .each j .children-inside, link, g);
             rest = rw (link, add-one) (sym (byte-some xs j (getD bs i 0) (drop (suc i) bs) g (λ z. q (link ∙ z))) ∙ next);
           }

@@ -4,15 +4,15 @@ use mathlib.Core.Path.{_≡_}
 use mathlib.Core.Bool.{true, false, not}
 use mathlib.Core.List.{List, [], _∷_}
 use mathlib.Core.Option.{Option, none, some}
-use Prim.Native.Nat.{ℕ, suc, _<_}
-use lib.ListN.{length, getD}
+use Prim.Native.Nat.{ℕ, _<_}
+use lib.ListN.{length}
 use lib.Dec.{eqb, ltb}
 use Rattle.rules.specs.Table.{Table}
 use Rattle.rules.specs.Tree.{Place, possible}
 use Rattle.rules.specs.Refusals.{Refusal, refusal, first}
 use Rattle.rules.specs.Calls.{placeOf}
 use Rattle.rules.specs.declared.Kind.{Kind}
-use Rattle.records.specs.Records.{blank, recordWays, walk}
+use Rattle.records.specs.Records.{recordIn, recordWays, walk}
 use Rattle.records.specs.declared.Node.{Node}
 use Rattle.records.specs.declared.Tree.{Tree}
 use Rattle.formula.specs.Leaves.{FaultFits}
@@ -20,10 +20,6 @@ use Rattle.find.specs.declared.Spot.{Spot}
 use Rattle.find.specs.declared.Spot.the-variants.{At, Nowhere}
 use Rattle.find.specs.declared.Named.{Named}
 use Rattle.find.specs.declared.Named.the-variants.{Leaf, Refused}
-
--- Both children of every record are among the 511.
-unfoldable pub Within : List Node → Type 0
-Within xs = (i : ℕ) → suc (getD xs i blank .left) < 511
 
 -- The record to which the links lead from record i, if there is such a place.
 unfoldable pub led : List Node → ℕ → Option Place → Option ℕ
@@ -54,13 +50,14 @@ recordRefusals t used k n =
     ∷ refusal 20 (not (possible k (recordWays t n)))
     ∷ []
 
+-- The first of these that applies, 0 if none does.
 unfoldable pub recordNumber : Table → ℕ → Kind → Node → ℕ
 recordNumber t used k n = first (recordRefusals t used k n)
 
 -- The number at the record that a place leads to, if it leads to one.
 unfoldable pub numberAt : Table → Tree → Kind → Option ℕ → ℕ
 numberAt t x k none = 17
-numberAt t x k (some j) = recordNumber t (x .used) k (getD (x .nodes) j blank)
+numberAt t x k (some j) = recordNumber t (x .used) k (recordIn (x .nodes) j)
 
 -- WHICH OF 17 TO 20 REFUSES a refinement of kind k at the place that the bytes name, 0 if none does.
 unfoldable pub leafNumber : Table → Tree → List ℕ → Kind → ℕ
@@ -73,9 +70,9 @@ pub record Refinable (t : Table) (x : Tree) (bs : List ℕ) (k : Kind) (j : ℕ)
   pub unrefused : leafNumber t x bs k ≡ 0
   pub leads : found (x .nodes) bs ≡ some j
   pub inside : j < 511
-  pub live : getD (x .nodes) j blank .live ≡ 1
+  pub live : recordIn (x .nodes) j .live ≡ 1
   pub room : x .used < 511
-  pub fitting : possible k (recordWays t (getD (x .nodes) j blank)) ≡ true
+  pub fitting : possible k (recordWays t (recordIn (x .nodes) j)) ≡ true
   pub fault : FaultFits k
 
 -- The leaf's record where nothing refuses it, and else the number.

@@ -1,11 +1,12 @@
 //! The leaf that a hand refinement names, found by the links of the records, and which of 17 to 20 refuses it.
-//! Rests on the records of `records` and on `formula`. specs/ has the numbers told from records, proofs/ that on a layout they are the rules'.
+//! Rests on the records of `records`, lent as `store` has them, on `clauses` and on `formula`. specs/ has the numbers told from records, proofs/ that on a layout they are the rules'.
 ghost use mathlib.Core.Path.{_≡_};
 ghost use Prim.Native.Nat.{_≤_};
 ghost use lib.ListN.{length};
 ghost use Rattle.store.specs.Lent.{treeOf};
+ghost use Rattle.store.specs.Safe.{Safe};
 ghost use Rattle.formula.specs.Leaves.{FaultFits};
-ghost use Rattle.find.specs.Finds.{Within, found, spotOf, wordTable, recordNumber, Tells};
+ghost use Rattle.find.specs.Finds.{found, spotOf, wordTable, recordNumber, Tells};
 use clauses::keeping::remaining_of;
 use formula::child::possible;
 use records::Node;
@@ -18,7 +19,7 @@ use store::used_in;
 const LONGEST: usize = 64;
 
 /// Where a place leads: to a record, or to none.
-pub enum Spot {
+enum Spot {
     At(usize),
     Nowhere,
 }
@@ -30,8 +31,8 @@ pub enum Named {
 }
 
 /// The record of the place that the bytes name, going down from the root's record by the left links.
-pub fn find(tree: &Words, place: &[u8]) -> Spot
-    requires { ⌜ Within (treeOf (now tree) .nodes) ⌝ }
+fn find(tree: &Words, place: &[u8]) -> Spot
+    requires { ⌜ Safe (treeOf (now tree) .nodes) ⌝ }
     ensures { λ r. ⌜ r ≡ spotOf (found (treeOf (now (tree .entry)) .nodes) (now (place .entry))) ⌝ }
 {
     let mut at: usize = 0;
@@ -80,7 +81,7 @@ fn refusal(present: &[u64], absent: &[u64], n: Node, used: usize, k: Kind) -> u8
 pub fn leaf_at(present: &[u64], absent: &[u64], tree: &Words, place: &[u8], k: Kind) -> Named
     requires { ⌜ length (now present) ≤ 128 ⌝ }
     requires { ⌜ length (now absent) ≡ length (now present) ⌝ }
-    requires { ⌜ Within (treeOf (now tree) .nodes) ⌝ }
+    requires { ⌜ Safe (treeOf (now tree) .nodes) ⌝ }
     ensures { λ r. ⌜ Tells (wordTable (now (present .entry)) (now (absent .entry))) (treeOf (now (tree .entry))) (now (place .entry)) k r ⌝ }
 {
     if LONGEST < place.len() {

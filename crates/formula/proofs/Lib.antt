@@ -1,5 +1,5 @@
 -- Laws on plain lists and numbers that the functions' proofs rest on.
--- Those marked pub are for the proofs of callers too.
+-- Each function's proof stands in its own directory.
 mod Counted
 mod KeptWords
 mod Some

@@ -10,7 +10,7 @@ use clauses::taking::faults;
 use clauses::taking::taken;
 
 /// In how many of the ways each fault is named: every way adds one to the count of each fault that it names.
-pub fn counts(present: &[u64], absent: &[u64], c: Clauses) -> [u64; 64]
+fn counts(present: &[u64], absent: &[u64], c: Clauses) -> [u64; 64]
     requires { ⌜ Within (now present) (now absent) c ⌝ }
     ensures { λ r. ⌜ ((f : ℕ) → f < 64 → getD r f 0 ≡ named f (waysOf (now (present .entry)) (now (absent .entry)) c)) ⌝ }
 {

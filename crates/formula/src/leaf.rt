@@ -19,7 +19,7 @@ use clauses::taking::faults;
 use clauses::taking::taken;
 
 /// Leaf low: the kept ways as independent events. `kept` has the faults of each way that is kept.
-pub fn leaf_low(weights: &[u32], present: &[u64], absent: &[u64], c: Clauses) -> u64
+fn leaf_low(weights: &[u32], present: &[u64], absent: &[u64], c: Clauses) -> u64
     requires { ⌜ length (now weights) ≤ 64 ⌝ }
     requires { ⌜ overweight (now weights) ≡ false ⌝ }
     requires { ⌜ Within (now present) (now absent) c ⌝ }
@@ -50,7 +50,7 @@ pub fn leaf_low(weights: &[u32], present: &[u64], absent: &[u64], c: Clauses) ->
 }
 
 /// Leaf high: the sum of the high chances, or S if that is less.
-pub fn leaf_high(weights: &[u32], present: &[u64], absent: &[u64], c: Clauses) -> u64
+fn leaf_high(weights: &[u32], present: &[u64], absent: &[u64], c: Clauses) -> u64
     requires { ⌜ length (now weights) ≤ 64 ⌝ }
     requires { ⌜ overweight (now weights) ≡ false ⌝ }
     requires { ⌜ Within (now present) (now absent) c ⌝ }

@@ -18,16 +18,19 @@ use Rattle.grow.proofs.SafeLaws.{safe-read, safe-set}
 -- ---- one record of raising
 
 module _ (ws : List ℕ) (xs : List Node) (i : ℕ) where
+  -- A record other than the root's: its interval is joined, and raising goes on from its parent's with one record less to do.
   above-root : (k : ℕ) → 0 < k → (i ≡ 0 → ⊥) → raise ws k xs i ≡ raise ws (k - 1) (joinAt ws xs i) (getD xs i blank .parent)
   unfolding raise
   above-root zero h e = absurd (omega arith)
   above-root (suc k) h e = let p : suc k - 1 ≡ k = omega arith in rw (p, ne-eqb i 0 e, raise)
 
+  -- The root's: its interval is joined, and that is all.
   at-root : (k : ℕ) → 0 < k → i ≡ 0 → raise ws k xs i ≡ joinAt ws xs i
   unfolding raise
   at-root zero h e = absurd (omega arith)
   at-root (suc k) h e = rw (eq-eqb i 0 e, raise)
 
+  -- With no record left to do nothing changes.
   none-left : (k : ℕ) → k ≤ 0 → raise ws k xs i ≡ xs
   unfolding raise
   none-left k h = let z : k ≡ 0 = omega arith in rw z
@@ -43,10 +46,11 @@ pub record Climb (ws : List ℕ) (t : Tree) (j : ℕ) (u : Tree) (i k : ℕ) : T
   pub rest : raise ws k (u .nodes) i ≡ raise ws 64 (t .nodes) j
 
 -- What raising the tree t from record j comes to.
-abbrev pub Raised : List ℕ → Tree → ℕ → Tree → Type 0
+abbrev Raised : List ℕ → Tree → ℕ → Tree → Type 0
 Raised ws t j u = (u .nodes ≡ raise ws 64 (t .nodes) j) × (u .used ≡ t .used) × Safe (u .nodes)
 
 module _ (ws : List ℕ) (t : Tree) (j : ℕ) (u : Tree) (i k : ℕ) (inv : Climb ws t j u i k) where
+  -- With no record left to do the tree is raised.
   pub spent : k ≤ 0 → Raised ws t j u
   spent h = (sym (none-left ws (u .nodes) i k h) ∙ inv .rest, inv .same, inv .safe)
 

@@ -24,10 +24,10 @@ use Rattle.grow.specs.Branched.{LeafWays, leafBelow, three}
 use Rattle.grow.proofs.SafeLaws.{safe-set}
 
 -- A table of weights alone, and what stands at a place but for its set: a leaf's record depends on no more.
-abbrev pub only : List ℕ → Table
+abbrev only : List ℕ → Table
 only ws = record { weights = ws; present = []; absent = [] }
 
-abbrev pub spot : ℕ → ℕ → List Way → Spot
+abbrev spot : ℕ → ℕ → List Way → Spot
 spot p q vs = record { set = []; present = p; absent = q; ways = vs }
 
 -- The leaf with the fixed faults and the ways of a child is the child.

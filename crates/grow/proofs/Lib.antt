@@ -1,5 +1,5 @@
 -- Laws on records that the functions' proofs rest on.
--- Those marked pub are for the proofs of callers too.
-pub mod Climb
-pub mod Leaves
+-- SafeLaws is for the proofs of callers too.
+mod Climb
+mod Leaves
 pub mod SafeLaws

@@ -8,15 +8,13 @@ use native.Mathlib.Decide.{ℕ-discrete, decLt}
 use lib.ListN.{length, getD, set, replicate, length-replicate, getD-replicate, List·getD-eq-default}
 use lib.Seq.{getD-set-same, getD-set-other}
 use Rattle.rules.specs.Rounding.{S}
-use Rattle.rules.specs.declared.Kind.{Kind}
-use Rattle.rules.specs.declared.Kind.the-variants.{Shannon}
 use Rattle.records.specs.Records.{blank}
 use Rattle.records.specs.Growing.{withEnds}
 use Rattle.records.specs.declared.Node.{Node}
-use Rattle.formula.specs.Leaves.{FaultFits}
 use Rattle.store.specs.Safe.{SafeNode, Safe}
 
-pub safe-blank : SafeNode blank
+-- The blank is safe.
+safe-blank : SafeNode blank
 safe-blank =
     record {
       fault-fits = omega arith;
@@ -28,6 +26,7 @@ safe-blank =
       ownhigh-le = omega arith;
     }
 
+-- Any number of blanks is.
 pub safe-blanks : (n : ℕ) → Safe (replicate n blank)
 safe-blanks n = record { each = λ i. at i (decLt i n) }
   where
@@ -41,6 +40,7 @@ safe-blanks n = record { each = λ i. at i (decLt i n) }
 pub safe-read : (xs : List Node) (i : ℕ) (x : Node) → Safe xs → x ≡ getD xs i blank → SafeNode x
 safe-read xs i x s e = rw e (s .each i)
 
+-- Safe records are safe after a safe one is stored among them.
 pub safe-set : (xs : List Node) (j : ℕ) (x : Node) → j < length xs → Safe xs → SafeNode x → Safe (set xs j x)
 safe-set xs j x h s n = record { each = λ i. at i (ℕ-discrete i j) }
   where
@@ -60,8 +60,3 @@ safe-ends x lo hi s l h =
       ownlow-le = s .ownlow-le;
       ownhigh-le = s .ownhigh-le;
     }
-
--- The fault of a kind has a bit in a word.
-pub fault-below : (k : Kind) (f : ℕ) → k ≡ Shannon f → FaultFits k → f < 64
-unfolding FaultFits
-fault-below k f e h = rw e at h

@@ -2,7 +2,7 @@
 //! `up` is the direction: false makes low ends, true high ends.
 ghost use mathlib.Core.Path.{_≡_};
 ghost use mathlib.Core.Bool.{false};
-ghost use Prim.Native.Nat.{_<_, _≤_};
+ghost use Prim.Native.Nat.{_≤_};
 ghost use lib.ListN.{getD};
 ghost use Rattle.rules.specs.Rounding.{S};
 ghost use Rattle.rules.specs.Refusals.{overweight};
@@ -11,6 +11,7 @@ ghost use Rattle.records.specs.Records.{kindOf};
 ghost use Rattle.records.specs.Growing;
 ghost use Rattle.chances.specs.Directions.{dirOf};
 ghost use Rattle.store.specs.Safe.{SafeNode};
+ghost use Rattle.formula.specs.Leaves.{FaultFits};
 use chances::rounding::either;
 use chances::rounding::mean;
 use records::Node;
@@ -18,7 +19,7 @@ use rules::Kind;
 
 /// What a record says was done there.
 pub fn kind_of(x: Node) -> Kind
-    requires { ⌜ x .fault < 64 ⌝ }
+    requires { ⌜ FaultFits (kindOf x) ⌝ }
     ensures { λ r. ⌜ r ≡ kindOf x ⌝ }
 {
     if x.kind == 2 {

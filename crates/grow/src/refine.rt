@@ -72,10 +72,10 @@ fn refined(x: Node, k: Kind, left: usize) -> Node
 }
 
 /// The records that a refinement of a leaf writes: its own and those of its two leaves.
-pub struct Branch {
-    pub node: Node,
-    pub left: Node,
-    pub right: Node,
+struct Branch {
+    node: Node,
+    left: Node,
+    right: Node,
 }
 
 /// The records that a refinement of the leaf x in record j writes, where c are its ways and its left leaf goes to record `next`.

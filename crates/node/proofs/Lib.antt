@@ -1,1 +1,2 @@
--- Each function's proof stands in its own directory.
+-- No law is needed here: the function's proof stands in its own directory.
+-- Rests on the contract of `formula`, ends, and on `clauses`, Loops.

@@ -1,1 +1,2 @@
--- The definitions are those of `records`.
+-- Nothing is defined here: the contract of this crate cites the definitions of the crates below.
+-- Rests on `rules`, Rounding and Refusals, `records`, Growing, and `clauses`, Leaves.

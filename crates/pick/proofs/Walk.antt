@@ -30,6 +30,7 @@ unfoldable pub entered : List Node → Found → List ℕ → Found
 entered xs b [] = b
 entered xs b (i ∷ is) = entered xs (wider b (added xs i)) is
 
+-- Records entered in two parts: what the first part finds, the second goes on from.
 entered-append : (xs : List Node) (b : Found) (is js : List ℕ) → entered xs b (is ++ js) ≡ entered xs (entered xs b is) js
 unfolding entered
 entered-append xs b [] js = refl
@@ -145,6 +146,7 @@ abbrev pub turns : List Node → ℕ → Bool → ℕ → ℕ
 turns xs used true i = 512 * length (ahead xs used true i)
 turns xs used false i = 512 * length (ahead xs used false i) + i
 
+-- A search begins with the root to go down at and nothing found.
 pub start : (xs : List Node) (used : ℕ) → Linked xs used → Walk xs used true 0 Nothing
 unfolding entered ahead pickOf wider
 start xs used linked =
@@ -158,13 +160,11 @@ start xs used linked =
     }
 
 module _ {xs : List Node} {used i : ℕ} {best : Found} where
+  -- The record where the search is has a number below 511.
   pub room : {down : Bool} → Walk xs used down i best → i < 511
   room w = let h = w .inside in let f = w .linked .fits in omega arith
 
-  -- A child of an inner record has a number below 511.
-  pub fits : {down : Bool} → Walk xs used down i best → (recordIn xs i .left ≡ 0 → ⊥) → suc (recordIn xs i .left) < 511
-  fits w q = let h = w .linked .inside i (w .inside) q in let f = w .linked .fits in omega arith
-
+  -- At a leaf the search takes the wider of that leaf and what it had, and comes back up.
   pub at-leaf : Walk xs used true i best → recordIn xs i .left ≡ 0 → Walk xs used false i (wider best (ownFound i (recordIn xs i)))
   at-leaf w z =
       record {
@@ -173,10 +173,11 @@ module _ {xs : List Node} {used i : ℕ} {best : Found} where
         rest = sym (ap (entered xs best) (ahead-leaf (w .linked) i (w .inside) z) ∙ entered-leaf xs best i (ahead xs used false i) z) ∙ w .rest;
       }
 
+  -- Fewer turns are left then.
   pub less-leaf : Walk xs used true i best → recordIn xs i .left ≡ 0 → turns xs used false i < turns xs used true i
   less-leaf w z = omega (arith, ap length (ahead-leaf (w .linked) i (w .inside) z), room w)
 
-  -- A child's record is stated as the code computes it.
+  -- At an inner record the search goes down to the left child, whose record is stated as the code computes it.
   pub to-left : Walk xs used true i best → (recordIn xs i .left ≡ 0 → ⊥) → Walk xs used true (recordIn xs i .left + 0) best
   to-left w q =
       let n = w .linked .inside i (w .inside) q in
@@ -187,6 +188,7 @@ module _ {xs : List Node} {used i : ℕ} {best : Found} where
         rest = sym (ap (entered xs best) (ahead-inner (w .linked) i (w .inside) q) ∙ entered-inner xs best i (ahead xs used true (recordIn xs i .left)) q) ∙ w .rest;
       })
 
+  -- Fewer turns are left then.
   pub less-left : Walk xs used true i best → (recordIn xs i .left ≡ 0 → ⊥) → turns xs used true (recordIn xs i .left + 0) < turns xs used true i
   less-left w q = rw add-zero (omega (arith, ap length (ahead-inner (w .linked) i (w .inside) q)))
 
@@ -200,22 +202,27 @@ module _ {xs : List Node} {used i : ℕ} {best : Found} where
       abbrev above : ℕ
       above = recordIn xs i .parent
 
-      pub higher : above < i
+      -- A parent's record stands before its child's.
+      higher : above < i
       higher = w .linked .up i (w .inside) q
 
+      -- From a left child the search goes down at its right sibling.
       pub to-right : recordIn xs above .left ≡ i → Walk xs used true (recordIn xs above .left + 1) best
       to-right e =
           let n = ahead-right (w .linked) i (w .inside) q e in
           rw (e, add-one) (record { inside = n .0; linked = w .linked; rest = sym (ap (entered xs best) (n .1)) ∙ w .rest })
 
+      -- Fewer turns are left then.
       pub less-right : recordIn xs above .left ≡ i → turns xs used true (recordIn xs above .left + 1) < turns xs used false i
       less-right e = rw (e, add-one) (omega (arith, ap length (ahead-right (w .linked) i (w .inside) q e .1)))
 
+      -- From a right child it comes back up to the parent.
       pub to-parent : (recordIn xs above .left ≡ i → ⊥) → Walk xs used false above best
       to-parent e =
           let h = w .inside in
           let g = higher in
           record { inside = omega arith; linked = w .linked; rest = sym (ap (entered xs best) (ahead-up (w .linked) i (w .inside) q e)) ∙ w .rest }
 
+      -- Fewer turns are left then too.
       pub less-parent : (recordIn xs above .left ≡ i → ⊥) → turns xs used false above < turns xs used false i
       less-parent e = omega (arith, ap length (ahead-up (w .linked) i (w .inside) q e), higher)

@@ -1,9 +1,9 @@
 //! Which leaf a run refines next: the widest open one, the leftmost if several are as wide, found by the links of the records.
-//! Rests on the records of `records`. specs/ has the search as a definition, proofs/ that on a layout it finds the rules' next leaf.
+//! Rests on the records of `records` and on `store`. specs/ has the search as a definition, proofs/ that on a layout it finds the rules' next leaf.
 ghost use mathlib.Core.Path.{_≡_};
-ghost use Rattle.records.specs.Growing.{recordWidth};
 ghost use mathlib.Core.Bool.{false};
 ghost use Prim.Native.Nat.{_+_, _<_};
+ghost use Rattle.records.specs.Growing.{recordWidth};
 ghost use Rattle.store.specs.Lent.{treeOf};
 ghost use Rattle.store.specs.Safe.{Safe};
 ghost use Rattle.pick.specs.Picks.{ownFound, wider, pickOf, Linked};
@@ -104,7 +104,7 @@ fn entered(s: Search, n: Node) -> Search
 /// One step of a search at record n, below record p. Down by the left links to a leaf, then up by the parent links until a right
 /// child is next.
 fn onward(s: Search, n: Node, p: Node) -> Search
-    requires { ⌜ (n .left + 1 < 511) × (p .left + 1 < 511) ⌝ }
+    requires { ⌜ p .left + 1 < 511 ⌝ }
     ensures { λ r. ⌜ view r ≡ stepped (view s) n p ⌝ }
 {
     if s.down {

@@ -22,10 +22,12 @@ abbrev answerIn : Outcome → Answer → Answer
 answerIn (handed a) b = a
 answerIn (ran a) b = b
 
+-- And the run's answer.
 abbrev runAnswerIn : Outcome → RunAnswer → RunAnswer
 runAnswerIn (handed a) b = b
 runAnswerIn (ran a) b = a
 
+-- An opening told in numbers.
 pub opening-told : (t : Table) (y : Tree) (a : Answer) (r : FlatAnswer) → Opening t y a → r ≡ flatAnswer a → OpeningTold t y r
 opening-told t y a r p e =
     record {
@@ -33,6 +35,7 @@ opening-told t y a r p e =
       promise = subst (λ (b : Answer). Opening t y b) (p .answer-is) p;
     }
 
+-- A hand refinement told in numbers.
 pub refining-told : (t : Table) (x : Tree) (bs : List ℕ) (k : Kind) (y : Tree) (a : Answer) (r : FlatAnswer) → Refining t x bs k y a → r ≡ flatAnswer a
     → RefiningTold t x bs k y r
 unfolding callOutcome
@@ -44,6 +47,7 @@ refining-told t x bs k y a r p e =
       same : a ≡ refineAnswer t x bs k
       same = ap (λ (o : Outcome). answerIn o a) (p .call .outcome-is)
 
+-- A run told in numbers.
 pub running-told : (t : Table) (x : Tree) (m : Limits) (y : Tree) (a : RunAnswer) (r : FlatAnswer) → Running t x m y a → r ≡ flatRun a → RunningTold t x m y r
 unfolding callOutcome
 running-told t x m y a r p e =

@@ -13,6 +13,7 @@ use Rattle.rules.specs.declared.WriteAnswer.{WriteAnswer}
 unfoldable pub reportRefusals : List ℕ → ℕ → List Refusal
 reportRefusals bs space = refusal 22 (ltb space (length (text bs))) ∷ []
 
+-- The number of reporting: 22 or 0.
 unfoldable pub reportNumber : List ℕ → ℕ → ℕ
 reportNumber bs space = first (reportRefusals bs space)
 

@@ -34,7 +34,7 @@ module _ (t : Table) (ns : List Refinement) (h : series t ns ≡ true) where
   tree-by zero ms = ap (λ (r : List Refinement). layout t (r ++ ms)) (history-layout t ns h)
   tree-by (suc n) ms = ap (layout t) (sym (append-nil ns))
 
-  -- The tree that a call returns is that of the series with what the call makes by the rules.
+  -- The tree that a call leaves is that of the series with what the call makes by the rules.
   pub call-tree : (c : Call) → callTree t (layout t ns) c ≡ layout t (ns ++ makes t (tree ns) c)
   unfolding callTree handTree runTree makes callNumber wouldMake
   call-tree (byHand bs k) =

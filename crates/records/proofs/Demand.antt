@@ -1,4 +1,4 @@
--- DEMAND 3, on the trees and answers that the library returns: two operators from one accepted table.
+-- DEMAND 3, on the trees that the library leaves and its answers: two operators from one accepted table.
 -- Rests on ByTheRules.antt (the library goes by the rules), Seen.antt (what a reader sees) and the rules' Demand3.antt.
 use mathlib.Core.Path.{_≡_, sym, ap, _∙_}
 use mathlib.Core.List.{List, [], _∷_, _++_}

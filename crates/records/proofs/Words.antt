@@ -1,28 +1,24 @@
 -- A record's two words are the set of its ways' numbers, and with its fixed faults they give its remaining ways back.
 -- Rests on the rules' HandedDown.antt, which says that a node's own numbers may stand for its set, and on Bits.antt.
-use mathlib.Core.Path.{_≡_, refl, sym, ap, ap₂, _∙_, subst}
+use mathlib.Core.Path.{_≡_, refl, sym, ap, ap₂, _∙_}
 use mathlib.Core.Bool.{Bool, true, false, _||_}
 use mathlib.Core.List.{List, [], _∷_}
 use mathlib.Core.Option.{Option, some}
-use Prim.Native.Nat.{ℕ, suc, _+_, _-_, _^_, _<_, _≤_}
+use Prim.Native.Nat.{ℕ, _-_, _^_, _<_, _≤_}
 use native.Mathlib.Omega.{arith}
-use lib.ListN.{length}
 use lib.Pow.{pow-lt, pow-pos}
-use lib.Dec.{eqb, ltb, leb}
+use lib.Dec.{eqb, ltb}
 use lib.Bits.{bitOr, or-lt}
-use borrow.Author.Tests.{ltb-true, ltb-false, leb-false, lt-leb, eqb-true, eq-eqb, ne-eqb}
-use Rattle.rules.specs.Table.{bit, Table, rows, ways, absentRows}
+use borrow.Author.Tests.{ltb-true, ltb-false, eqb-true, eq-eqb, ne-eqb}
+use Rattle.rules.specs.Table.{bit, Table, ways}
 use Rattle.rules.specs.declared.Way.{Way}
-use Rattle.rules.specs.Leaf.{any, select, hasNumber, ofSet, remaining}
+use Rattle.rules.specs.Leaf.{select, hasNumber, remaining}
 use Rattle.rules.specs.Tree.{Place, Refinement, tree, Subtree, subtree, series}
 use Rattle.rules.specs.Tree.{Node as Spot}
-use Rattle.rules.specs.Refusals.{Accepted}
-use Rattle.rules.proofs.Booleans.{same-test, any-head, any-tail, any-cons}
+use Rattle.rules.proofs.Booleans.{same-test}
 use Rattle.rules.proofs.Bits.{bit-zero, bit-or, bit-pow}
-use Rattle.rules.proofs.Remaining.{remaining-any}
 use Rattle.rules.proofs.Sets.{ways-rising, select-same}
 use Rattle.rules.proofs.HandedDown.{handed-own}
-use Rattle.rules.proofs.Accepted.{few-ways, paired-words}
 use Rattle.records.specs.Records.{lowWord, highWord, inWords, recordWays, subtreeOr, recordAt}
 
 -- ---- the words hold the numbers
@@ -81,7 +77,7 @@ record-ways t ns h p x e =
     told : Spot → List Way
     told y = remaining (y .present) (y .absent) (select (inWords (lowWord (y .ways)) (highWord (y .ways))) (ways t))
 
--- ---- the words fit 64 bits
+-- ---- the low word fits 64 bits
 
 -- The low word of any ways.
 pub low-fits : (us : List Way) → lowWord us < 2 ^ 64
@@ -93,48 +89,3 @@ low-fits (v ∷ us) = by (ltb (v .number) 64) refl (low-fits us)
         → (elim b as (λ b. ℕ) [ true ↦ bitOr (2 ^ v .number) (lowWord us) | false ↦ lowWord us ]) < 2 ^ 64
     by true e ih = or-lt 64 (2 ^ v .number) (lowWord us) (pow-lt (ltb-true (v .number) 64 e)) ih
     by false e ih = ih
-
--- A number of n or above, which no way of a table of n ways has.
-abbrev pub numberFrom : ℕ → Way → Bool
-numberFrom n v = leb n (v .number)
-
--- The high word of ways with numbers below 128.
-pub high-fits : (us : List Way) → any (numberFrom 128) us ≡ false → highWord us < 2 ^ 64
-unfolding highWord
-high-fits [] h = pow-pos 64
-high-fits (v ∷ us) h = by (ltb (v .number) 64) refl (leb-false 128 (v .number) (any-head (numberFrom 128) v us h)) (high-fits us (any-tail (numberFrom 128) v us h))
-  where
-    by : (b : Bool) → ltb (v .number) 64 ≡ b → v .number < 128 → highWord us < 2 ^ 64
-        → (elim b as (λ b. ℕ) [ true ↦ highWord us | false ↦ bitOr (2 ^ (v .number - 64)) (highWord us) ]) < 2 ^ 64
-    by true e k ih = ih
-    by false e k ih = or-lt 64 (2 ^ (v .number - 64)) (highWord us) (pow-lt {i = v .number - 64} {j = 64} (omega (arith, ltb-false (v .number) 64 e))) ih
-
-rows-numbers : (n i : ℕ) (ps qs : List ℕ) → length ps ≡ length qs → i + length ps ≤ n → any (numberFrom n) (rows i ps qs) ≡ false
-unfolding any rows absentRows
-rows-numbers n i [] [] e h = refl
-rows-numbers n i [] (q ∷ qs) e h = absurd (omega arith)
-rows-numbers n i (p ∷ ps) [] e h = absurd (omega arith)
-rows-numbers n i (p ∷ ps) (q ∷ qs) e h =
-    any-cons (numberFrom n) (record { number = i; present = p; absent = q }) (rows (suc i) ps qs) (lt-leb n i (omega arith)) (rows-numbers n (suc i) ps qs (omega arith) (omega arith))
-
-select-any : (h : Way → Bool) (P : ℕ → Bool) (vs : List Way) → any h vs ≡ false → any h (select P vs) ≡ false
-unfolding select any
-select-any h P [] e = refl
-select-any h P (v ∷ vs) e = by (P (v .number)) (select-any h P vs (any-tail h v vs e))
-  where
-    by : (b : Bool) → any h (select P vs) ≡ false → any h (elim b as (λ b. List Way) [ true ↦ v ∷ select P vs | false ↦ select P vs ]) ≡ false
-    by true ih = any-cons h v (select P vs) (any-head h v vs e) ih
-    by false ih = ih
-
--- The ways of an accepted table have numbers below 128.
-ways-below : (t : Table) → Accepted t → any (numberFrom 128) (ways t) ≡ false
-unfolding ways
-ways-below t ok = rows-numbers 128 0 (t .present) (t .absent) (paired-words t ok) (omega (arith, few-ways t ok))
-
--- And so have those that remain at a place, in whose record the words fit.
-pub remaining-below : (t : Table) → Accepted t → (ns : List Refinement) → series t ns ≡ true → (p : Place) (x : Subtree) → subtree t p (tree ns) ≡ some x
-    → any (numberFrom 128) (x .node .ways) ≡ false
-remaining-below t ok ns h p x e =
-    subst (λ (vs : List Way). any (numberFrom 128) vs ≡ false) (handed-own t ns h p x e)
-    (remaining-any (numberFrom 128) (λ m v q. q) (x .node .present) (x .node .absent) (ofSet (x .node .ways) (ways t))
-    (select-any (numberFrom 128) (hasNumber (x .node .ways)) (ways t) (ways-below t ok)))

@@ -1,5 +1,5 @@
 -- The library's calls on records, as their contracts cite them: the tree and the answer of each, for every input.
--- A list of calls hands each the tree last returned. Rests on Records.antt and on the rules' calls.
+-- A list of calls hands each the tree last left. Rests on Records.antt and on the rules' calls.
 use mathlib.Core.List.{List, [], _∷_, _++_}
 use Prim.Native.Nat.{ℕ, zero, suc}
 use Rattle.rules.specs.Table.{Table}
@@ -11,6 +11,7 @@ use Rattle.rules.specs.declared.Limits.{Limits}
 use Rattle.records.specs.Records.{layout, noNodes, history, bad}
 use Rattle.records.specs.declared.Tree.{Tree}
 
+-- The tree of an opening with that number.
 unfoldable pub openBy : ℕ → Table → Tree
 openBy zero t = layout t []
 openBy (suc n) t = noNodes
@@ -19,6 +20,7 @@ openBy (suc n) t = noNodes
 unfoldable pub openTree : Table → Tree
 openTree t = openBy (tableNumber t) t
 
+-- The tree of a call with that number, which makes the refinements ns if it is accepted.
 unfoldable pub treeBy : ℕ → Table → Tree → List Refinement → Tree
 treeBy zero t x ns = layout t (history x ++ ns)
 treeBy (suc n) t x ns = x
@@ -33,7 +35,7 @@ runTree t x m = treeBy (runNumber t (bad t x) m) t x (runMakes t (tree (history 
 
 -- ---- lists of calls
 
--- The tree that a call returns.
+-- The tree that a call leaves.
 unfoldable pub callTree : Table → Tree → Call → Tree
 callTree t x (byHand bs k) = handTree t x bs k
 callTree t x (byRun m) = runTree t x m

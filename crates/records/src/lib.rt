@@ -1,4 +1,4 @@
-//! A tree as the library hands it over: 511 records of one layout, the root in record 0.
+//! A tree's records: 511 of one layout, the root in record 0.
 //! specs/ says which records a series of refinements gives and how to read the series back; proofs/ that these belong together.
 
 /// One node. `kind` is 0 blank, 1 leaf, 2 independent-or, 3 Shannon on `fault`; `live` is 1 for an open leaf.

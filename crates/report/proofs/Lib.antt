@@ -2,8 +2,8 @@
 -- Fresh.antt: what a run on a table just opened comes to. Head.antt: what reading's answer says of the bytes.
 -- Appending.antt: bytes appended to a text. Digits.antt: a number's digits as a loop finds them.
 mod Fresh
-pub mod Printed
+mod Printed
 mod Head
 mod Appending
 mod Digits
-pub mod Whole
+mod Whole

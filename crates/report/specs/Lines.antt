@@ -44,5 +44,6 @@ unfoldable pub answerText : ℕ → RunAnswer → List ℕ
 answerText n (RunAnswer.Ended v f) = endedText n v f
 answerText n (RunAnswer.Refused k) = refusedText k
 
+-- The text of a line: its cue's number with its answer.
 abbrev pub lineText : Line → List ℕ
 lineText l = answerText (l .cue) (l .answer)

@@ -4,12 +4,12 @@ use mathlib.Core.Path.{_≡_, refl, ap, _∙_}
 use mathlib.Core.Bool.{Bool, true, false, _&&_, true≢false}
 use mathlib.Core.List.{List, [], _∷_}
 use Prim.Native.Nat.{ℕ, zero, suc, _+_, _-_, _*_, _/_, _%_, _^_, _≤_, _<_, min}
-use native.Mathlib.Nat.{mul-le-mul-left, mul-le-mul-right, pow-suc}
+use native.Mathlib.Nat.{mul-le-mul-right, pow-suc}
 use native.Mathlib.Omega.{arith}
 use lib.ListN.{length}
 use lib.Dec.{eqb}
 use lib.Bits.{bitAnd, and-step}
-use Rattle.rules.specs.Rounding.{S, Dir, down, up, Le, over}
+use Rattle.rules.specs.Rounding.{S, Dir, down, up, Le}
 use Rattle.rules.specs.Table.{odd, Way, Assignment, fits, fitsAll, satisfies}
 use Rattle.rules.specs.Leaf.{step, chanceFrom, chance}
 use Rattle.rules.proofs.Sum.{expect, mass, Weights, sides, mass-never}
@@ -81,21 +81,3 @@ chance-bound d (w ∷ ws) p q c e =
 pub way-bound : (d : Dir) (ws : List ℕ) → Weights ws → (v : Way) → bitAnd (v .present) (v .absent) ≡ 0
     → Le d (chance d ws v * S ^ length ws) (S * mass ws (satisfies v))
 way-bound d ws k v e = rw (way-mass ws k (v .present) (v .absent)) (chance-bound d ws (v .present) (v .absent) S e)
-
--- ---- a chance is at most S
-
-over-le : (d : Dir) (x c : ℕ) → x ≤ S → c ≤ S → over d (c * x) ≤ S
-over-le down x c h k = omega (arith, mul-le-mul-left c h)
-over-le up x c h k = omega (arith, mul-le-mul-left c h)
-
-step-le : (d : Dir) (w : ℕ) (P Q : Bool) (c : ℕ) → w ≤ S → c ≤ S → step d w P Q c ≤ S
-step-le d w true Q c h k = over-le d w c h k
-step-le d w false true c h k = over-le d (S - w) c (omega arith) k
-step-le d w false false c h k = k
-
-pub chanceFrom-le : (d : Dir) (ws : List ℕ) → Weights ws → (p q c : ℕ) → c ≤ S → chanceFrom d ws p q c ≤ S
-chanceFrom-le d [] k p q c h = h
-chanceFrom-le d (w ∷ ws) k p q c h = chanceFrom-le d ws (k .1) (p / 2) (q / 2) (step d w (odd p) (odd q) c) (step-le d w (odd p) (odd q) c (k .0) h)
-
-pub chance-le : (d : Dir) (ws : List ℕ) → Weights ws → (v : Way) → chance d ws v ≤ S
-chance-le d ws k v = chanceFrom-le d ws k (v .present) (v .absent) S (omega arith)

@@ -1,5 +1,5 @@
 //! A run on the records of a tree: refinements, one after the other, until there is a reason to stop.
-//! `turn` says whether there is one and what is written otherwise, `run` makes the refinements. Rests on `rules`, Run, and `records`.
+//! `turn` says whether there is one and makes one refinement otherwise, `run` repeats that. Rests on `rules`, Run, and `records`.
 pub mod run;
 pub mod turn;
 

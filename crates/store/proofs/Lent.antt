@@ -1,17 +1,27 @@
 -- The tree of lent words: it has 511 records, and words whose records and count are those of a tree are that tree.
 -- So a store of the count, and words that are all 0, give the tree that they should. Rests on the definitions of Lent.antt and the kit's lists.
 use mathlib.Core.Path.{_≡_, refl, sym, ap, _∙_}
-use mathlib.Core.List.{List, []}
+use mathlib.Core.List.{List, [], _∷_}
 use Prim.Native.Nat.{ℕ, zero, suc, _+_, _*_, _<_}
 use native.Mathlib.Nat.{add-zero}
 use native.Mathlib.Omega.{arith}
 use lib.ListN.{length, getD, set, replicate, length-replicate, getD-replicate}
 use lib.Seq.{getD-set-same, getD-set-other, ext-getD}
 use Rattle.records.specs.Records.{blank, recordIn, noNodes}
+use Rattle.records.specs.declared.Node.{Node}
 use Rattle.records.specs.declared.Tree.{Tree}
 use Rattle.store.specs.Lent.{nodeAt, nodesFrom, treeOf, withUsed}
 
 -- ---- the records of the words
+
+-- A record's fields after its first, in the order of its words.
+abbrev pub others : Node → List ℕ
+others n =
+    n .fault ∷ n .live ∷ n .parent ∷ n .left ∷ n .waysa ∷ n .waysb ∷ n .present ∷ n .absent ∷ n .low ∷ n .high ∷ n .ownlow ∷ n .ownhigh ∷ []
+
+-- All of them.
+abbrev pub fields : Node → List ℕ
+fields n = n .kind ∷ others n
 
 -- k records are k.
 nodes-long : (ws : List ℕ) (j k : ℕ) → length (nodesFrom ws j k) ≡ k

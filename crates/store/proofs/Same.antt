@@ -12,20 +12,16 @@ use Rattle.records.specs.Records.{recordIn}
 use Rattle.records.specs.declared.Node.{Node}
 use Rattle.records.specs.declared.Tree.{Tree}
 use Rattle.store.specs.Lent.{nodeAt, treeOf}
-use Rattle.store.proofs.Lent.{record-is}
+use Rattle.store.proofs.Lent.{fields, record-is}
 
 -- ---- a record's words
-
--- A record's fields, in the order of its words.
-abbrev fields : Node → List ℕ
-fields n =
-    n .kind ∷ n .fault ∷ n .live ∷ n .parent ∷ n .left ∷ n .waysa ∷ n .waysb ∷ n .present ∷ n .absent ∷ n .low ∷ n .high ∷ n .ownlow ∷ n .ownhigh ∷ []
 
 -- n words from word i + k on.
 unfoldable run : List ℕ → ℕ → ℕ → ℕ → List ℕ
 run ws i k zero = []
 run ws i k (suc n) = getD ws (i + k) 0 ∷ run ws i (suc k) n
 
+-- Number q of them is word i + k + q.
 run-at : (ws : List ℕ) (i k n q : ℕ) → q < n → getD (run ws i k n) q 0 ≡ getD ws (i + (k + q)) 0
 unfolding run
 run-at ws i k zero q h = absurd (omega arith)

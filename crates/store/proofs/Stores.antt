@@ -11,7 +11,7 @@ use lib.Seq.{getD-set-same, getD-set-other}
 use Rattle.records.specs.Records.{blank, recordIn}
 use Rattle.records.specs.declared.Node.{Node}
 use Rattle.store.specs.Lent.{nodeAt, treeOf, withRecord}
-use Rattle.store.proofs.Lent.{long, record-is, tree-is, same-record}
+use Rattle.store.proofs.Lent.{others, fields, long, record-is, tree-is, same-record}
 
 -- Numbers stored one after the other from word i + k on.
 unfoldable pub stores : List ℕ → ℕ → ℕ → List ℕ → List ℕ
@@ -37,34 +37,29 @@ found (x ∷ xs) ws i k fits (suc m) h =
     ap (λ p. getD (stores (set ws (i + k) x) i (suc k) xs) p 0) (omega arith)
     ∙ found xs (set ws (i + k) x) i (suc k) (omega (arith, length-set ws (i + k) x)) m (omega arith)
 
--- The words of a record after its first.
-abbrev pub others : Node → List ℕ
-others n =
-    n .fault ∷ n .live ∷ n .parent ∷ n .left ∷ n .waysa ∷ n .waysb ∷ n .present ∷ n .absent ∷ n .low ∷ n .high ∷ n .ownlow ∷ n .ownhigh ∷ []
-
 module _ (ws : List ℕ) (j : ℕ) (n : Node) (h : j < 511) (e : length ws ≡ 6644) where
   -- The words with the record stored.
   us : List ℕ
-  us = stores ws (13 * j) 0 (n .kind ∷ others n)
+  us = stores ws (13 * j) 0 (fields n)
 
   -- Record j is the one that was stored.
   there : nodeAt us j ≡ n
   unfolding us
   there =
-      same-record us (n .kind ∷ others n) j 0
-      (λ q l. ap (λ p. getD us (13 * j + p) 0) (sym (zero-add q)) ∙ found (n .kind ∷ others n) ws (13 * j) 0 (omega arith) q l ∙ ap (λ p. getD (n .kind ∷ others n) p 0) (sym (zero-add q)))
+      same-record us (fields n) j 0
+      (λ q l. ap (λ p. getD us (13 * j + p) 0) (sym (zero-add q)) ∙ found (fields n) ws (13 * j) 0 (omega arith) q l ∙ ap (λ p. getD (fields n) p 0) (sym (zero-add q)))
 
   -- Every other record is as it was.
   elsewhere : (i : ℕ) → (i ≡ j → ⊥) → nodeAt us i ≡ nodeAt ws i
   unfolding us
-  elsewhere i f = same-record us ws i i (λ q l. kept (n .kind ∷ others n) ws (13 * j) 0 (13 * i + q) (λ p a b z. f (omega arith)))
+  elsewhere i f = same-record us ws i i (λ q l. kept (fields n) ws (13 * j) 0 (13 * i + q) (λ p a b z. f (omega arith)))
 
   -- So the tree is the one with that record.
   stored : treeOf us ≡ withRecord (treeOf ws) j n
   unfolding us treeOf
   stored =
       tree-is us (withRecord (treeOf ws) j n) (length-set (treeOf ws .nodes) j n ∙ long ws) (λ i l. by i l (ℕ-discrete i j))
-      (kept (n .kind ∷ others n) ws (13 * j) 0 6643 (λ q a b z. omega arith))
+      (kept (fields n) ws (13 * j) 0 6643 (λ q a b z. omega arith))
     where
       by : (i : ℕ) → i < 511 → Dec (i ≡ j) → nodeAt us i ≡ recordIn (set (treeOf ws .nodes) j n) i
       by i l (yes z) = ap (nodeAt us) z ∙ there ∙ sym (getD-set-same (treeOf ws .nodes) j n blank (omega (arith, long ws))) ∙ ap (recordIn (set (treeOf ws .nodes) j n)) (sym z)

@@ -2,11 +2,11 @@
 -- Rests on `records`, Records. Growing a tree keeps this, so that a caller has it for good once it has it.
 use mathlib.Core.List.{List}
 use Prim.Native.Nat.{ℕ, _+_, _≤_, _<_}
-use lib.ListN.{getD}
 use Rattle.rules.specs.Rounding.{S}
-use Rattle.records.specs.Records.{blank}
+use Rattle.records.specs.Records.{recordIn}
 use Rattle.records.specs.declared.Node.{Node}
 
+-- A record whose links, fault and ends code may use as they stand.
 pub record SafeNode (x : Node) : Type 0 where
   pub fault-fits : x .fault < 64
   pub parent-inside : x .parent < 511
@@ -18,4 +18,4 @@ pub record SafeNode (x : Node) : Type 0 where
 
 -- Every record is safe. Past the end of the list stands the blank, which is safe too.
 pub record Safe (xs : List Node) : Type 0 where
-  pub each : (i : ℕ) → SafeNode (getD xs i blank)
+  pub each : (i : ℕ) → SafeNode (recordIn xs i)

@@ -16,8 +16,8 @@ const RECORD: usize = 13;
 /// The word that says how many records are in use.
 const USED: usize = 6643;
 
-/// Does nothing. A proof learns where a tree is lent as a slice that it has all its words, and then that what is stored is there.
-fn whole(words: &[u64]) {}
+/// Does nothing: lending the tree as a slice tells a proof that it has all 6,644 words.
+fn all_words(words: &[u64]) {}
 
 /// Record j of the tree.
 pub fn record_at(tree: &Words, j: usize) -> Node
@@ -47,7 +47,7 @@ pub fn put_record(tree: &mut Words, j: usize, n: Node)
     requires { ⌜ j < 511 ⌝ }
     ensures { λ _. ⌜ treeOf (now (tree .exit)) ≡ withRecord (treeOf (now (tree .entry))) j n ⌝ }
 {
-    whole(tree);
+    all_words(tree);
     let i = RECORD * j;
     tree[i] = n.kind;
     tree[i + 1] = n.fault;
@@ -75,7 +75,7 @@ pub fn used_in(tree: &Words) -> usize
 pub fn put_used(tree: &mut Words, n: usize)
     ensures { λ _. ⌜ treeOf (now (tree .exit)) ≡ withUsed (treeOf (now (tree .entry))) n ⌝ }
 {
-    whole(tree);
+    all_words(tree);
     tree[USED] = n as u64;
 }
 

@@ -6,6 +6,7 @@ use Rattle.rules.specs.declared.RunAnswer.{RunAnswer}
 use Rattle.rules.specs.declared.Verdict.{Verdict}
 use Rattle.tree_vectors.specs.declared.lines.Line.{Line}
 
+-- The reply that a line prints.
 abbrev pub lineReply : Line → Reply
 lineReply l = record { number = l .number; low = l .low; high = l .high; count = l .count }
 

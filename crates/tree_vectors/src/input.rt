@@ -1,4 +1,5 @@
-//! Lists of numbers read from standard input. Rests on `numbers`.
+//! Lists of numbers read from standard input.
+//! Rests on `numbers`.
 ghost use Prim.Native.Nat.{_≤_};
 ghost use Rattle.io.specs.Counts.{Counts};
 use numbers::number;

@@ -1,4 +1,5 @@
--- `possible_told` meets its contract, by the record's kind. Rests on Told.antt and the contracts of `falls_apart` and `occurs`.
+-- `possible_told` meets its contract, by the record's kind.
+-- Rests on Told.antt and the contracts of `falls_apart` and `occurs`.
 use mathlib.Core.Path.{_≡_}
 use mathlib.Core.Bool.{Bool, true}
 use mathlib.Core.List.{List}

@@ -7,7 +7,6 @@ use borrow.Author.Needs.{needs}
 use lib.ListN.{length}
 use Rattle.records.specs.declared.Node.{Node}
 use Rattle.store.specs.Lent.{treeOf}
-use Rattle.find.specs.Finds.{Within}
 use Rattle.find.proofs.Steps.{Walk, start, there, at-leaf, no-step, turn}
 use Rattle.find.proofs.find.Statement.{statement}
 use Rattle.find.proofs.find.Tie as tie
@@ -37,11 +36,10 @@ cast-at : tie.Need-cast-at Inv-loop μ-loop
 cast-at c = search needs
 
 add-at : tie.Need-add-at Inv-loop μ-loop
-unfolding Within
 add-at c =
     let r = c .before .before .before in
     let s = r .before .before in
-    omega (arith, s .before .before .pre (s .loop .at), ap (λ (n : Node). n .left) (r .record-at .ensures), c .if2 .left)
+    omega (arith, s .before .before .pre .each (s .loop .at) .children-inside, ap (λ (n : Node). n .left) (r .record-at .ensures), c .if2 .left)
 
 add-i : tie.Need-add-i Inv-loop μ-loop
 add-i c = search needs

@@ -66,10 +66,8 @@ record-at-requires-2 c κs =
 
 onward-requires : tie.Need-onward-requires Inv-loop μ-loop
 onward-requires c κs =
-    let s = c .before .before .before .before .before .before in (
-      safe-read (nodes s) _ _ (s .pre .1) (c .before .record-at .ensures) .children-inside,
-      safe-read (nodes s) _ _ (s .pre .1) (c .record-at2 .ensures) .children-inside,
-    )
+    let s = c .before .before .before .before .before .before in
+    safe-read (nodes s) _ _ (s .pre .1) (c .record-at2 .ensures) .children-inside
 
 loop-less : tie.Need-loop-less Inv-loop μ-loop
 loop-less c = let l = c .before .before .before .before .before .loop in less (view (l .s)) (l .inv) (on-way (c .before .before .before)) (step c)

@@ -1,12 +1,12 @@
--- `put_record` meets its contract: the 13 stores are those of Stores.antt, and where the tree is lent to `whole` it is known to have all its words.
+-- `put_record` meets its contract: the 13 stores are those of Stores.antt, and where the tree is lent to `all_words` it is known to have all its words.
 -- Rests on Stores.antt.
 use borrow.Author.Needs.{needs}
 use Rattle.store.proofs.Stores.{stores, written}
 use Rattle.store.proofs.put_record.Statement.{statement}
 use Rattle.store.proofs.put_record.Tie as tie
 
-whole-requires : tie.Need-whole-requires
-whole-requires c κs = search needs
+all-words-requires : tie.Need-all-words-requires
+all-words-requires c κs = search needs
 
 mul-i : tie.Need-mul-i
 mul-i c = search needs
@@ -129,13 +129,13 @@ returns : tie.Need-returns
 unfolding stores
 returns c =
     let s = c .before .before .before in
-    written (s .args .tree .now) (s .args .j) (s .args .n) (s .pre) (c .before .whole-arg2 .given .0)
+    written (s .args .tree .now) (s .args .j) (s .args .n) (s .pre) (c .before .all-words-arg2 .given .0)
 
 pub put-record-spec : {M : Type 1} → statement M
 put-record-spec =
     tie.close
     (tie.spec
-    whole-requires
+    all-words-requires
     mul-i
     mul-tree
     element-write-tree

@@ -13,7 +13,7 @@ use Rattle.records.specs.declared.Tree.{Tree}
 use Rattle.find.specs.Finds.{leafNumber, Refinable, Tells}
 use Rattle.find.specs.declared.Named.{Named}
 use Rattle.find.specs.declared.Named.the-variants.{Leaf, Refused}
-use Rattle.dtree.proofs.Refuses.{refused-call, by-table, hand-sixteen, found-bad, found-good, not-bad, odd-room, safe-within, ways-there}
+use Rattle.dtree.proofs.Refuses.{refused-call, by-table, hand-sixteen, found-bad, found-good, not-bad, odd-room, ways-there}
 use Rattle.dtree.proofs.ByHand.{by-leaf, made}
 use Rattle.dtree.proofs.One.{refining}
 use Rattle.dtree.proofs.refining.refine.Statement.{statement}
@@ -51,7 +51,7 @@ leaf-at-requires c κs =
     let i = e .before in
     let o = i .before .before in
     let ok = sym (o .before .table-number .ensures) ∙ o .if1 .left in
-    (few-ways _ ok, (sym (paired-words _ ok), safe-within _ (i .is-good .ensures .1 (not-false _ (e .if2 .left)))))
+    (few-ways _ ok, (sym (paired-words _ ok), i .is-good .ensures .1 (not-false _ (e .if2 .left))))
 
 enum-known-n : tie.Need-enum-known-n
 enum-known-n c = search needs

@@ -50,8 +50,8 @@ returns-3 c =
     cannot _ _ _ _ _ (u .used-in .ensures) _ (r .record-at .ensures) _ _ (n .record-at2 .ensures) (l .record-at3 .ensures) _ (m .may .ensures .0 _)
     (not-true _ (c .if3 .taken))
 
-kind-told-requires : tie.Need-kind-told-requires
-kind-told-requires c κs = let i = c .before in i .before .may .ensures .1 (not-false _ (i .if3 .left))
+kind-of-requires : tie.Need-kind-of-requires
+kind-of-requires c κs = let i = c .before in i .before .may .ensures .1 (not-false _ (i .if3 .left))
 
 grow-requires : tie.Need-grow-requires
 grow-requires c κs =
@@ -68,7 +68,7 @@ grow-requires c κs =
       (
         ways-there _ _ _ _ _ (l .record-at3 .ensures) (w .ways-of .ensures),
         (
-          subst FaultFits (sym (c .kind-told .ensures)) (m .may .ensures .1 (not-false _ (i .if3 .left))),
+          subst FaultFits (sym (c .kind-of .ensures)) (m .may .ensures .1 (not-false _ (i .if3 .left))),
           (p .1 .0, (omega (arith, room, e .if2 .left), omega (arith, room, u .used-in .ensures, p .1 .1))),
         ),
       ),
@@ -87,7 +87,7 @@ returns-4 c =
     let u = f .before in
     let g = c .grow .ensures in
     can _ _ _ _ _ (u .used-in .ensures) _ (r .record-at .ensures) _ _ (n .record-at2 .ensures) (l .record-at3 .ensures) _ (m .may .ensures .0 _)
-    (not-false _ (i .if3 .left)) (f .if1 .left) (e .if2 .left) _ (k .kind-told .ensures) (g .0) (g .1) (g .2)
+    (not-false _ (i .if3 .left)) (f .if1 .left) (e .if2 .left) _ (k .kind-of .ensures) (g .0) (g .1) (g .2)
 
 pub remake-spec : {M : Type 1} → statement M
 remake-spec =
@@ -102,6 +102,6 @@ remake-spec =
     ways-of-requires
     may-requires
     returns-3
-    kind-told-requires
+    kind-of-requires
     grow-requires
     returns-4)

@@ -1,14 +1,14 @@
 -- `fault_code` meets its contract, by the kind.
--- Rests on SafeLaws.antt and the definition of `records`, faultCode.
+-- Rests on the definitions of `records`, faultCode, and `formula`, FaultFits.
 use mathlib.Core.Path.{_≡_}
 use mathlib.Core.Option.{some}
-use Prim.Native.Nat.{ℕ}
+use Prim.Native.Nat.{ℕ, _<_}
 use native.Mathlib.Omega.{arith}
 use borrow.Author.Needs.{needs}
 use Rattle.rules.specs.declared.Kind.{Kind}
 use Rattle.rules.specs.declared.Kind.the-variants.{IndependentOr, Shannon}
 use Rattle.records.specs.Records.{faultCode}
-use Rattle.grow.proofs.SafeLaws.{fault-below}
+use Rattle.formula.specs.Leaves.{FaultFits}
 use Rattle.grow.proofs.refine.fault_code.Statement.{statement}
 use Rattle.grow.proofs.refine.fault_code.Tie as tie
 
@@ -19,6 +19,11 @@ by-groups k e = rw e
 by-fault : (k : Kind) (f : ℕ) → k ≡ Shannon f → f ≡ faultCode (some k)
 unfolding faultCode
 by-fault k f e = rw e
+
+-- The fault of a kind has a bit in a word.
+fault-below : (k : Kind) (f : ℕ) → k ≡ Shannon f → FaultFits k → f < 64
+unfolding FaultFits
+fault-below k f e h = rw e at h
 
 enum-told : tie.Need-enum-told
 enum-told c = search needs
