@@ -23,7 +23,7 @@ use Rattle.records.specs.declared.Tree.{Tree}
 use Rattle.records.proofs.Sixteen.{same-nodes}
 use Rattle.records.proofs.Rebuilt.{rebuilt-is}
 use Rattle.store.specs.Safe.{SafeNode, Safe}
-use Rattle.grow.proofs.SafeLaws.{safe-blanks, safe-set}
+use Rattle.store.proofs.SafeLaws.{safe-blanks, safe-set}
 use Rattle.dtree.specs.Promises.{oneRecord}
 use Rattle.dtree.specs.Remade.{nextAt, nextKind, mayNext, Remade}
 use Rattle.dtree.proofs.Opens.{one-layout, root-record}

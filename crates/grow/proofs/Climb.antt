@@ -1,5 +1,5 @@
 -- Raising, one record at a time: what holds on the way up, and that a turn keeps it.
--- Rests on SafeLaws.antt and on the definitions of `records`, raise, and `store`, withRecord.
+-- Rests on `store`, SafeLaws, on the definitions of `records`, raise, and `store`, withRecord.
 use mathlib.Core.Path.{_≡_, sym, _∙_}
 use mathlib.Core.List.{List}
 use Prim.Native.Nat.{ℕ, zero, suc, _+_, _-_, _≤_, _<_}
@@ -13,7 +13,7 @@ use Rattle.records.specs.declared.Node.{Node}
 use Rattle.records.specs.declared.Tree.{Tree}
 use Rattle.store.specs.Lent.{withRecord}
 use Rattle.store.specs.Safe.{SafeNode, Safe}
-use Rattle.grow.proofs.SafeLaws.{safe-read, safe-set}
+use Rattle.store.proofs.SafeLaws.{safe-read, safe-set}
 
 -- ---- one record of raising
 

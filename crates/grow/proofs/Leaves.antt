@@ -1,5 +1,5 @@
 -- The records that a refinement writes: those of the two new leaves, and all three in their places.
--- Rests on SafeLaws.antt, on `rules`, LeafEnds, on the definitions of Branched.antt, and on that of `records`, refinedAt.
+-- Rests on `store`, SafeLaws, on `rules`, LeafEnds, on the definitions of Branched.antt, and on that of `records`, refinedAt.
 use mathlib.Core.Path.{_≡_, ap, _∙_}
 use mathlib.Core.List.{List, []}
 use Prim.Native.Nat.{ℕ, _+_, _<_}
@@ -21,7 +21,7 @@ use Rattle.clauses.specs.declared.Clauses.{Clauses}
 use Rattle.clauses.specs.Leaves.{waysOf}
 use Rattle.formula.specs.Leaves.{Part}
 use Rattle.grow.specs.Branched.{LeafWays, leafBelow, three}
-use Rattle.grow.proofs.SafeLaws.{safe-set}
+use Rattle.store.proofs.SafeLaws.{safe-set}
 
 -- A table of weights alone, and what stands at a place but for its set: a leaf's record depends on no more.
 abbrev only : List ℕ → Table

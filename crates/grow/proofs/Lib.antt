@@ -1,5 +1,4 @@
 -- Laws on records that the functions' proofs rest on.
--- SafeLaws is for the proofs of callers too.
+-- Climb is for `raise`, Leaves for the records that a refinement writes.
 mod Climb
 mod Leaves
-pub mod SafeLaws

@@ -104,7 +104,7 @@ fn entered(s: Search, n: Node) -> Search
 /// One step of a search at record n, below record p. Down by the left links to a leaf, then up by the parent links until a right
 /// child is next.
 fn onward(s: Search, n: Node, p: Node) -> Search
-    requires { ⌜ p .left + 1 < 511 ⌝ }
+    requires { ⌜ (n .left + 1 < 511) × (p .left + 1 < 511) ⌝ }
     ensures { λ r. ⌜ view r ≡ stepped (view s) n p ⌝ }
 {
     if s.down {

@@ -3,13 +3,12 @@
 use mathlib.Core.Path.{_≡_, sym, _∙_, subst}
 use mathlib.Core.Bool.{false}
 use mathlib.Core.List.{List}
-use Prim.Native.Nat.{ℕ}
 use borrow.Author.Needs.{needs}
 use borrow.Author.Tests.{not-true, not-false}
 use Rattle.records.specs.Records.{recordIn}
 use Rattle.records.specs.declared.Node.{Node}
 use Rattle.store.specs.Lent.{treeOf}
-use Rattle.store.specs.Safe.{SafeNode, Safe}
+use Rattle.store.proofs.SafeLaws.{safe-read}
 use Rattle.pick.specs.Steps.{View, view, stepped}
 use Rattle.pick.proofs.Searching.{Searching, stepsLeft, begins, inside, keeps, less}
 use Rattle.pick.proofs.widest.Statement.{statement}
@@ -25,10 +24,6 @@ abbrev μ-loop : tie.MeasureT-loop
 step-there : (xs : List Node) (s : View) {r : View} (n p : Node) → n ≡ recordIn xs (s .at) → p ≡ recordIn xs (n .parent) → r ≡ stepped s n p
     → r ≡ stepped s (recordIn xs (s .at)) (recordIn xs (recordIn xs (s .at) .parent))
 step-there xs s n p e f h = rw (f, e) at h
-
--- A record that was read is safe.
-safe-read : (xs : List Node) (i : ℕ) (n : Node) → Safe xs → n ≡ recordIn xs i → SafeNode n
-safe-read xs i n safe e = subst SafeNode (sym e) (safe .each i)
 
 -- The records of the lent tree.
 abbrev nodes : tie.Start Inv-loop μ-loop → List Node
@@ -66,8 +61,10 @@ record-at-requires-2 c κs =
 
 onward-requires : tie.Need-onward-requires Inv-loop μ-loop
 onward-requires c κs =
-    let s = c .before .before .before .before .before .before in
-    safe-read (nodes s) _ _ (s .pre .1) (c .record-at2 .ensures) .children-inside
+    let s = c .before .before .before .before .before .before in (
+      safe-read (nodes s) _ _ (s .pre .1) (c .before .record-at .ensures) .children-inside,
+      safe-read (nodes s) _ _ (s .pre .1) (c .record-at2 .ensures) .children-inside,
+    )
 
 loop-less : tie.Need-loop-less Inv-loop μ-loop
 loop-less c = let l = c .before .before .before .before .before .loop in less (view (l .s)) (l .inv) (on-way (c .before .before .before)) (step c)

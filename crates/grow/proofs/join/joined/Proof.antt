@@ -1,5 +1,5 @@
 -- `joined` meets its contract: both ends are joined as the definition says, and the other fields stay.
--- Rests on SafeLaws.antt and the contracts of `kind_of`, `combined` and `overlap`.
+-- Rests on `store`, SafeLaws, and the contracts of `kind_of`, `combined` and `overlap`.
 use mathlib.Core.Path.{_≡_}
 use mathlib.Core.Bool.{Bool, true, false}
 use mathlib.Core.List.{List}
@@ -14,7 +14,7 @@ use Rattle.records.specs.Records.{kindOf}
 use Rattle.records.specs.Growing.{withEnds, joined}
 use Rattle.records.specs.declared.Node.{Node}
 use Rattle.formula.specs.Leaves.{FaultFits}
-use Rattle.grow.proofs.SafeLaws.{safe-ends}
+use Rattle.store.proofs.SafeLaws.{safe-ends}
 use Rattle.grow.proofs.join.joined.Statement.{statement}
 use Rattle.grow.proofs.join.joined.Tie as tie
 

@@ -5,7 +5,7 @@ use native.Mathlib.Omega.{arith}
 use borrow.Author.Needs.{needs}
 use Rattle.store.specs.Lent.{treeOf}
 use Rattle.store.proofs.Lent.{long}
-use Rattle.grow.proofs.SafeLaws.{safe-read}
+use Rattle.store.proofs.SafeLaws.{safe-read}
 use Rattle.grow.proofs.Climb.{Climb, turn, done, spent}
 use Rattle.grow.proofs.raise.raise.Statement.{statement}
 use Rattle.grow.proofs.raise.raise.Tie as tie

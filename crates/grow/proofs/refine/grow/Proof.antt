@@ -19,7 +19,7 @@ use Rattle.clauses.specs.declared.Clauses.{Clauses}
 use Rattle.clauses.specs.Leaves.{waysOf}
 use Rattle.grow.specs.Branched.{LeafWays, Branched, three}
 use Rattle.grow.specs.declared.refine.Branch.{Branch}
-use Rattle.grow.proofs.SafeLaws.{safe-read}
+use Rattle.store.proofs.SafeLaws.{safe-read}
 use Rattle.grow.proofs.Leaves.{safe-three, three-refined}
 use Rattle.grow.proofs.refine.grow.Statement.{statement}
 use Rattle.grow.proofs.refine.grow.Tie as tie

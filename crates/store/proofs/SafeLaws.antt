@@ -1,5 +1,5 @@
--- Safe records: the blank, a record with another interval, a list in which a safe record is stored.
--- Rests on the kit's laws of `set` and `replicate`.
+-- Safe records: the blank, one that was read, one with another interval, a list in which a safe record is stored.
+-- Rests on the definitions of Safe.antt and the kit's laws of `set` and `replicate`.
 use mathlib.Core.Path.{_≡_}
 use mathlib.Core.List.{List}
 use Prim.Native.Nat.{ℕ, _≤_, _<_}
