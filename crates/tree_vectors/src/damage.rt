@@ -20,7 +20,7 @@ pub fn undoing(d: Damage) -> Damage {
     }
 }
 
-/// Damages the tree. A record or a field that there is not is left alone.
+/// Damages the tree. A record that there is not is left alone; from 13 on, every field is the count.
 pub fn change(tree: &mut Words, d: Damage) {
     let mut at: usize = 6643;
     if d.field < 13 {
