@@ -2,6 +2,7 @@
 -- Those marked pub are for the proofs of callers too.
 mod Filter
 pub mod First
+mod Judged
 pub mod Loops
 mod Pairs
 mod Selected

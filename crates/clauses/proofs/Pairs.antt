@@ -59,14 +59,6 @@ in-none a b h =
     let z = or-zero a b h in
     in-words a b (λ i. false) (λ i g. ap (bit i) (z .0) ∙ bit-zero i) (λ i g. ap (bit (i - 64)) (z .1) ∙ bit-zero (i - 64))
 
--- Two words of ones have every number below 128.
-pub all-in : (i : ℕ) → i < 128 → inWords (2 ^ 64 - 1) (2 ^ 64 - 1) i ≡ true
-all-in i h = by (decLt i 64)
-  where
-    by : Dec (i < 64) → inWords (2 ^ 64 - 1) (2 ^ 64 - 1) i ≡ true
-    by (yes g) = in-low (2 ^ 64 - 1) (2 ^ 64 - 1) i g ∙ ones 64 i g
-    by (no g) = in-high (2 ^ 64 - 1) (2 ^ 64 - 1) i (omega arith) ∙ ones 64 (i - 64) (omega arith)
-
 -- ---- words cut to the numbers below n
 
 -- A word cut to its n lowest bits has them and no other.

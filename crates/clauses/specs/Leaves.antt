@@ -3,7 +3,7 @@
 use mathlib.Core.Path.{_≡_}
 use mathlib.Core.Bool.{true, _||_}
 use mathlib.Core.List.{List, _∷_, map}
-use Prim.Native.Nat.{ℕ, _≤_, _<_}
+use Prim.Native.Nat.{ℕ, _^_, _≤_, _<_}
 use lib.ListN.{length, getD}
 use lib.Bits.{bitOr}
 use lib.Dec.{eqb}
@@ -17,6 +17,10 @@ use Rattle.clauses.specs.declared.Taken.{Taken}
 -- The faults that are fixed, in either sense.
 abbrev pub fixedOf : Clauses → ℕ
 fixedOf c = bitOr (c .present) (c .absent)
+
+-- Two words fix one fault.
+abbrev pub OneFault : ℕ → ℕ → Type 0
+OneFault p q = (f : ℕ) × (bitOr p q ≡ 2 ^ f)
 
 -- The way of a table with a number.
 abbrev pub row : List ℕ → List ℕ → ℕ → Way

@@ -18,7 +18,7 @@ use super::taking::taken;
 use rules::Way;
 
 /// A fault fixed present that the way names absent, or fixed absent that it names present.
-fn contradicted(present: u64, absent: u64, v: Way) -> bool
+pub fn contradicted(present: u64, absent: u64, v: Way) -> bool
     ensures { λ r. ⌜ r ≡ Leaf.contradicted present absent v ⌝ }
 {
     (v.present & absent) | (v.absent & present) != 0

@@ -1,7 +1,8 @@
 //! The ways of a leaf without a copy of them: which of a table's ways they are, and the faults that are fixed. Rests on `rules`, Leaf and Group.
-//! `sets` has the words, `taking` the first way and the others, `keeping` the ways that pass a test.
+//! `sets` has the words, `taking` the first way and the others, `keeping` the ways that pass a test, `staying` those that say something new.
 pub mod keeping;
 pub mod sets;
+pub mod staying;
 pub mod taking;
 
 use rules::Way;

@@ -10,18 +10,18 @@ use borrow.Author.Tests.{lt-ltb, le-ltb, eq-eqb, ne-eqb}
 use lib.Dec.{eqb, ltb}
 use lib.ListN.{replicate, length-replicate}
 use Rattle.rules.specs.Rounding.{down, up}
-use Rattle.rules.specs.Table.{Table, ways}
-use Rattle.rules.specs.Tree.{possible, end}
+use Rattle.rules.specs.Table.{Table}
+use Rattle.rules.specs.Tree.{rootWays, possible, end, seriesFrom}
 use Rattle.rules.specs.Refusals.{Accepted}
 use Rattle.rules.specs.declared.Kind.{Kind}
 use Rattle.rules.proofs.Booleans.{and-false}
 use Rattle.rules.proofs.LeafEnds.{leaf-le}
-use Rattle.records.specs.Records.{blank, noNodes, layout, children, recordIn, recordAt, faultCode, leftCode, position, above, places, samePlace, recordWays, kindOf, treeCount, sameNodes, isGood}
+use Rattle.records.specs.Records.{blank, noNodes, layout, children, recordIn, recordAt, faultCode, leftCode, position, above, places, samePlace, recordWays, kindOf, treeCount, sameNodes, isGood, Good}
 use Rattle.records.specs.Growing.{grownAt, mayAt, rebuild, sameAs, isGoodRebuilt}
 use Rattle.records.specs.declared.Node.{Node}
 use Rattle.records.specs.declared.Tree.{Tree}
 use Rattle.records.proofs.Sixteen.{same-nodes}
-use Rattle.records.proofs.Rebuilt.{rebuilt-is}
+use Rattle.records.proofs.Rebuilt.{rebuilt-is, good-next}
 use Rattle.store.specs.Safe.{SafeNode, Safe}
 use Rattle.store.proofs.SafeLaws.{safe-blanks, safe-set}
 use Rattle.dtree.specs.Promises.{oneRecord}
@@ -37,10 +37,10 @@ root-safe t =
       fault-fits = omega arith;
       parent-inside = omega arith;
       children-inside = omega arith;
-      low-le = leaf-le down (t .weights) (ways t);
-      high-le = leaf-le up (t .weights) (ways t);
-      ownlow-le = leaf-le down (t .weights) (ways t);
-      ownhigh-le = leaf-le up (t .weights) (ways t);
+      low-le = leaf-le down (t .weights) (rootWays t);
+      high-le = leaf-le up (t .weights) (rootWays t);
+      ownlow-le = leaf-le down (t .weights) (rootWays t);
+      ownhigh-le = leaf-le up (t .weights) (rootWays t);
     }
 
 alone-safe : (t : Table) → Safe (oneRecord (recordAt t [] []) .nodes)
@@ -64,6 +64,7 @@ module _ (t : Table) (n : ℕ) (x y : Tree) where
 pub record Answers (t : Table) (x y : Tree) (left : ℕ) : Type 0 where
   pub to-go : y .used + 2 * left ≡ 2 * treeCount x + 1
   pub safe : Safe (y .nodes)
+  pub good : Good t y
   pub rest : sameAs (x .nodes) (rebuild t left (x .nodes) (y .nodes) (y .used)) ≡ isGood t x
 
 module _ (t : Table) (ok : Accepted t) (x : Tree) (used : ℕ) (u : used ≡ x .used) where
@@ -74,13 +75,14 @@ module _ (t : Table) (ok : Accepted t) (x : Tree) (used : ℕ) (u : used ≡ x .
 
   -- At first the root leaf stands alone, and all refinements are to go.
   begun-alone : (used % 2 ≡ 0 → ⊥) → Answers t x (oneRecord (recordAt t [] [])) (used / 2)
-  unfolding isGoodRebuilt treeCount oneRecord layout places children
+  unfolding isGoodRebuilt treeCount oneRecord layout places children seriesFrom
   begun-alone h =
       let odd : x .used ≡ 2 * ((x .used - 1) / 2) + 1 = omega (arith, u, h) in
       let half : used / 2 ≡ (x .used - 1) / 2 = omega (arith, u, h) in
       record {
         to-go = omega (arith, odd, half);
         safe = alone-safe t;
+        good = record { made = []; accepted = refl; is = one-layout t };
         rest =
             ap₂ (λ (m : ℕ) (y : Tree). sameAs (x .nodes) (rebuild t m (x .nodes) (y .nodes) (y .used))) half (one-layout t)
             ∙ (rw (eq-eqb (x .used) (2 * ((x .used - 1) / 2) + 1) odd) at (rebuilt-is t ok x));
@@ -114,6 +116,7 @@ module _ (t : Table) (x y : Tree) where
         record {
           to-go = omega (arith, a .to-go, m .two-more f);
           safe = m .safe f;
+          good = m .good f;
           rest =
               ap₂ (λ (xs : List Node) (u : ℕ). sameAs (x .nodes) (rebuild t n (x .nodes) xs u)) (m .grown f) (omega (arith, m .two-more f))
               ∙ ap (sameAs (x .nodes)) (sym (turn-some t n x y (sym (m .said) ∙ f))) ∙ a .rest;
@@ -125,7 +128,7 @@ module _ (t : Table) (x y : Tree) where
 unmade : (t : Table) (x y z : Tree) → mayNext t x y ≡ false → Remade t x y z false
 unmade t x y z h =
     let no : false ≡ true → ⊥ = λ e. true≢false (sym e) in
-    record { said = sym h; grown = λ e. absurd (no e); two-more = λ e. absurd (no e); safe = λ e. absurd (no e) }
+    record { said = sym h; grown = λ e. absurd (no e); two-more = λ e. absurd (no e); safe = λ e. absurd (no e); good = λ e. absurd (no e) }
 
 -- With the next left child in record `next`.
 module _ (t : Table) (x y z : Tree) (next : ℕ) (e : next ≡ y .used) where
@@ -164,12 +167,16 @@ module _ (t : Table) (x y z : Tree) (next : ℕ) (e : next ≡ y .used) where
 
       -- It can be made, and it is.
       pub can : r ≡ true → next < 511 → child .parent < next → (k : Kind) → k ≡ kindOf n → z .nodes ≡ grownAt t (y .nodes) (y .used) (child .parent) k
-          → z .used ≡ y .used + 2 → Safe (z .nodes) → Remade t x y z true
+          → z .used ≡ y .used + 2 → Safe (z .nodes) → Accepted t → Good t y → Remade t x y z true
       unfolding mayAt
-      can o room inside k d w u s =
+      can o room inside k d w u s ok good-before =
+          let yes : mayNext t x y ≡ true = rw (lt-ltb (nextAt x y) (y .used) (omega (arith, e, at-is, inside)), lt-ltb (y .used) 511 (omega (arith, e, room))) (sym told ∙ o) in
+          let so : z .nodes ≡ grownAt t (y .nodes) (y .used) (nextAt x y) (nextKind x y) =
+          w ∙ ap₂ (grownAt t (y .nodes) (y .used)) at-is (d ∙ ap kindOf (g ∙ ap (recordIn (x .nodes)) at-is)) in
           record {
-            said = sym (rw (lt-ltb (nextAt x y) (y .used) (omega (arith, e, at-is, inside)), lt-ltb (y .used) 511 (omega (arith, e, room))) (sym told ∙ o));
-            grown = λ _. w ∙ ap₂ (grownAt t (y .nodes) (y .used)) at-is (d ∙ ap kindOf (g ∙ ap (recordIn (x .nodes)) at-is));
+            said = sym yes;
+            grown = λ _. so;
             two-more = λ _. u;
             safe = λ _. s;
+            good = λ _. good-next t ok y good-before (nextAt x y) (nextKind x y) yes z so u;
           }

@@ -4,13 +4,13 @@ use mathlib.Core.Path.{_≡_, refl, sym, ap, subst, _∙_}
 use mathlib.Core.List.{[]}
 use Prim.Native.Nat.{ℕ, zero, suc}
 use Rattle.rules.specs.Table.{Table, ways}
-use Rattle.rules.specs.Tree.{leaf, root, low, high, kindAt, subtree, descend, seriesFrom, grow}
+use Rattle.rules.specs.Tree.{rootWays, leaf, root, low, high, kindAt, subtree, descend, seriesFrom, grow}
 use Rattle.rules.specs.Refusals.{tableNumber, Accepted}
 use Rattle.rules.specs.Answers.{refused, answerReply}
 use Rattle.rules.specs.Calls.{openAnswer, answerBy, figures}
 use Rattle.rules.specs.declared.Answer.{Answer}
 use Rattle.rules.proofs.Enclosure as rules-enclosure
-use Rattle.rules.proofs.Enclosure.{enclosure}
+use Rattle.rules.proofs.Enclosure.{enclosure, root-encloses}
 use Rattle.records.specs.Records.{noNodes, layout, recordAt, recordsOf, places, children, position, above, leftCode, subtreeOr, samePlace}
 use Rattle.records.specs.Growing.{freshRecord}
 use Rattle.records.specs.Library.{openTree, openBy}
@@ -19,9 +19,9 @@ use Rattle.records.specs.declared.Tree.{Tree}
 use Rattle.records.proofs.ByTheRules.{opened}
 use Rattle.dtree.specs.Promises.{oneRecord, Certain, Opening}
 
--- The root leaf's record, from the ways of the table.
+-- The root leaf's record, from what stays of the ways of the table.
 pub root-record : (t : Table)
-    → freshRecord (record { weights = t .weights; present = []; absent = [] }) (record { set = []; present = 0; absent = 0; ways = ways t }) 0 ≡ recordAt t [] []
+    → freshRecord (record { weights = t .weights; present = []; absent = [] }) (record { set = []; present = 0; absent = 0; ways = rootWays t }) 0 ≡ recordAt t [] []
 unfolding recordAt grow kindAt subtree subtreeOr places above leftCode position samePlace descend ways
 root-record t = refl
 
@@ -34,7 +34,7 @@ root-certain : (t : Table) → Accepted t → Certain t (answerReply (Answer.Acc
 unfolding figures low high grow subtree seriesFrom descend
 root-certain t ok =
     let c : rules-enclosure.Certain (t .weights) (record { node = root t; below = leaf }) = enclosure t ok [] refl [] _ refl in
-    record { encloses = c .encloses; ordered = c .ordered; bounded = c .bounded }
+    record { encloses = root-encloses t ok [] refl; ordered = c .ordered; bounded = c .bounded }
 
 -- A number that is not 0 refuses.
 pub refuses : (t : Table) (n : ℕ) (x : Tree) → n ≡ tableNumber t → (n ≡ 0 → ⊥) → x ≡ noNodes → Opening t x (Answer.Refused n)

@@ -6,7 +6,7 @@ use Prim.Native.Nat.{ℕ, _+_}
 use lib.Dec.{ltb}
 use Rattle.rules.specs.Table.{Table}
 use Rattle.rules.specs.declared.Kind.{Kind}
-use Rattle.records.specs.Records.{recordIn, kindOf}
+use Rattle.records.specs.Records.{recordIn, kindOf, Good}
 use Rattle.records.specs.Growing.{grownAt, mayAt}
 use Rattle.records.specs.declared.Tree.{Tree}
 use Rattle.store.specs.Safe.{Safe}
@@ -29,3 +29,4 @@ pub record Remade (t : Table) (x y z : Tree) (r : Bool) : Type 0 where
   pub grown : r ≡ true → z .nodes ≡ grownAt t (y .nodes) (y .used) (nextAt x y) (nextKind x y)
   pub two-more : r ≡ true → z .used ≡ y .used + 2
   pub safe : r ≡ true → Safe (z .nodes)
+  pub good : r ≡ true → Good t z

@@ -7,7 +7,7 @@ ghost use Rattle.records.specs.Records.{recordAt};
 ghost use Rattle.store.specs.Lent.{treeOf};
 ghost use Rattle.dtree.specs.Promises.{Opening, oneRecord};
 use checks::table::table_number;
-use clauses::sets::whole;
+use clauses::staying::staying_rows;
 use node::leaf_record;
 use records::Node;
 use rules::Answer;
@@ -22,7 +22,7 @@ pub fn root_leaf(weights: &[u32], present: &[u64], absent: &[u64]) -> Node
     requires { ⌜ Accepted (record { weights = now weights; present = now present; absent = now absent }) ⌝ }
     ensures { λ r. ⌜ r ≡ recordAt (record { weights = now (weights .entry); present = now (present .entry); absent = now (absent .entry) }) [] [] ⌝ }
 {
-    leaf_record(weights, present, absent, whole(present, absent), 0)
+    leaf_record(weights, present, absent, staying_rows(present, absent), 0)
 }
 
 /// Makes it a tree with one record in use.

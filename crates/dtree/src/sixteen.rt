@@ -8,7 +8,7 @@ ghost use Prim.Native.Nat.{ℕ, _%_};
 ghost use lib.Dec.{eqb};
 ghost use Rattle.rules.specs.Tree.{possible};
 ghost use Rattle.rules.specs.Refusals.{Accepted};
-ghost use Rattle.records.specs.Records.{recordWays, kindOf, isGood};
+ghost use Rattle.records.specs.Records.{recordWays, kindOf, isGood, Good};
 ghost use Rattle.store.specs.Lent.{treeOf};
 ghost use Rattle.store.specs.Safe.{Safe};
 ghost use Rattle.formula.specs.Leaves.{FaultFits};
@@ -45,6 +45,7 @@ fn remake(weights: &[u32], present: &[u64], absent: &[u64], x: &Words, y: &mut W
     requires { ⌜ Accepted (record { weights = now weights; present = now present; absent = now absent }) ⌝ }
     requires { ⌜ Safe (treeOf (now y) .nodes) ⌝ }
     requires { ⌜ treeOf (now y) .used % 2 ≡ 1 ⌝ }
+    requires { ⌜ Good (record { weights = now weights; present = now present; absent = now absent }) (treeOf (now y)) ⌝ }
     ensures { λ r. ⌜ Remade (record { weights = now (weights .entry); present = now (present .entry); absent = now (absent .entry) })
         (treeOf (now (x .entry))) (treeOf (now (y .entry))) (treeOf (now (y .exit))) r ⌝ }
 {

@@ -12,7 +12,7 @@ use borrow.Author.Tests.{eq-eqb, ne-eqb, not-false}
 use Rattle.rules.specs.Table.{Table, ways}
 use Rattle.rules.specs.declared.Way.{Way}
 use Rattle.rules.specs.Leaf.{isOpen}
-use Rattle.rules.specs.Tree.{left, Place, possible, roomy, Refinement, tree, kindAt, leafWays, Subtree, subtree, root, acceptable, series}
+use Rattle.rules.specs.Tree.{rootWays, left, Place, possible, roomy, Refinement, tree, kindAt, leafWays, Subtree, subtree, root, acceptable, series}
 use Rattle.rules.specs.Refusals.{refusal, first, wayRefusals, tableRefusals, tableNumber, Accepted}
 use Rattle.rules.specs.Calls.{placeOf, leafNamed, noLeaf, ofLeaf, leafRefusals, handRefusals, handNumber, handMakes}
 use Rattle.rules.specs.declared.Kind.{Kind}
@@ -63,7 +63,7 @@ module _ (t : Table) (ns : List Refinement) (whole : series t ns ≡ true) where
     ruled o = first (leafRefusals t (tree ns) bs k o)
 
     -- The ways of the leaf at the place that the bytes name.
-    named-ways : (p : Place) → placeOf bs ≡ some p → leafNamed t (tree ns) bs ≡ leafWays p (ways t) (tree ns)
+    named-ways : (p : Place) → placeOf bs ≡ some p → leafNamed t (tree ns) bs ≡ leafWays p (rootWays t) (tree ns)
     unfolding leafNamed
     named-ways p e = rw (e, leafNamed)
 
@@ -79,14 +79,14 @@ module _ (t : Table) (ns : List Refinement) (whole : series t ns ≡ true) where
 
     module _ (short : ltb 64 (length bs) ≡ false) where
       -- At the record of a place that the tree has, the number is the rules'.
-      at-record : (p : Place) → Held p (places ns) → recordNumber t (length (places ns)) k (getD xs (position p (places ns)) blank) ≡ ruled (leafWays p (ways t) (tree ns))
+      at-record : (p : Place) → Held p (places ns) → recordNumber t (length (places ns)) k (getD xs (position p (places ns)) blank) ≡ ruled (leafWays p (rootWays t) (tree ns))
       unfolding recordNumber recordRefusals leafRefusals noLeaf ofLeaf leftCode
       at-record p held = by (kindAt p (tree ns)) refl
         where
           n : Node
           n = getD xs (position p (places ns)) blank
 
-          leaf-there : kindAt p (tree ns) ≡ none → Holds t ns p → recordNumber t (length (places ns)) k n ≡ ruled (leafWays p (ways t) (tree ns))
+          leaf-there : kindAt p (tree ns) ≡ none → Holds t ns p → recordNumber t (length (places ns)) k n ≡ ruled (leafWays p (rootWays t) (tree ns))
           leaf-there d (refined dead none-there) =
               let y = has-subtree p (root t) (tree ns) (held-has t ns whole p held) in
               absurd (Option·none-ne-some _ (sym none-there ∙ undone-leaf p (root t) (tree ns) (y .0) (y .1) d .0))
@@ -97,23 +97,23 @@ module _ (t : Table) (ns : List Refinement) (whole : series t ns ≡ true) where
               (ap (λ (x : Node). not (possible k (recordWays t x))) (record-at t ns p held) ∙ ap (λ (vs : List Way). not (possible k vs)) ways-are)
               ∙ ap ruled (sym there)
 
-          by : (o : Option Kind) → kindAt p (tree ns) ≡ o → recordNumber t (length (places ns)) k n ≡ ruled (leafWays p (ways t) (tree ns))
+          by : (o : Option Kind) → kindAt p (tree ns) ≡ o → recordNumber t (length (places ns)) k n ≡ ruled (leafWays p (rootWays t) (tree ns))
           by none d = leaf-there d (holds t ns whole p held)
           by (some j) d =
               first-here _ _ (ap not (ne-eqb (n .left) 0 (λ z. omega (arith, z, left-link t ns p (some j) d held, position-child p left ns))))
-              ∙ sym (ap ruled (done-no-leaf p (ways t) j (tree ns) d) ∙ no-leaf)
+              ∙ sym (ap ruled (done-no-leaf p (rootWays t) j (tree ns) d) ∙ no-leaf)
 
       -- And 17 where the tree has no such place.
-      at-place : (p : Place) → numberAt t (layout t ns) k (walk xs p 0) ≡ ruled (leafWays p (ways t) (tree ns))
+      at-place : (p : Place) → numberAt t (layout t ns) k (walk xs p 0) ≡ ruled (leafWays p (rootWays t) (tree ns))
       unfolding numberAt layout subtree
       at-place p = ap (numberAt t (layout t ns) k) (walk-leads t ns p) ∙ by (subtree t p (tree ns)) refl
         where
-          none-there : (o : Option (List Way)) → leafWays p (ways t) (tree ns) ≡ o → subtree t p (tree ns) ≡ none → 17 ≡ ruled o
+          none-there : (o : Option (List Way)) → leafWays p (rootWays t) (tree ns) ≡ o → subtree t p (tree ns) ≡ none → 17 ≡ ruled o
           none-there none e d = sym no-leaf
           none-there (some us) e d = absurd (Option·none-ne-some _ (sym d ∙ leaf-subtree p (root t) (tree ns) us e .1))
 
-          by : (o : Option Subtree) → subtree t p (tree ns) ≡ o → numberAt t (layout t ns) k (shown o (position p (places ns))) ≡ ruled (leafWays p (ways t) (tree ns))
-          by none d = none-there (leafWays p (ways t) (tree ns)) refl d
+          by : (o : Option Subtree) → subtree t p (tree ns) ≡ o → numberAt t (layout t ns) k (shown o (position p (places ns))) ≡ ruled (leafWays p (rootWays t) (tree ns))
+          by none d = none-there (leafWays p (rootWays t) (tree ns)) refl d
           by (some y) d = at-record p (has-held ns p (subtree-has p (root t) (tree ns) y d))
 
       -- Whether or not the bytes name a place.
@@ -134,7 +134,7 @@ module _ (t : Table) (ns : List Refinement) (whole : series t ns ≡ true) where
     -- A refinement that the rules do not refuse is acceptable.
     accepted-at : (p : Place) → placeOf bs ≡ some p → leafNumber t (layout t ns) bs k ≡ 0 → acceptable t (tree ns) (record { place = p; kind = k }) ≡ true
     unfolding leafRefusals leafNamed noLeaf ofLeaf acceptable
-    accepted-at p d z = by (leafWays p (ways t) (tree ns)) (sym (number-is ∙ ap ruled (named-ways p d)) ∙ z)
+    accepted-at p d z = by (leafWays p (rootWays t) (tree ns)) (sym (number-is ∙ ap ruled (named-ways p d)) ∙ z)
       where
         by : (o : Option (List Way)) → ruled o ≡ 0
             → (elim o as (λ o. Bool) [ none ↦ false | some vs ↦ isOpen (t .weights) vs && (roomy (tree ns) && possible k vs) ]) ≡ true

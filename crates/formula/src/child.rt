@@ -1,10 +1,11 @@
 //! The ways of the two children that a refinement makes of a leaf, and whether it can be made. Rests on `rules`, Group and Tree.
-//! By independence the children are the first group and the other ways; by a fault, what remains with it present and absent.
+//! By independence the children are the first group and the other ways; by a fault, what stays of what remains with it present and absent.
 ghost use mathlib.Core.Path.{_≡_};
 ghost use mathlib.Core.Bool.{true};
 ghost use Prim.Native.Nat.{_<_};
 ghost use Rattle.rules.specs.Table;
 ghost use Rattle.rules.specs.Table.{bit};
+ghost use Rattle.rules.specs.Leaf.{Lean};
 ghost use Rattle.rules.specs.Tree;
 ghost use Rattle.clauses.specs.Leaves.{waysOf, Within};
 ghost use Rattle.formula.specs.Leaves.{FaultFits, Parts};
@@ -14,8 +15,8 @@ use super::group::group_faults;
 use chances::chance::has;
 use clauses::Clauses;
 use clauses::keeping::part;
-use clauses::keeping::restrict;
 use clauses::sets::one_bit;
+use clauses::staying::staying;
 use clauses::taking::faults;
 use clauses::taking::taken;
 use rules::Kind;
@@ -25,6 +26,7 @@ use rules::Way;
 pub fn children(present: &[u64], absent: &[u64], c: Clauses, k: Kind) -> Children
     requires { ⌜ FaultFits k ⌝ }
     requires { ⌜ Within (now present) (now absent) c ⌝ }
+    requires { ⌜ Lean (waysOf (now present) (now absent) c) ⌝ }
     ensures { λ r. ⌜ Parts (now (present .entry)) (now (absent .entry)) c k r ⌝ }
 {
     match k {
@@ -36,8 +38,9 @@ pub fn children(present: &[u64], absent: &[u64], c: Clauses, k: Kind) -> Childre
         }
         Kind::Shannon(f) => {
             let b = one_bit(f as usize);
-            let left = restrict(present, absent, c, b, 0);
-            let right = restrict(present, absent, c, 0, b);
+            let named = part(present, absent, c, b, true);
+            let left = staying(present, absent, c, named, b, 0);
+            let right = staying(present, absent, c, named, 0, b);
             Children { left, right }
         }
     }

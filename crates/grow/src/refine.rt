@@ -5,8 +5,9 @@ ghost use mathlib.Core.Bool.{false};
 ghost use mathlib.Core.Option.{some};
 ghost use Prim.Native.Nat.{_+_, _<_, _≤_};
 ghost use lib.ListN.{length};
+ghost use Rattle.rules.specs.Leaf.{Lean};
 ghost use Rattle.rules.specs.Refusals.{overweight, Accepted};
-ghost use Rattle.records.specs.Records.{recordIn, kindCode, faultCode};
+ghost use Rattle.records.specs.Records.{recordIn, recordWays, kindCode, faultCode};
 ghost use Rattle.records.specs.Growing.{refinedRecord, grownAt};
 ghost use Rattle.store.specs.Lent.{treeOf};
 ghost use Rattle.store.specs.Safe.{SafeNode, Safe};
@@ -95,6 +96,7 @@ fn branch_of(
     requires { ⌜ FaultFits k ⌝ }
     requires { ⌜ SafeNode x ⌝ }
     requires { ⌜ (j < 511) × (next + 1 < 511) ⌝ }
+    requires { ⌜ Lean (waysOf (now present) (now absent) c) ⌝ }
     ensures { λ b. ⌜ Branched (now (weights .entry)) x (waysOf (now (present .entry)) (now (absent .entry)) c) k j next b ⌝ }
 {
     let node = refined(x, k, next);
@@ -136,6 +138,7 @@ pub fn grow(
     requires { ⌜ FaultFits k ⌝ }
     requires { ⌜ Safe (treeOf (now tree) .nodes) ⌝ }
     requires { ⌜ (j < 511) × (treeOf (now tree) .used + 1 < 511) ⌝ }
+    requires { ⌜ Lean (recordWays (record { weights = now weights; present = now present; absent = now absent }) (recordIn (treeOf (now tree) .nodes) j)) ⌝ }
     ensures { λ _. ⌜ (treeOf (now (tree .exit)) .nodes ≡ grownAt (record { weights = now (weights .entry); present = now (present .entry); absent = now (absent .entry) })
         (treeOf (now (tree .entry)) .nodes) (treeOf (now (tree .entry)) .used) j k)
         × (treeOf (now (tree .exit)) .used ≡ treeOf (now (tree .entry)) .used + 2) × Safe (treeOf (now (tree .exit)) .nodes) ⌝ }

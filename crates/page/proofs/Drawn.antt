@@ -11,11 +11,11 @@ use native.Mathlib.Decide.{decLt}
 use lib.ListN.{length, getD}
 use lib.Dec.{leb}
 use borrow.Author.Tests.{eqb-true, eq-eqb, ltb-true}
-use Rattle.rules.specs.Table.{Table, ways}
+use Rattle.rules.specs.Table.{Table}
 use Rattle.rules.specs.declared.Way.{Way}
 use Rattle.rules.specs.declared.Kind.{Kind}
 use Rattle.rules.specs.Leaf.{any, isEmpty, leafLow, leafHigh, leafWidth, isOpen}
-use Rattle.rules.specs.Tree.{Place, DTree, Refinement, tree, kindAt, leafWays, series}
+use Rattle.rules.specs.Tree.{rootWays, Place, DTree, Refinement, tree, kindAt, leafWays, series}
 use Rattle.rules.specs.Run.{Candidate, widest, choice, next}
 use Rattle.rules.proofs.Booleans.{and-right}
 use Rattle.rules.proofs.Places.{ways-leaf, leaf-has, done-no-leaf}
@@ -36,7 +36,7 @@ use Rattle.page.proofs.Finds.{widest-told}
 -- An open leaf is at the place.
 pub record OpenLeaf (t : Table) (s : DTree) (p : Place) : Type 0 where
   pub remaining : List Way
-  pub there : leafWays p (ways t) s ≡ some remaining
+  pub there : leafWays p (rootWays t) s ≡ some remaining
   pub opened : isOpen (t .weights) remaining ≡ true
 
 -- And no open leaf is wider.
@@ -82,14 +82,14 @@ module _ (t : Table) (ns : List Refinement) (whole : series t ns ≡ true) where
 
   module _ (p : Place) (leaf : OpenLeaf t (tree ns) p) where
     held : Held p (places ns)
-    held = has-held ns p (leaf-has p (tree ns) (ways-leaf p (ways t) (tree ns) (leaf .remaining) (leaf .there)))
+    held = has-held ns p (leaf-has p (tree ns) (ways-leaf p (rootWays t) (tree ns) (leaf .remaining) (leaf .there)))
 
     not-done : kindAt p (tree ns) ≡ none
     not-done = by (kindAt p (tree ns)) refl
       where
         by : (o : Option Kind) → kindAt p (tree ns) ≡ o → kindAt p (tree ns) ≡ none
         by none d = d
-        by (some k) d = absurd (Option·none-ne-some _ (sym (done-no-leaf p (ways t) k (tree ns) d) ∙ leaf .there))
+        by (some k) d = absurd (Option·none-ne-some _ (sym (done-no-leaf p (rootWays t) k (tree ns) d) ∙ leaf .there))
 
     leaf-kind : recordAt t ns p .kind ≡ 1
     unfolding recordAt kindCode
@@ -135,11 +135,11 @@ module _ (t : Table) (ns : List Refinement) (whole : series t ns ≡ true) where
   none-next : ((p : Place) → OpenLeaf t (tree ns) p → ⊥) ↔ (next t (tree ns) ≡ none)
   unfolding next
   none-next = (
-    λ f. rw (widest-none (t .weights) (ways t) (tree ns) (λ p us e o. f p (record { remaining = us; there = e; opened = o })), next),
-    λ e. by (widest (t .weights) (ways t) (tree ns)) refl (widest-law (t .weights) (ways t) (tree ns)) e,
+    λ f. rw (widest-none (t .weights) (rootWays t) (tree ns) (λ p us e o. f p (record { remaining = us; there = e; opened = o })), next),
+    λ e. by (widest (t .weights) (rootWays t) (tree ns)) refl (widest-law (t .weights) (rootWays t) (tree ns)) e,
   )
     where
-      by : (o : Option Candidate) → widest (t .weights) (ways t) (tree ns) ≡ o → Law (t .weights) (ways t) (tree ns) o → next t (tree ns) ≡ none
+      by : (o : Option Candidate) → widest (t .weights) (rootWays t) (tree ns) ≡ o → Law (t .weights) (rootWays t) (tree ns) o → next t (tree ns) ≡ none
           → (p : Place) → OpenLeaf t (tree ns) p → ⊥
       by none q (nothing f) e p leaf = f p (leaf .remaining) (leaf .there) (leaf .opened)
       by (some x) q (the x₁ k) e p leaf = Option·none-ne-some (record { place = x .place; kind = choice (t .weights) (x .ways) }) (sym e ∙ rw (q, next))

@@ -12,7 +12,7 @@ use borrow.Author.Tests.{eqb-true, eq-eqb, ne-eqb}
 use Rattle.rules.specs.Table.{Table, ways}
 use Rattle.rules.specs.declared.Way.{Way}
 use Rattle.rules.specs.Leaf.{leafWidth, isOpen}
-use Rattle.rules.specs.Tree.{Side, left, right, Place, DTree, leaf, inner, child, nodes, Refinement, tree, kindAt, leafWays, childNode, descend, root, series}
+use Rattle.rules.specs.Tree.{rootWays, Side, left, right, Place, DTree, leaf, inner, child, nodes, Refinement, tree, kindAt, leafWays, childNode, descend, root, series}
 use Rattle.rules.specs.Tree.{Node as Spot}
 use Rattle.rules.specs.Run as Run
 use Rattle.rules.specs.Run.{Candidate, from, widest, choice, next}
@@ -79,7 +79,7 @@ module _ (t : Table) (ns : List Refinement) (whole : series t ns ≡ true) where
       held : Held p (places ns)
       held = stands-held p y leaf e
 
-      there : leafWays p (ways t) (tree ns) ≡ some (y .ways)
+      there : leafWays p (rootWays t) (tree ns) ≡ some (y .ways)
       there = undone-leaf p (root t) (tree ns) (record { node = y; below = leaf }) e d .0
 
       on : (b : Bool) (w : ℕ) → w ≡ leafWidth (t .weights) (y .ways)
@@ -126,7 +126,7 @@ module _ (t : Table) (ns : List Refinement) (whole : series t ns ≡ true) where
       has-left z = omega (arith, z, left-link t ns p (some k) d held, position-child p left ns)
 
   -- The search finds the rules' widest leaf.
-  pick-widest : pickOf xs ≡ shown ns [] (widest (t .weights) (ways t) (tree ns))
+  pick-widest : pickOf xs ≡ shown ns [] (widest (t .weights) (rootWays t) (tree ns))
   unfolding pickOf places position samePlace descend
   pick-widest = found-below (tree ns) 511 [] (root t) refl (omega (arith, nodes-inners (tree ns), series-room t ns whole))
 
@@ -145,12 +145,12 @@ Meant t ns Nothing = next t (tree ns) ≡ none
 
 module _ (t : Table) (ns : List Refinement) (whole : series t ns ≡ true) where
   -- The record of the rules' widest leaf.
-  leaf-picked : (x : Candidate) → widest (t .weights) (ways t) (tree ns) ≡ some x → Leftmost (t .weights) (ways t) (tree ns) x → Picked t ns (position (x .place) (places ns))
+  leaf-picked : (x : Candidate) → widest (t .weights) (rootWays t) (tree ns) ≡ some x → Leftmost (t .weights) (rootWays t) (tree ns) x → Picked t ns (position (x .place) (places ns))
   unfolding next
   leaf-picked x e k = by (holds t ns whole (x .place) held)
     where
       held : Held (x .place) (places ns)
-      held = has-held ns (x .place) (leaf-has (x .place) (tree ns) (ways-leaf (x .place) (ways t) (tree ns) (x .ways) (k .there)))
+      held = has-held ns (x .place) (leaf-has (x .place) (tree ns) (ways-leaf (x .place) (rootWays t) (tree ns) (x .ways) (k .there)))
 
       is : recordIn (recordsOf t ns) (position (x .place) (places ns)) ≡ recordAt t ns (x .place)
       is = record-at t ns (x .place) held
@@ -170,8 +170,8 @@ module _ (t : Table) (ns : List Refinement) (whole : series t ns ≡ true) where
   -- THE SEARCH PICKS THE RULES' NEXT: for the answer r of a search on a layout.
   pub picks-next : (r : Found) → r ≡ pickOf (layout t ns .nodes) → Meant t ns r
   unfolding layout next shown
-  picks-next r e = rw (e ∙ pick-widest t ns whole) (by (widest (t .weights) (ways t) (tree ns)) refl (widest-law (t .weights) (ways t) (tree ns)))
+  picks-next r e = rw (e ∙ pick-widest t ns whole) (by (widest (t .weights) (rootWays t) (tree ns)) refl (widest-law (t .weights) (rootWays t) (tree ns)))
     where
-      by : (o : Option Candidate) → widest (t .weights) (ways t) (tree ns) ≡ o → Law (t .weights) (ways t) (tree ns) o → Meant t ns (shown ns [] o)
+      by : (o : Option Candidate) → widest (t .weights) (rootWays t) (tree ns) ≡ o → Law (t .weights) (rootWays t) (tree ns) o → Meant t ns (shown ns [] o)
       by none q l = rw (q, next)
       by (some x) q (the x₁ k) = leaf-picked x q k

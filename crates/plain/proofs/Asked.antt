@@ -8,14 +8,14 @@ use Prim.Native.Nat.{ℕ, zero, suc, _<_}
 use native.Mathlib.Omega.{arith}
 use borrow.Author.Tests.{ne-eqb}
 use lib.ListN.{length}
-use Rattle.rules.specs.Table.{Table, ways}
+use Rattle.rules.specs.Table.{Table}
 use Rattle.rules.specs.declared.Way.{Way}
 use Rattle.rules.specs.Leaf.{isOpen}
-use Rattle.rules.specs.Tree.{Place, DTree, occurs, possible, roomy, leafWays}
+use Rattle.rules.specs.Tree.{rootWays, Place, DTree, occurs, possible, roomy, leafWays}
 use Rattle.rules.specs.Refusals.{Refusal, refusal, first, wayRefusals, tableRefusals, tableNumber, Accepted}
 use Rattle.rules.specs.Calls.{placeOf, leafNamed, noLeaf, ofLeaf, leafRefusals, handRefusals, handNumber}
 use Rattle.rules.specs.declared.Kind.{Kind}
-use Rattle.rules.proofs.Accepted.{few-faults, inside}
+use Rattle.rules.proofs.Accepted.{few-faults, root-inside}
 use Rattle.rules.proofs.First.{none-applies, first-after, first-before, first-same}
 use Rattle.rules.proofs.KindLaws.{occurs-below}
 use Rattle.rules.proofs.Runs.{leaf-inside}
@@ -39,12 +39,12 @@ other-kind what fault h = rw (ne-eqb what 0 (λ e. omega (arith, e)), kindAsked)
 
 module _ (t : Table) (ok : Accepted t) (s : DTree) (bs : List ℕ) where
   -- Fault 64 does not occur in the ways of a leaf.
-  not-there : (p : Place) (vs : List Way) → leafWays p (ways t) s ≡ some vs → not (possible (Kind.Shannon 64) vs) ≡ true
+  not-there : (p : Place) (vs : List Way) → leafWays p (rootWays t) s ≡ some vs → not (possible (Kind.Shannon 64) vs) ≡ true
   unfolding possible
   not-there p vs e = by (occurs 64 vs) refl
     where
       by : (b : Bool) → occurs 64 vs ≡ b → not (occurs 64 vs) ≡ true
-      by true o = absurd (omega (arith, occurs-below (length (t .weights)) 64 vs (leaf-inside _ p (ways t) s vs (inside t ok) e) o, few-faults t ok))
+      by true o = absurd (omega (arith, occurs-below (length (t .weights)) 64 vs (leaf-inside _ p (rootWays t) s vs (root-inside t ok) e) o, few-faults t ok))
       by false o = ap not o
 
   -- Where 17 does not apply, 20 does.
@@ -52,14 +52,14 @@ module _ (t : Table) (ok : Accepted t) (s : DTree) (bs : List ℕ) where
   unfolding leafNamed noLeaf ofLeaf
   twenty h = at-place (placeOf bs) h
     where
-      at-leaf : (p : Place) (o : Option (List Way)) → leafWays p (ways t) s ≡ o → noLeaf bs o ≡ false → ofLeaf (λ vs. not (possible (Kind.Shannon 64) vs)) o ≡ true
+      at-leaf : (p : Place) (o : Option (List Way)) → leafWays p (rootWays t) s ≡ o → noLeaf bs o ≡ false → ofLeaf (λ vs. not (possible (Kind.Shannon 64) vs)) o ≡ true
       at-leaf p none q e = absurd (true≢false e)
       at-leaf p (some vs) q e = not-there p vs q
 
-      at-place : (o : Option Place) → noLeaf bs (elim o as (λ o. Option (List Way)) [ none ↦ none | some p ↦ leafWays p (ways t) s ]) ≡ false
-          → ofLeaf (λ vs. not (possible (Kind.Shannon 64) vs)) (elim o as (λ o. Option (List Way)) [ none ↦ none | some p ↦ leafWays p (ways t) s ]) ≡ true
+      at-place : (o : Option Place) → noLeaf bs (elim o as (λ o. Option (List Way)) [ none ↦ none | some p ↦ leafWays p (rootWays t) s ]) ≡ false
+          → ofLeaf (λ vs. not (possible (Kind.Shannon 64) vs)) (elim o as (λ o. Option (List Way)) [ none ↦ none | some p ↦ leafWays p (rootWays t) s ]) ≡ true
       at-place none e = absurd (true≢false e)
-      at-place (some p) e = at-leaf p (leafWays p (ways t) s) refl e
+      at-place (some p) e = at-leaf p (leafWays p (rootWays t) s) refl e
 
 -- THE NUMBER of a hand refinement that asks for neither: the first of 9 to 13 and 16 to 19 that applies, else 20.
 pub never-asked : (t : Table) (bad : Bool) (s : DTree) (bs : List ℕ) (what fault : ℕ) → 1 < what → handNumber t bad s bs (kindAsked what fault) ≡ first (neverRefusals t bad s bs)

@@ -1,27 +1,33 @@
--- What a record tells of its place: whether an open leaf is there, the leaf's remaining ways and its width.
+-- What a record tells of its place: whether an open leaf is there, the leaf's remaining ways and its width; and that no way of a record says nothing new.
 -- Rests on Words.antt.
-use mathlib.Core.Path.{_≡_, refl, ap, ap₂, _∙_}
+use mathlib.Core.Path.{_≡_, refl, sym, ap, ap₂, _∙_, subst}
 use mathlib.Core.Bool.{Bool, true, false}
-use mathlib.Core.List.{List}
+use mathlib.Core.List.{List, [], _∷_}
 use mathlib.Core.Option.{Option, none, some}
-use Prim.Native.Nat.{ℕ, _-_}
+use Prim.Native.Nat.{ℕ, _-_, _<_}
+use native.Mathlib.Decide.{decLt}
+use native.Mathlib.Omega.{arith}
+use lib.ListN.{length, getD}
 use lib.Dec.{eqb}
 use Rattle.rules.specs.Rounding.{down, up}
 use Rattle.rules.specs.Table.{Table, ways}
 use Rattle.rules.specs.declared.Way.{Way}
-use Rattle.rules.specs.Leaf.{leafWidth, isOpen}
-use Rattle.rules.specs.Tree.{Place, DTree, end, Refinement, tree, kindAt, leafWays, Subtree, descend, root, subtree, series}
+use Rattle.rules.specs.Leaf.{select, hasNumber, remaining, sift, minimal, Lean, leafWidth, isOpen}
+use Rattle.rules.specs.Tree.{rootWays, Place, DTree, end, Refinement, tree, kindAt, leafWays, Subtree, descend, root, subtree, series}
 use Rattle.rules.specs.declared.Kind.{Kind}
+use Rattle.rules.proofs.HandedDown.{handed-lean}
 use Rattle.rules.proofs.Places.{has-subtree, undone-leaf, done-no-leaf}
-use Rattle.records.specs.Records.{places, liveCode, recordWays, subtreeOr, recordAt}
+use Rattle.records.specs.Records.{blank, places, lowWord, highWord, inWords, liveCode, recordWays, recordIn, subtreeOr, recordAt, recordsOf, layout, Good}
 use Rattle.records.specs.Growing.{recordWidth}
-use Rattle.records.proofs.Positions.{Held, held-has}
-use Rattle.records.proofs.Words.{record-ways}
+use Rattle.records.specs.declared.Tree.{Tree}
+use Rattle.records.proofs.Positions.{Held, held-at, held-has}
+use Rattle.records.proofs.InPlace.{record-of, record-rest}
+use Rattle.records.proofs.Words.{words-number, record-ways}
 
 -- What the record of a place holds: an inner node's is not live; a leaf's is exactly if the leaf is open, and tells its ways and its width.
 pub data Holds (t : Table) (ns : List Refinement) (p : Place) : Type 0 where
-  refined : recordAt t ns p .live ≡ 0 → leafWays p (ways t) (tree ns) ≡ none → Holds t ns p
-  unrefined : (us : List Way) → leafWays p (ways t) (tree ns) ≡ some us → eqb (recordAt t ns p .live) 1 ≡ isOpen (t .weights) us
+  refined : recordAt t ns p .live ≡ 0 → leafWays p (rootWays t) (tree ns) ≡ none → Holds t ns p
+  unrefined : (us : List Way) → leafWays p (rootWays t) (tree ns) ≡ some us → eqb (recordAt t ns p .live) 1 ≡ isOpen (t .weights) us
       → recordWays t (recordAt t ns p) ≡ us → recordWidth (recordAt t ns p) ≡ leafWidth (t .weights) us → Holds t ns p
 
 -- Every place of a series has such a record.
@@ -35,7 +41,7 @@ holds t ns h p i = by (has-subtree p (root t) (tree ns) (held-has t ns h p i)) (
 
     by : (x : Subtree) × (descend p (root t) (tree ns) ≡ some x) → (o : Option Kind) → kindAt p (tree ns) ≡ o → Holds t ns p
     by x (some k) d =
-        refined (ap (λ (o : Option Kind). liveCode (t .weights) o (subtreeOr (subtree t p (tree ns)) .node .ways)) d) (done-no-leaf p (ways t) k (tree ns) d)
+        refined (ap (λ (o : Option Kind). liveCode (t .weights) o (subtreeOr (subtree t p (tree ns)) .node .ways)) d) (done-no-leaf p (rootWays t) k (tree ns) d)
     by x none d =
         let l = undone-leaf p (root t) (tree ns) (x .0) (x .1) d in
         unrefined (x .0 .node .ways) (l .0)
@@ -43,3 +49,38 @@ holds t ns h p i = by (has-subtree p (root t) (tree ns) (held-has t ns h p i)) (
         (record-ways t ns h p (x .0) (x .1))
         (ap (λ (y : Option Subtree). end up (t .weights) (subtreeOr y .node .ways) (subtreeOr y .below) - end down (t .weights) (subtreeOr y .node .ways) (subtreeOr y .below)) (x .1)
         ∙ ap (λ (s : DTree). end up (t .weights) (x .0 .node .ways) s - end down (t .weights) (x .0 .node .ways) s) (l .1))
+
+-- ---- no way of a record says nothing new
+
+-- A blank record has no ways.
+none-chosen : (P : ℕ → Bool) → ((i : ℕ) → P i ≡ false) → (vs : List Way) → select P vs ≡ []
+unfolding select
+none-chosen P h [] = refl
+none-chosen P h (v ∷ vs) = rw (select, h (v .number)) (none-chosen P h vs)
+
+blank-ways : (t : Table) → recordWays t blank ≡ []
+unfolding recordWays lowWord highWord hasNumber remaining
+blank-ways t = ap (remaining 0 0) (none-chosen (inWords 0 0) (λ i. words-number [] i) (ways t))
+
+lean-none : Lean []
+unfolding minimal sift
+lean-none = refl
+
+lean-record : (t : Table) (ns : List Refinement) → series t ns ≡ true → (j : ℕ) → Lean (recordWays t (recordIn (recordsOf t ns) j))
+unfolding subtree
+lean-record t ns h j = by (decLt j (length (places ns)))
+  where
+    of-ways : (us : List Way) → recordWays t (recordIn (recordsOf t ns) j) ≡ us → Lean us → Lean (recordWays t (recordIn (recordsOf t ns) j))
+    of-ways us e l = subst Lean (sym e) l
+
+    by : Dec (j < length (places ns)) → Lean (recordWays t (recordIn (recordsOf t ns) j))
+    by (yes l) =
+        let p : Place = getD (places ns) j [] in
+        let x = has-subtree p (root t) (tree ns) (held-has t ns h p (held-at (places ns) j l)) in
+        of-ways (x .0 .node .ways) (ap (recordWays t) (record-of t ns j l) ∙ record-ways t ns h p (x .0) (x .1)) (handed-lean t ns h p (x .0) (x .1))
+    by (no l) = of-ways [] (ap (recordWays t) (record-rest t ns j (omega arith)) ∙ blank-ways t) lean-none
+
+-- IN EVERY RECORD OF A GOOD TREE.
+pub lean-at : (t : Table) (x : Tree) → Good t x → (j : ℕ) → Lean (recordWays t (recordIn (x .nodes) j))
+unfolding layout
+lean-at t x g j = subst (λ (y : Tree). Lean (recordWays t (recordIn (y .nodes) j))) (sym (g .is)) (lean-record t (g .made) (g .accepted) j)

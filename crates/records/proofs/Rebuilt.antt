@@ -116,6 +116,60 @@ module _ (t : Table) (ok : Accepted t) where
 
   -- ---- whatever is built again is a layout
 
+  -- One refinement more on the records of a series, which the records say can be made.
+  record Next (before : List Refinement) (j : ℕ) (k : Kind) : Type 0 where
+    fits : acceptable t (tree before) (record { place = getD (places before) j []; kind = k }) ≡ true
+    grown : grownAt t (recordsOf t before) (length (places before)) j k ≡ recordsOf t (before ++ (record { place = getD (places before) j []; kind = k } ∷ []))
+
+  next : (before : List Refinement) → series t before ≡ true → (j : ℕ) (k : Kind)
+      → ltb j (length (places before)) && mayAt t (recordsOf t before) (length (places before)) j k ≡ true → Next before j k
+  next before h j k q = record { fits = fit; grown = ap (λ (i : ℕ). grownAt t (recordsOf t before) used i k) (sym there) ∙ grows t ok before h n fit }
+    where
+      used : ℕ
+      used = length (places before)
+
+      n : Refinement
+      n = record { place = getD (places before) j []; kind = k }
+
+      inside : j < used
+      inside = ltb-true j used (and-left (ltb j used) _ q)
+
+      there : position (n .place) (places before) ≡ j
+      there = position-of (places before) j (places-once t before h) inside
+
+      fit : acceptable t (tree before) n ≡ true
+      fit =
+          sym (may-is t before h (n .place) k (held-at (places before) j inside)) ∙ ap (λ (i : ℕ). mayAt t (recordsOf t before) used i k) there
+          ∙ and-right (ltb j used) _ q
+
+  -- So it makes a good tree of a good tree.
+  pub good-next : (x : Tree) → Good t x → (j : ℕ) (k : Kind) → ltb j (x .used) && mayAt t (x .nodes) (x .used) j k ≡ true
+      → (y : Tree) → y .nodes ≡ grownAt t (x .nodes) (x .used) j k → y .used ≡ x .used + 2 → Good t y
+  unfolding layout seriesFrom
+  good-next x g j k q y e u =
+      record { made = ms; accepted = longer; is = λ i. record { nodes = nodes-are i; used = used-is i } }
+    where
+      ns : List Refinement
+      ns = g .made
+
+      s : Next ns j k
+      s = next ns (g .accepted) j k (ap (λ (z : Tree). ltb j (z .used) && mayAt t (z .nodes) (z .used) j k) (sym (g .is)) ∙ q)
+
+      n : Refinement
+      n = record { place = getD (places ns) j []; kind = k }
+
+      ms : List Refinement
+      ms = ns ++ (n ∷ [])
+
+      longer : series t ms ≡ true
+      longer = series-append t ns (n ∷ []) leaf (g .accepted) (and-both (acceptable t (tree ns) n) _ (s .fits) refl)
+
+      nodes-are : y .nodes ≡ recordsOf t ms
+      nodes-are = e ∙ ap (λ (z : Tree). grownAt t (z .nodes) (z .used) j k) (g .is) ∙ s .grown
+
+      used-is : y .used ≡ length (places ms)
+      used-is = omega (arith, u, ap (λ (z : Tree). z .used) (g .is), two-more ns n)
+
   -- The records of a series of so many refinements.
   record Built (xs : List Node) (size : ℕ) : Type 0 where
     made : List Refinement
@@ -153,21 +207,10 @@ module _ (t : Table) (ok : Accepted t) where
           → (acceptable t (tree before) n ≡ true → rebuild t m all (recordsOf t (before ++ (n ∷ []))) (length (places (before ++ (n ∷ [])))) ≡ some xs
           → Built xs (length (before ++ (n ∷ [])) + m)) → Built xs (length before + suc m)
       by false q e ih = absurd (Option·none-ne-some _ e)
-      by true q e ih = longer (ih fit (sym (ap₂ (rebuild t m all) grown (two-more before n)) ∙ e))
+      by true q e ih = longer (ih (s .fits) (sym (ap₂ (rebuild t m all) (s .grown) (two-more before n)) ∙ e))
         where
-          inside : j < used
-          inside = ltb-true j used (and-left (ltb j used) _ q)
-
-          there : position (n .place) (places before) ≡ j
-          there = position-of (places before) j (places-once t before h) inside
-
-          fit : acceptable t (tree before) n ≡ true
-          fit =
-              sym (may-is t before h (n .place) k (held-at (places before) j inside)) ∙ ap (λ (i : ℕ). mayAt t (recordsOf t before) used i k) there
-              ∙ and-right (ltb j used) _ q
-
-          grown : grownAt t (recordsOf t before) used j k ≡ recordsOf t (before ++ (n ∷ []))
-          grown = ap (λ (i : ℕ). grownAt t (recordsOf t before) used i k) (sym there) ∙ grows t ok before h n fit
+          s : Next before j k
+          s = next before h j k q
 
   -- ---- both directions
 

@@ -16,6 +16,8 @@ use Rattle.rules.proofs.Bits.{bit-or, bit-high, below-pow, apart-bit, a
 use Rattle.rules.proofs.First.{none-applies, first-later, first-none}
 use Rattle.rules.proofs.Groups.{In, none-passes, each-fails}
 use Rattle.rules.proofs.Sum.{Weights}
+use Rattle.rules.specs.Tree.{rootWays}
+use Rattle.rules.proofs.Minimal.{minimal-any}
 
 -- What 10 lets through: every weight is at most S.
 pub weights-of : (ws : List ℕ) → overweight ws ≡ false → Weights ws
@@ -67,6 +69,15 @@ module _ (t : Table) (ok : Accepted t) where
 
   pub one-sense : namesBoth (ways t) ≡ false
   one-sense = passes t ok .thirteen
+
+  -- Nor does one at the root.
+  pub root-inside : namesBeyond (length (t .weights)) (rootWays t) ≡ false
+  unfolding namesBeyond rootWays
+  root-inside = minimal-any _ (ways t) inside
+
+  pub root-one-sense : namesBoth (rootWays t) ≡ false
+  unfolding namesBoth rootWays
+  root-one-sense = minimal-any _ (ways t) one-sense
 
   -- Every weight is at most S.
   pub light : overweight (t .weights) ≡ false

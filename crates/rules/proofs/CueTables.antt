@@ -15,7 +15,7 @@ use borrow.Author.Tests.{ltb-false, le-ltb, eq-eqb}
 use Rattle.rules.specs.Rounding.{S}
 use Rattle.rules.specs.Table.{Way, Table, absentRows, rows, ways, Encloses}
 use Rattle.rules.specs.Leaf.{any}
-use Rattle.rules.specs.Tree.{DTree, leaf, low, high}
+use Rattle.rules.specs.Tree.{rootWays, DTree, leaf, low, high}
 use Rattle.rules.specs.Run.{picks, verdict, ran}
 use Rattle.rules.specs.Refusals.{someAbove, crowded, wordsAmiss, namesBeyond, namesBoth, wayRefusals, tableRefusals, tableNumber, Accepted}
 use Rattle.rules.specs.Sheet.{Cue, Sheet, tableOf, countsOf, presentOf, absentOf, listsOf, decode, readNumber, AllBelow, Paired, Within}
@@ -138,7 +138,7 @@ line-certain m t ok =
     record {
       encloses = e;
       ordered = enclosing-order (t .weights) (ways t) _ _ e;
-      bounded = end-le (t .weights) (ways t) (runTree m t);
+      bounded = end-le (t .weights) (rootWays t) (runTree m t);
       in-budget = picks-budget t (m .allowance) (m .budget) leaf;
       met = verdict-exactly t (m .allowance) (m .budget) leaf .met;
     }

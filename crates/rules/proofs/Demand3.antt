@@ -11,7 +11,7 @@ use borrow.Author.Tests.{not-false, le-ltb, lt-ltb}
 use Rattle.rules.specs.Rounding.{S}
 use Rattle.rules.specs.Table.{Way, Table, ways, Encloses}
 use Rattle.rules.specs.Leaf.{isOpen}
-use Rattle.rules.specs.Tree.{left, right, Place, DTree, leaf, possible, low, high, inners, Refinement, grow, tree, kindAt, leafWays, roomy, intervalAt, acceptable, seriesFrom, series}
+use Rattle.rules.specs.Tree.{rootWays, left, right, Place, DTree, leaf, possible, low, high, inners, Refinement, grow, tree, kindAt, leafWays, roomy, intervalAt, acceptable, seriesFrom, series}
 use Rattle.rules.specs.Run.{picks, verdict}
 use Rattle.rules.specs.Refusals.{Refusal, refusal, first, tableRefusals, tableNumber, wayRefusals, limitRefusals, Accepted}
 use Rattle.rules.specs.Calls.{stepTo, placeOf, placeBytes, leafNamed, noLeaf, ofLeaf, leafRefusals, handRefusals, runRefusals, handNumber, runNumber, handMakes, runMakes, figures, answerBy, runAnswerBy, handAnswer, runAnswer, makesBy, Call, byHand, byRun, handed, ran, reply, callNumber, outcome, wouldMake, makes, notedFrom, noted, outcomesFrom, outcomes, reports}
@@ -45,7 +45,7 @@ module _ (t : Table) (ok : Accepted t) where
 leaf-acceptable : (t : Table) (s : DTree) (bs : List ℕ) (k : Kind) (p : Place) → placeOf bs ≡ some p → first (leafRefusals t s bs k (leafNamed t s bs)) ≡ 0
     → acceptable t s (record { place = p; kind = k }) ≡ true
 unfolding leafNamed acceptable leafRefusals noLeaf ofLeaf
-leaf-acceptable t s bs k p e h = by (leafWays p (ways t) s) (rw (e, leafNamed) at h)
+leaf-acceptable t s bs k p e h = by (leafWays p (rootWays t) s) (rw (e, leafNamed) at h)
   where
     by : (o : Option (List Way)) → first (leafRefusals t s bs k o) ≡ 0
         → (elim o as (λ o. Bool) [ none ↦ false | some vs ↦ isOpen (t .weights) vs && (roomy s && possible k vs) ]) ≡ true
@@ -254,7 +254,7 @@ hands-back t ok ns h c e =
     record {
       encloses = rw (l, u) enc;
       ordered = rw (l, u) (enclosing-order (t .weights) (ways t) _ _ enc);
-      bounded = rw u (end-le (t .weights) (ways t) (grow (tree ns) ms));
+      bounded = rw u (end-le (t .weights) (rootWays t) (grow (tree ns) ms));
       low-rises = rw l (w .low-rises);
       high-falls = rw u (w .high-falls);
       count = omega (arith, report-is t ok (tree ns) c, grown-inners t ms (tree ns) (makes-series t ok (tree ns) c));

@@ -1,6 +1,6 @@
 -- WHERE TO LOOK FIRST: what is shown of the rules, each claim under the words of the document that it settles.
 -- Every claim here is about the definitions in specs/; the contracts of the code say that its results equal those definitions.
-use mathlib.Core.Path.{_≡_, sym, ap, _∙_}
+use mathlib.Core.Path.{_≡_, sym, ap, _∙_, subst}
 use mathlib.Core.Bool.{true, false}
 use mathlib.Core.List.{List, [], _∷_, _++_}
 use mathlib.Core.Option.{Option, none, some}
@@ -8,7 +8,8 @@ use mathlib.Core.Logic.{_↔_}
 use Prim.Native.Nat.{ℕ, suc, _+_, _-_, _≤_, _<_}
 use native.Mathlib.Omega.{arith}
 use lib.ListN.{length, take}
-use Rattle.rules.specs.Table.{Table, ways}
+use Rattle.rules.specs.Table.{Way, Table, ways, Encloses}
+use Rattle.rules.specs.Leaf.{ofSet, remaining, Lean}
 use Rattle.rules.specs.Tree.{Side, Place, DTree, inners, nodes, Refinement, refine, tree, leafAt, onPath, kindAt, Subtree, subtree, root, intervalAt, Interval, interval, acceptable, series}
 use Rattle.rules.specs.Run.{next, picks, verdict, ran}
 use Rattle.rules.specs.Refusals.{Accepted}
@@ -18,9 +19,9 @@ use Rattle.rules.specs.Sheet.{Cue, Sheet, Lists, tableOf, Within, AllBel
 use Rattle.rules.proofs.KindLaws.{Handed}
 use Rattle.rules.proofs.Places.{refined-kind, refined-leaves, refined-inners, nodes-inners, subtree-has, elsewhere}
 use Rattle.rules.proofs.Series.{In, Same, acceptable-leaf, places-differ}
-use Rattle.rules.proofs.HandedDown.{handed-down, handed-rising}
+use Rattle.rules.proofs.HandedDown.{handed-down, handed-lean, handed-rising}
 use Rattle.rules.proofs.Sets.{Rising}
-use Rattle.rules.proofs.Enclosure.{Certain, enclosure}
+use Rattle.rules.proofs.Enclosure.{Certain, enclosure, before-leaving-out}
 use Rattle.rules.proofs.Narrowing as narrowing
 use Rattle.rules.proofs.Narrowing.{Narrower, no-place-widens, refined-within}
 use Rattle.rules.proofs.Levels.{levels, few-nodes}
@@ -38,8 +39,12 @@ use Rattle.rules.proofs.Sheets.{IsSheet, accepted-exactly, accepts-enco
 pub record AtPlace (t : Table) (p : Place) (x : Subtree) : Type 0 where
   -- Its interval encloses the exact sum over its remaining ways, low ≤ high, and high is at most S.
   pub interval-certain : Certain (t .weights) x
-  -- Its remaining ways are those of its set that no fixed fault contradicts, with the fixed faults dropped.
+  -- Its remaining ways are what stays of those of its set that no fixed fault contradicts, with the fixed faults dropped.
   pub ways-remaining : Handed (ways t) (x .node)
+  -- (02, a) "an interval still encloses the exact sum over all ways that remained before any was left out"
+  pub over-all : Encloses (t .weights) (remaining (x .node .present) (x .node .absent) (ofSet (x .node .set) (ways t))) (interval (t .weights) x .low) (interval (t .weights) x .high)
+  -- (02, a) "This comes first at every leaf": of what a place has, nothing can be left out.
+  pub nothing-new : Lean (x .node .ways)
   -- They stand in number order.
   pub in-order : Rising 0 (x .node .ways)
   -- "Each refinement removes a fault from both sides, so there are at most 64 levels."
@@ -51,6 +56,10 @@ at-place t ok ns h p x e =
     record {
       interval-certain = enclosure t ok ns h p x e;
       ways-remaining = handed-down t ns h p x e;
+      over-all =
+          before-leaving-out (t .weights) (remaining (x .node .present) (x .node .absent) (ofSet (x .node .set) (ways t))) _ _
+          (subst (λ (vs : List Way). Encloses (t .weights) vs (interval (t .weights) x .low) (interval (t .weights) x .high)) (handed-down t ns h p x e) (enclosure t ok ns h p x e .encloses));
+      nothing-new = handed-lean t ns h p x e;
       in-order = handed-rising t ns h p x e;
       level = levels t ok ns h p (subtree-has p (root t) (tree ns) x e);
     }

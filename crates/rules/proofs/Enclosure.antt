@@ -13,8 +13,8 @@ use lib.Bits.{bitAnd}
 use borrow.Author.Tests.{eqb-true, leb-false, lt-leb}
 use Rattle.rules.specs.Rounding.{S, Dir, down, up, Le}
 use Rattle.rules.specs.Table.{bit, Way, Table, ways, faults, Assignment, fitsAll, satisfies, happens, exact, Encloses}
-use Rattle.rules.specs.Leaf.{any, without, isEmpty, leafEnd}
-use Rattle.rules.specs.Tree.{Side, left, right, Place, DTree, leaf, inner, child, end, low, high, Refinement, tree, Node, Subtree, childNode, descend, subtree, root, interval, series}
+use Rattle.rules.specs.Leaf.{any, without, minimal, isEmpty, leafEnd}
+use Rattle.rules.specs.Tree.{rootWays, Side, left, right, Place, DTree, leaf, inner, child, end, low, high, Refinement, tree, Node, Subtree, childNode, descend, subtree, root, interval, series}
 use Rattle.rules.specs.Refusals.{namesBeyond, namesBoth, Accepted}
 use Rattle.rules.specs.declared.Kind.{Kind}
 use Rattle.rules.proofs.Booleans.{and-left, or-left, or-right, or-neither, or-first, or-second, or-cases}
@@ -24,7 +24,8 @@ use Rattle.rules.proofs.Rounding.{overlap-bound}
 use Rattle.rules.proofs.LeafEnds.{leaf-bound, leaf-le}
 use Rattle.rules.proofs.KindLaws.{laws, Stable}
 use Rattle.rules.proofs.Series.{Sound, series-sound}
-use Rattle.rules.proofs.Accepted.{inside, one-sense, weights-fit}
+use Rattle.rules.proofs.Accepted.{root-inside, root-one-sense, weights-fit}
+use Rattle.rules.proofs.Minimal.{minimal-exact}
 
 -- ---- 12 and 13 hold at every place
 
@@ -117,12 +118,18 @@ certain-below ws k (right ∷ p) x (inner j l r) y f c o e =
 pub enclosure : (t : Table) → Accepted t → (ns : List Refinement) → series t ns ≡ true → (p : Place) (x : Subtree) → subtree t p (tree ns) ≡ some x → Certain (t .weights) x
 unfolding subtree
 enclosure t ok ns h p x e =
-    certain-below (t .weights) (weights-fit t ok) p (root t) (tree ns) x (inside t ok) (one-sense t ok) (series-sound t ns h) e
+    certain-below (t .weights) (weights-fit t ok) p (root t) (tree ns) x (root-inside t ok) (root-one-sense t ok) (series-sound t ns h) e
+
+-- What encloses the exact sum over what stays encloses the one over all.
+pub before-leaving-out : (ws : List ℕ) (vs : List Way) (l h : ℕ) → Encloses ws (minimal vs) l h → Encloses ws vs l h
+before-leaving-out ws vs l h e = record { below = rw (minimal-exact ws vs) at (e .below); above = rw (minimal-exact ws vs) at (e .above) }
 
 -- At the root, over the table's own ways.
 pub root-encloses : (t : Table) → Accepted t → (ns : List Refinement) → series t ns ≡ true → Encloses (t .weights) (ways t) (low t (tree ns)) (high t (tree ns))
-unfolding low high
-root-encloses t ok ns h = tree-encloses (t .weights) (weights-fit t ok) (ways t) (inside t ok) (one-sense t ok) (tree ns) (series-sound t ns h)
+unfolding low high rootWays
+root-encloses t ok ns h =
+    let e = tree-encloses (t .weights) (weights-fit t ok) (rootWays t) (root-inside t ok) (root-one-sense t ok) (tree ns) (series-sound t ns h) in
+    before-leaving-out (t .weights) (ways t) _ _ e
 
 -- ---- the two simplest sums
 

@@ -6,16 +6,18 @@ use mathlib.Core.List.{List, [], _∷_}
 use mathlib.Core.Option.{some, Option·some-injective, Option·none-ne-some}
 use Prim.Native.Nat.{ℕ}
 use Rattle.rules.specs.Table.{Way, Table, ways}
-use Rattle.rules.specs.Leaf.{hasNumber, ofSet, remaining}
-use Rattle.rules.specs.Tree.{left, right, Place, DTree, leaf, inner, Refinement, tree, Node, Subtree, childNode, descend, subtree, root, series}
+use Rattle.rules.specs.Leaf.{hasNumber, ofSet, remaining, minimal, Lean}
+use Rattle.rules.specs.Tree.{rootWays, left, right, Place, DTree, leaf, inner, Refinement, tree, Node, Subtree, childNode, descend, subtree, root, series}
 use Rattle.rules.proofs.Remaining.{fix-none}
-use Rattle.rules.proofs.Sets.{Rising, ways-rising, select-rising, remaining-rising, whole-set, own-set}
+use Rattle.rules.proofs.Sets.{sift-rising, Rising, ways-rising, select-rising, remaining-rising, whole-set, own-set}
+use Rattle.rules.proofs.Minimal.{minimal-twice}
 use Rattle.rules.proofs.KindLaws.{laws, Handed}
 use Rattle.rules.proofs.Series.{Sound, series-sound}
 
 -- The root: all ways, nothing fixed.
 root-handed : (t : Table) → Handed (ways t) (root t)
-root-handed t = sym (ap (remaining 0 0) (whole-set 0 (ways t) (ways-rising t)) ∙ fix-none (ways t))
+unfolding rootWays
+root-handed t = ap minimal (sym (ap (remaining 0 0) (whole-set 0 (ways t) (ways-rising t)) ∙ fix-none (ways t)))
 
 handed-from : (ws : List ℕ) (all : List Way) → Rising 0 all → (p : Place) (x : Node) (s : DTree) (y : Subtree) → Sound ws (x .ways) s → Handed all x → descend p x s ≡ some y
     → Handed all (y .node)
@@ -38,6 +40,11 @@ handed-own t ns h p x e =
 
 -- The ways at every place stand in number order.
 pub handed-rising : (t : Table) (ns : List Refinement) → series t ns ≡ true → (p : Place) (x : Subtree) → subtree t p (tree ns) ≡ some x → Rising 0 (x .node .ways)
+unfolding minimal
 handed-rising t ns h p x e =
     rw (handed-down t ns h p x e)
-    (remaining-rising 0 (x .node .present) (x .node .absent) (ofSet (x .node .set) (ways t)) (select-rising 0 (hasNumber (x .node .set)) (ways t) (ways-rising t)))
+    (sift-rising 0 _ _ (remaining-rising 0 (x .node .present) (x .node .absent) (ofSet (x .node .set) (ways t)) (select-rising 0 (hasNumber (x .node .set)) (ways t) (ways-rising t))))
+
+-- None of the ways at any place says nothing new.
+pub handed-lean : (t : Table) (ns : List Refinement) → series t ns ≡ true → (p : Place) (x : Subtree) → subtree t p (tree ns) ≡ some x → Lean (x .node .ways)
+handed-lean t ns h p x e = let w = handed-down t ns h p x e in ap minimal w ∙ minimal-twice _ ∙ sym w

@@ -13,7 +13,7 @@ use lib.Bits.{bitOr, or-zero-l, or-zero-r}
 use borrow.Author.Tests.{leb-false, eqb-false, eq-eqb, ne-eqb}
 use Rattle.rules.specs.Rounding.{S, Dir, Le}
 use Rattle.rules.specs.Table.{bit, Way, faults, Assignment, happens}
-use Rattle.rules.specs.Leaf.{any, hasNumber, ofSet, dropped, remaining, isEmpty}
+use Rattle.rules.specs.Leaf.{any, hasNumber, ofSet, dropped, remaining, minimal, isEmpty}
 use Rattle.rules.specs.Group.{groupFaults, part, group, others, nonempty, fallApart}
 use Rattle.rules.specs.Tree.{Side, left, right, occurs, possible, child, combine, Node, childSet, childFixed, childNode}
 use Rattle.rules.specs.Refusals.{namesBeyond}
@@ -25,7 +25,8 @@ use Rattle.rules.proofs.Sum.{mass, Weights, mass-not, mass-neither, mas
 use Rattle.rules.proofs.Rounding.{either-bound, mean-bound, either-mono, mean-mono}
 use Rattle.rules.proofs.Ways.{independent}
 use Rattle.rules.proofs.Remaining.{remaining-any, fixed-gone, fix-present, fix-absent, fix-again}
-use Rattle.rules.proofs.Sets.{Rising, part-set}
+use Rattle.rules.proofs.Sets.{Rising, own-set, part-set, part-sift}
+use Rattle.rules.proofs.Minimal.{minimal-happens, minimal-any, sift-lean, minimal-twice}
 use Rattle.rules.proofs.Groups.{group-off, others-off, part-happens, part-any, first-faults}
 
 -- ---- faults that occur
@@ -73,7 +74,7 @@ some-occurs n (v ∷ vs) h e o =
 
 -- A node's ways are the remaining ways of its set, as 01 words them: those of the table's ways in the set that no fixed fault contradicts, with the fixed faults dropped.
 abbrev pub Handed : List Way → Node → Type 0
-Handed all x = x .ways ≡ remaining (x .present) (x .absent) (ofSet (x .set) all)
+Handed all x = x .ways ≡ minimal (remaining (x .present) (x .absent) (ofSet (x .set) all))
 
 -- A test that dropping faults from a way does not bring about.
 abbrev pub Stable : (Way → Bool) → Type 0
@@ -91,6 +92,8 @@ pub record Laws (k : Kind) : Type 0 where
   -- Some fault that occurs in the node does not occur in a child.
   pub removes : (n : ℕ) (b : Side) (vs : List Way) → namesBeyond n vs ≡ false → any isEmpty vs ≡ false → nonempty vs ≡ true → possible k vs ≡ true
       → (g : ℕ) × (g < n) × (occurs g vs ≡ true) × (occurs g (child k b vs) ≡ false)
+  -- Where no way of the node says nothing new, none of a child does.
+  pub lean : (b : Side) (vs : List Way) → possible k vs ≡ true → minimal vs ≡ vs → minimal (child k b vs) ≡ child k b vs
   -- The ways handed down to a child are the remaining ways of its set.
   pub handed : (all : List Way) → Rising 0 all → (b : Side) (x : Node) → Handed all x → possible k (x .ways) ≡ true → Handed all (childNode k b x)
 
@@ -145,6 +148,18 @@ others-removes n (v ∷ vs) h e o =
     let r = names-some n v vs h (any-head isEmpty v vs e) in
     (r .0, r .1, or-first (bit (r .0) (faults v)) _ (r .2), others-off (groupFaults (v ∷ vs)) (r .0) (v ∷ vs) (first-faults v vs (r .0) (r .2)))
 
+part-lean : (b : Bool) (m : ℕ) (vs : List Way) → minimal vs ≡ vs → minimal (part b m vs) ≡ part b m vs
+part-lean b m vs e = ap minimal (part-sift b m vs) ∙ sift-lean _ vs e ∙ sym (part-sift b m vs)
+
+handed-lean : (all : List Way) (x : Node) → Handed all x → minimal (x .ways) ≡ x .ways
+handed-lean all x e = ap minimal e ∙ minimal-twice _ ∙ sym e
+
+of-part : (all : List Way) → Rising 0 all → (x : Node) → Handed all x → (b : Bool)
+    → part b (groupFaults (x .ways)) (x .ways) ≡ minimal (remaining (x .present) (x .absent) (ofSet (part b (groupFaults (x .ways)) (x .ways)) all))
+of-part all r x e b =
+    sym (part-lean b (groupFaults (x .ways)) (x .ways) (handed-lean all x e))
+    ∙ ap minimal (sym (part-set all r (hasNumber (x .set)) (x .present) (x .absent) (x .ways) e b (groupFaults (x .ways))))
+
 independent-or-laws : Laws IndependentOr
 unfolding child childSet childFixed combine possible
 independent-or-laws =
@@ -153,12 +168,17 @@ independent-or-laws =
       monotone = λ d ws x x′ y y′. either-mono d x x′ y y′;
       keeps = keeps;
       removes = removes;
+      lean = lean;
       handed = handed;
     }
   where
     handed : (all : List Way) → Rising 0 all → (b : Side) (x : Node) → Handed all x → possible IndependentOr (x .ways) ≡ true → Handed all (childNode IndependentOr b x)
-    handed all r left x e p = sym (part-set all r (hasNumber (x .set)) (x .present) (x .absent) (x .ways) e true (groupFaults (x .ways)))
-    handed all r right x e p = sym (part-set all r (hasNumber (x .set)) (x .present) (x .absent) (x .ways) e false (groupFaults (x .ways)))
+    handed all r left x e p = of-part all r x e true
+    handed all r right x e p = of-part all r x e false
+
+    lean : (b : Side) (vs : List Way) → possible IndependentOr vs ≡ true → minimal vs ≡ vs → minimal (child IndependentOr b vs) ≡ child IndependentOr b vs
+    lean left vs p e = part-lean true (groupFaults vs) vs e
+    lean right vs p e = part-lean false (groupFaults vs) vs e
 
     keeps : (h : Way → Bool) → Stable h → (b : Side) (vs : List Way) → any h vs ≡ false → any h (child IndependentOr b vs) ≡ false
     keeps h s left vs e = part-any h true (groupFaults vs) vs e
@@ -172,7 +192,7 @@ independent-or-laws =
 -- ---- Shannon expansion
 
 fault-bound : (d : Dir) (ws : List ℕ) → Weights ws → (vs : List Way) (f : ℕ) → f < length ws → (x y : ℕ)
-    → Le d (x * S ^ length ws) (S * mass ws (happens (remaining (2 ^ f) 0 vs))) → Le d (y * S ^ length ws) (S * mass ws (happens (remaining 0 (2 ^ f) vs)))
+    → Le d (x * S ^ length ws) (S * mass ws (happens (minimal (remaining (2 ^ f) 0 vs)))) → Le d (y * S ^ length ws) (S * mass ws (happens (minimal (remaining 0 (2 ^ f) vs))))
     → Le d (combine (Shannon f) d ws x y * S ^ length ws) (S * mass ws (happens vs))
 unfolding combine
 fault-bound d ws k vs f l x y p q =
@@ -181,50 +201,59 @@ fault-bound d ws k vs f l x y p q =
     ∙ ap₂ (λ (m n : ℕ). getD ws f 0 * m + (S - getD ws f 0) * n)
     (sym (mass-cong ws (happens (remaining (2 ^ f) 0 vs)) (λ a. happens vs (set a f true)) (λ a e. fix-present f vs a (omega (arith, l, e)))))
     (sym (mass-cong ws (happens (remaining 0 (2 ^ f) vs)) (λ a. happens vs (set a f false)) (λ a e. fix-absent f vs a (omega (arith, l, e))))))
-    p q
+    (rw (mass-cong ws (happens (minimal (remaining (2 ^ f) 0 vs))) (happens (remaining (2 ^ f) 0 vs)) (λ a e. minimal-happens (remaining (2 ^ f) 0 vs) a)) at p)
+    (rw (mass-cong ws (happens (minimal (remaining 0 (2 ^ f) vs))) (happens (remaining 0 (2 ^ f) vs)) (λ a e. minimal-happens (remaining 0 (2 ^ f) vs) a)) at q)
 
 -- A fault that occurs is not fixed yet.
 not-fixed : (f P A : ℕ) (us : List Way) → occurs f (remaining P A us) ≡ true → bit f (bitOr P A) ≡ false
 not-fixed f P A us o = is-false _ (λ b. true≢false (sym o ∙ fixed-gone f P A us b))
 
 -- So fixing it is fixing one fault more.
-fix-more : (all : List Way) (x : Node) (f P′ A′ : ℕ) → Handed all x → occurs f (x .ways) ≡ true → bitOr P′ A′ ≡ 2 ^ f
-    → remaining P′ A′ (x .ways) ≡ remaining (bitOr (x .present) P′) (bitOr (x .absent) A′) (ofSet (x .set) all)
-fix-more all x f P′ A′ e o q =
-    ap (remaining P′ A′) e ∙ fix-again (x .present) (x .absent) P′ A′ (rw q (apart-test (bitOr (x .present) (x .absent)) (2 ^ f) elsewhere)) (ofSet (x .set) all)
+fix-more : (all : List Way) → Rising 0 all → (x : Node) (f P′ A′ : ℕ) → Handed all x → occurs f (x .ways) ≡ true → bitOr P′ A′ ≡ 2 ^ f
+    → remaining P′ A′ (x .ways) ≡ remaining (bitOr (x .present) P′) (bitOr (x .absent) A′) (ofSet (x .ways) all)
+fix-more all r x f P′ A′ h o q =
+    ap (remaining P′ A′) e ∙ fix-again (x .present) (x .absent) P′ A′ (rw q (apart-test (bitOr (x .present) (x .absent)) (2 ^ f) elsewhere)) (ofSet (x .ways) all)
   where
+    e : x .ways ≡ remaining (x .present) (x .absent) (ofSet (x .ways) all)
+    e = sym (own-set all r (hasNumber (x .set)) (x .present) (x .absent) (x .ways) h)
+
     free : bit f (bitOr (x .present) (x .absent)) ≡ false
-    free = not-fixed f (x .present) (x .absent) (ofSet (x .set) all) (ap (occurs f) (sym e) ∙ o)
+    free = not-fixed f (x .present) (x .absent) (ofSet (x .ways) all) (ap (occurs f) (sym e) ∙ o)
 
     elsewhere : (i : ℕ) → bit i (bitOr (x .present) (x .absent)) ≡ true → bit i (2 ^ f) ≡ false
     elsewhere i b = bit-pow i f ∙ ne-eqb i f (λ z. true≢false (sym b ∙ ap (λ (j : ℕ). bit j (bitOr (x .present) (x .absent))) z ∙ free))
 
 shannon-laws : (f : ℕ) → Laws (Shannon f)
-unfolding child childSet childFixed combine possible
+unfolding child childSet childFixed combine possible occurs
 shannon-laws f =
     record {
       bound = λ d ws k vs h p x y. fault-bound d ws k vs f (occurs-below (length ws) f vs h p) x y;
       monotone = λ d ws x x′ y y′. mean-mono d (getD ws f 0) x x′ y y′;
       keeps = keeps;
       removes = removes;
+      lean = lean;
       handed = handed;
     }
   where
     handed : (all : List Way) → Rising 0 all → (b : Side) (x : Node) → Handed all x → possible (Shannon f) (x .ways) ≡ true → Handed all (childNode (Shannon f) b x)
-    handed all r left x e p = fix-more all x f (2 ^ f) 0 e p (or-zero-r (2 ^ f)) ∙ ap (λ (m : ℕ). remaining (bitOr (x .present) (2 ^ f)) m (ofSet (x .set) all)) (or-zero-r (x .absent))
-    handed all r right x e p = fix-more all x f 0 (2 ^ f) e p (or-zero-l (2 ^ f)) ∙ ap (λ (m : ℕ). remaining m (bitOr (x .absent) (2 ^ f)) (ofSet (x .set) all)) (or-zero-r (x .present))
+    handed all r left x e p = ap minimal (fix-more all r x f (2 ^ f) 0 e p (or-zero-r (2 ^ f)) ∙ ap (λ (m : ℕ). remaining (bitOr (x .present) (2 ^ f)) m (ofSet (x .ways) all)) (or-zero-r (x .absent)))
+    handed all r right x e p = ap minimal (fix-more all r x f 0 (2 ^ f) e p (or-zero-l (2 ^ f)) ∙ ap (λ (m : ℕ). remaining m (bitOr (x .absent) (2 ^ f)) (ofSet (x .ways) all)) (or-zero-r (x .present)))
 
     itself : bit f (2 ^ f) ≡ true
     itself = bit-pow f f ∙ eq-eqb f f refl
 
     keeps : (h : Way → Bool) → Stable h → (b : Side) (vs : List Way) → any h vs ≡ false → any h (child (Shannon f) b vs) ≡ false
-    keeps h s left vs e = remaining-any h s (2 ^ f) 0 vs e
-    keeps h s right vs e = remaining-any h s 0 (2 ^ f) vs e
+    keeps h s left vs e = minimal-any h (remaining (2 ^ f) 0 vs) (remaining-any h s (2 ^ f) 0 vs e)
+    keeps h s right vs e = minimal-any h (remaining 0 (2 ^ f) vs) (remaining-any h s 0 (2 ^ f) vs e)
+
+    lean : (b : Side) (vs : List Way) → possible (Shannon f) vs ≡ true → minimal vs ≡ vs → minimal (child (Shannon f) b vs) ≡ child (Shannon f) b vs
+    lean left vs p e = minimal-twice (remaining (2 ^ f) 0 vs)
+    lean right vs p e = minimal-twice (remaining 0 (2 ^ f) vs)
 
     removes : (n : ℕ) (b : Side) (vs : List Way) → namesBeyond n vs ≡ false → any isEmpty vs ≡ false → nonempty vs ≡ true → possible (Shannon f) vs ≡ true
         → (g : ℕ) × (g < n) × (occurs g vs ≡ true) × (occurs g (child (Shannon f) b vs) ≡ false)
-    removes n left vs h e o p = (f, occurs-below n f vs h p, p, fixed-gone f (2 ^ f) 0 vs (ap (bit f) (or-zero-r (2 ^ f)) ∙ itself))
-    removes n right vs h e o p = (f, occurs-below n f vs h p, p, fixed-gone f 0 (2 ^ f) vs (ap (bit f) (or-zero-l (2 ^ f)) ∙ itself))
+    removes n left vs h e o p = (f, occurs-below n f vs h p, p, minimal-any _ (remaining (2 ^ f) 0 vs) (fixed-gone f (2 ^ f) 0 vs (ap (bit f) (or-zero-r (2 ^ f)) ∙ itself)))
+    removes n right vs h e o p = (f, occurs-below n f vs h p, p, minimal-any _ (remaining 0 (2 ^ f) vs) (fixed-gone f 0 (2 ^ f) vs (ap (bit f) (or-zero-l (2 ^ f)) ∙ itself)))
 
 -- Every kind has the laws.
 pub laws : (k : Kind) → Laws k

@@ -10,10 +10,10 @@ use native.Mathlib.Omega.{arith}
 use lib.ListN.{length}
 use lib.Dec.{leb}
 use borrow.Author.Tests.{not-true}
-use Rattle.rules.specs.Table.{bit, Way, Table, ways, faults}
+use Rattle.rules.specs.Table.{bit, Way, Table, faults}
 use Rattle.rules.specs.Leaf.{any, isEmpty, isOpen}
 use Rattle.rules.specs.Group.{nonempty}
-use Rattle.rules.specs.Tree.{Side, left, right, Place, DTree, leaf, inner, occurs, possible, child, nodes, Refinement, tree, hasAt, leafWays, acceptable, series}
+use Rattle.rules.specs.Tree.{rootWays, Side, left, right, Place, DTree, leaf, inner, occurs, possible, child, nodes, Refinement, tree, hasAt, leafWays, acceptable, series}
 use Rattle.rules.specs.Refusals.{namesBeyond, Accepted}
 use Rattle.rules.specs.declared.Kind.{Kind}
 use Rattle.rules.proofs.Booleans.{and-left, and-right}
@@ -22,7 +22,7 @@ use Rattle.rules.proofs.KindLaws.{laws, some-occurs}
 use Rattle.rules.proofs.Enclosure.{child-inside}
 use Rattle.rules.proofs.Places.{nodes-inners}
 use Rattle.rules.proofs.Series.{Sound, series-sound, acceptable-found, series-room}
-use Rattle.rules.proofs.Accepted.{inside, few-faults}
+use Rattle.rules.proofs.Accepted.{root-inside, few-faults}
 
 -- ---- how many of the faults below n occur
 
@@ -109,7 +109,7 @@ depth n ws (right ∷ p) vs (inner k l r) f o h =
 pub levels : (t : Table) → Accepted t → (ns : List Refinement) → series t ns ≡ true → (p : Place) → hasAt p (tree ns) ≡ true → length p ≤ 64
 levels t ok ns h p e =
     let n : ℕ = length (t .weights) in
-    omega (arith, depth n (t .weights) p (ways t) (tree ns) (inside t ok) (series-sound t ns h) e, span-most n (ways t), few-faults t ok)
+    omega (arith, depth n (t .weights) p (rootWays t) (tree ns) (root-inside t ok) (series-sound t ns h) e, span-most n (rootWays t), few-faults t ok)
 
 depth-open : (n : ℕ) (ws : List ℕ) (p : Place) (vs : List Way) (s : DTree) (us : List Way) → namesBeyond n vs ≡ false → Sound ws vs s
     → leafWays p vs s ≡ some us → isOpen ws us ≡ true → length p < span n vs
@@ -130,7 +130,7 @@ pub refined-above : (t : Table) → Accepted t → (ns : List Refinement) → se
 refined-above t ok ns h n a =
     let f = acceptable-found t (tree ns) n a in
     let c : ℕ = length (t .weights) in
-    omega (arith, depth-open c (t .weights) (n .place) (ways t) (tree ns) (f .found) (inside t ok) (series-sound t ns h) (f .there) (f .opened), span-most c (ways t), few-faults t ok)
+    omega (arith, depth-open c (t .weights) (n .place) (rootWays t) (tree ns) (f .found) (root-inside t ok) (series-sound t ns h) (f .there) (f .opened), span-most c (rootWays t), few-faults t ok)
 
 -- At most 511 nodes.
 pub few-nodes : (t : Table) (ns : List Refinement) → series t ns ≡ true → nodes (tree ns) ≤ 511

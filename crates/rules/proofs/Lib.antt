@@ -10,6 +10,8 @@ pub mod Ways
 pub mod Remaining
 pub mod Sets
 pub mod Groups
+pub mod Minimal
+pub mod FixedLean
 pub mod Kept
 pub mod LeafEnds
 pub mod KindLaws

@@ -6,9 +6,9 @@ use mathlib.Core.Option.{some, Option·some-injective, Option·none-ne-some}
 use Prim.Native.Nat.{ℕ, _≤_}
 use native.Mathlib.Omega.{arith}
 use Rattle.rules.specs.Rounding.{Dir, down, up, Le}
-use Rattle.rules.specs.Table.{Way, Table, ways}
+use Rattle.rules.specs.Table.{Way, Table}
 use Rattle.rules.specs.Leaf.{leafEnd}
-use Rattle.rules.specs.Tree.{left, right, Place, DTree, leaf, inner, child, end, low, high, refineAt, Refinement, refine, grow, Node, Subtree, childNode, descend, subtree, root, interval}
+use Rattle.rules.specs.Tree.{rootWays, left, right, Place, DTree, leaf, inner, child, end, low, high, refineAt, Refinement, refine, grow, Node, Subtree, childNode, descend, subtree, root, interval}
 use Rattle.rules.specs.declared.Kind.{Kind}
 use Rattle.rules.proofs.Rounding.{le-self, overlap-left, overlap-mono}
 use Rattle.rules.proofs.KindLaws.{laws}
@@ -82,7 +82,7 @@ pub refined-within : (t : Table) (n : Refinement) (s : DTree) → Within t s (re
 unfolding low high
 refined-within t n s =
     let g = refined-grows (n .place) (n .kind) s in
-    record { low-rises = narrows down (t .weights) (ways t) g; high-falls = narrows up (t .weights) (ways t) g }
+    record { low-rises = narrows down (t .weights) (rootWays t) g; high-falls = narrows up (t .weights) (rootWays t) g }
 
 -- Any number of them.
 pub grown-within : (t : Table) (ns : List Refinement) (s : DTree) → Within t s (grow s ns)

@@ -7,10 +7,10 @@ use Prim.Native.Nat.{ℕ}
 use lib.ListN.{length}
 use lib.Dec.{eqb}
 use Rattle.rules.specs.Rounding.{S}
-use Rattle.rules.specs.Table.{Table, ways, rows, absentRows}
-use Rattle.rules.specs.Leaf.{any, remaining, isOpen}
+use Rattle.rules.specs.Table.{Way, Table, ways, rows, absentRows}
+use Rattle.rules.specs.Leaf.{sift, surplus, minimal, any, remaining, isOpen}
 use Rattle.rules.specs.Group.{nonempty, fallApart}
-use Rattle.rules.specs.Tree.{left, leaf, occurs, possible, child, combine, end, low, high, refineAt, inners, Refinement, grow, tree, leafWays, acceptable, seriesFrom, series}
+use Rattle.rules.specs.Tree.{rootWays, left, leaf, occurs, possible, child, combine, end, low, high, refineAt, inners, Refinement, grow, tree, leafWays, acceptable, seriesFrom, series}
 use Rattle.rules.specs.Run
 use Rattle.rules.specs.Refusals
 use Rattle.rules.specs.Calls
@@ -75,7 +75,7 @@ holds c =
     eqb (tableNumber (c .table)) 0
     && (eqb (low (c .table) leaf) (c .leafLow)
     && (eqb (high (c .table) leaf) (c .leafHigh)
-    && (Bool·beq (isOpen (c .table .weights) (ways (c .table))) (c .opened)
+    && (Bool·beq (isOpen (c .table .weights) (rootWays (c .table))) (c .opened)
     && (series (c .table) (c .made)
     && (eqb (low (c .table) (tree (c .made))) (c .afterLow) && eqb (high (c .table) (tree (c .made))) (c .afterHigh))))))
 
@@ -85,7 +85,7 @@ allHold (c ∷ cs) = holds c && allHold cs
 
 -- P1 TO P9 HOLD.
 pub on-paper : allHold cases ≡ true
-unfolding ways rows absentRows any remaining isOpen nonempty fallApart occurs possible child combine end low high refineAt inners grow leafWays acceptable seriesFrom tableNumber Refusals.tableRefusals Refusals.wayRefusals Refusals.first Refusals.faultsOutside Refusals.someAbove Refusals.overweight Refusals.wordsAmiss Refusals.namesBeyond Refusals.namesBoth
+unfolding ways rows absentRows any remaining sift surplus minimal rootWays isOpen nonempty fallApart occurs possible child combine end low high refineAt inners grow leafWays acceptable seriesFrom tableNumber Refusals.tableRefusals Refusals.wayRefusals Refusals.first Refusals.faultsOutside Refusals.someAbove Refusals.overweight Refusals.wordsAmiss Refusals.namesBeyond Refusals.namesBoth
 on-paper = refl
 
 -- ---- runs that 01 names: P3 with allowance 0 is done, with 1 is met, 0 refinements each; P4 with the printed sheet's limits
@@ -116,8 +116,46 @@ AllEqual [] = Unit {0}
 AllEqual (x ∷ xs) = (x .0 ≡ x .1) × AllEqual xs
 
 pub runs-on-paper : AllEqual runs
-unfolding absentRows rows ways any remaining isOpen nonempty fallApart occurs possible child combine end low high refineAt inners grow leafWays Run.from Run.wider Run.widest Run.named Run.mostNamed Run.choice Run.next Run.narrow Run.turn Run.picks Run.verdict Refusals.first Refusals.faultsOutside Refusals.someAbove Refusals.overweight Refusals.namesBeyond Refusals.namesBoth Refusals.allowanceAbove Refusals.budgetAbove Refusals.wayRefusals Refusals.limitRefusals Calls.runAnswer Calls.runAnswerBy Calls.runNumber Calls.runRefusals Calls.runMakes Calls.figures tableNumber Refusals.tableRefusals Refusals.wordsAmiss
+unfolding absentRows rows ways any remaining sift surplus minimal rootWays isOpen nonempty fallApart occurs possible child combine end low high refineAt inners grow leafWays Run.from Run.wider Run.widest Run.named Run.mostNamed Run.choice Run.next Run.narrow Run.turn Run.picks Run.verdict Refusals.first Refusals.faultsOutside Refusals.someAbove Refusals.overweight Refusals.namesBeyond Refusals.namesBoth Refusals.allowanceAbove Refusals.budgetAbove Refusals.wayRefusals Refusals.limitRefusals Calls.runAnswer Calls.runAnswerBy Calls.runNumber Calls.runRefusals Calls.runMakes Calls.figures tableNumber Refusals.tableRefusals Refusals.wordsAmiss
 runs-on-paper = (refl, (refl, (refl, (refl, (refl, (refl, (refl, tt)))))))
+
+-- ---- (02, a) ways that say nothing new: runs with allowance 0 and budget 255, and two refinements by hand
+
+abbrev leanRuns : List (RunAnswer × RunAnswer)
+leanRuns =
+    -- A1, A2: a way that names more, the longer one first or last. A3: equal ways. A4: ways in different senses.
+    (runAnswer (table (500000000 ∷ 500000000 ∷ []) (1 ∷ 3 ∷ []) (0 ∷ 0 ∷ [])) false leaf (limits 0 255), ended Met 500000000 500000000 0)
+    ∷ (runAnswer (table (500000000 ∷ 300000000 ∷ []) (3 ∷ 1 ∷ []) (0 ∷ 0 ∷ [])) false leaf (limits 0 255), ended Met 500000000 500000000 0)
+    ∷ (runAnswer (table (250000000 ∷ 500000000 ∷ []) (0 ∷ 0 ∷ []) (1 ∷ 1 ∷ [])) false leaf (limits 0 255), ended Met 750000000 750000000 0)
+    ∷ (runAnswer (table (250000000 ∷ 500000000 ∷ []) (0 ∷ 1 ∷ []) (1 ∷ 0 ∷ [])) false leaf (limits 0 255), ended Met S S 1)
+    -- A5, A6: what a child leaves out, and that its own children do not get it back. A7: the lowest numbered of equals. A8: an empty way.
+    ∷ (runAnswer (table (200000000 ∷ 500000000 ∷ 250000000 ∷ []) (0 ∷ 2 ∷ 1 ∷ []) (2 ∷ 4 ∷ 4 ∷ [])) false leaf (limits 0 255), ended Met 875000000 875000000 1)
+    ∷ (runAnswer (table (500000000 ∷ 750000000 ∷ 250000000 ∷ []) (2 ∷ 5 ∷ 1 ∷ 4 ∷ 1 ∷ []) (0 ∷ 0 ∷ 4 ∷ 0 ∷ 2 ∷ [])) false leaf (limits 0 255), ended Met 906250000 906250000 4)
+    ∷ (runAnswer (table (750000000 ∷ 500000000 ∷ 200000000 ∷ []) (0 ∷ 2 ∷ 1 ∷ 0 ∷ 4 ∷ []) (1 ∷ 0 ∷ 0 ∷ 1 ∷ 0 ∷ [])) false leaf (limits 0 255), ended Met S S 2)
+    ∷ (runAnswer (table (500000000 ∷ 500000000 ∷ []) (1 ∷ 0 ∷ []) (0 ∷ 0 ∷ [])) false leaf (limits 0 255), ended Met S S 0)
+    ∷ []
+
+pub lean-runs : AllEqual leanRuns
+unfolding absentRows rows ways any remaining sift surplus minimal rootWays isOpen nonempty fallApart occurs possible child combine end low high refineAt inners grow leafWays Run.from Run.wider Run.widest Run.named Run.mostNamed Run.choice Run.next Run.narrow Run.turn Run.picks Run.verdict Refusals.first Refusals.faultsOutside Refusals.someAbove Refusals.overweight Refusals.namesBeyond Refusals.namesBoth Refusals.allowanceAbove Refusals.budgetAbove Refusals.wayRefusals Refusals.limitRefusals Calls.runAnswer Calls.runAnswerBy Calls.runNumber Calls.runRefusals Calls.runMakes Calls.figures tableNumber Refusals.tableRefusals Refusals.wordsAmiss
+lean-runs = (refl, (refl, (refl, (refl, (refl, (refl, (refl, (refl, tt))))))))
+
+-- A9: by hand, a leaf may fall apart for want of what was left out; A10: a fault that only left-out ways name does not occur.
+abbrev numbersOf : List Way → List ℕ
+numbersOf [] = []
+numbersOf (v ∷ vs) = v .number ∷ numbersOf vs
+
+abbrev a9 : Table
+a9 = table (500000000 ∷ 500000000 ∷ []) (3 ∷ 1 ∷ 2 ∷ []) (0 ∷ 0 ∷ 0 ∷ [])
+
+abbrev a10 : Table
+a10 = table (500000000 ∷ 500000000 ∷ 500000000 ∷ []) (1 ∷ 2 ∷ 5 ∷ []) (0 ∷ 0 ∷ 0 ∷ [])
+
+pub lean-by-hand : (holds (refined a9 750000000 S (atRoot IndependentOr ∷ []) 750000000 750000000) ≡ true)
+    × (acceptable a10 leaf (atRoot (Shannon 2)) ≡ false)
+    × (numbersOf (rootWays a10) ≡ 0 ∷ 1 ∷ [])
+    × (numbersOf (rootWays (table (500000000 ∷ []) (0 ∷ 1 ∷ 0 ∷ []) (1 ∷ 0 ∷ 1 ∷ []))) ≡ 0 ∷ 1 ∷ [])
+unfolding ways rows absentRows any remaining sift surplus minimal rootWays isOpen nonempty fallApart occurs possible child combine end low high refineAt inners grow leafWays acceptable seriesFrom tableNumber Refusals.tableRefusals Refusals.wayRefusals Refusals.first Refusals.faultsOutside Refusals.someAbove Refusals.overweight Refusals.wordsAmiss Refusals.namesBeyond Refusals.namesBoth
+lean-by-hand = (refl, refl, refl, refl)
 
 -- ---- the whole sheet
 
@@ -137,9 +175,9 @@ show-length = refl
 
 -- WHAT THE PROGRAM PRINTS for them, with budget 40 and with budget 1.
 pub sheet-text : text (encode (show 40)) ≡ bytes "cue low high steps verdict\n7 300000000 300000000 2 met\n9 0 0 0 met\n"
-unfolding absentRows rows ways any remaining isOpen nonempty fallApart occurs possible child combine end low high refineAt inners grow leafWays Run.from Run.wider Run.widest Run.named Run.mostNamed Run.choice Run.next Run.narrow Run.turn Run.picks Run.verdict Refusals.first Refusals.faultsOutside Refusals.cuesOutside Refusals.someAbove Refusals.rising Refusals.notRising Refusals.crowded Refusals.overweight Refusals.namesBeyond Refusals.namesBoth Refusals.allowanceAbove Refusals.budgetAbove Refusals.wayRefusals Refusals.limitRefusals Sheet.little Sheet.value Sheet.field Sheet.column Sheet.total Sheet.deal Sheet.sheetOf Sheet.weightsStart Sheet.bodiesStart Sheet.starts Sheet.headBytes Sheet.contentsBytes Sheet.weightsBytes Sheet.bodyBytes Sheet.bodiesBytes encode Sheet.listsIn Sheet.decode Sheet.sameNumbers Sheet.readRefusals Sheet.readNumber bytes Text.digits Text.decimal Text.word Text.line Text.lines Text.sheetText Text.textBy text
+unfolding absentRows rows ways any remaining sift surplus minimal rootWays isOpen nonempty fallApart occurs possible child combine end low high refineAt inners grow leafWays Run.from Run.wider Run.widest Run.named Run.mostNamed Run.choice Run.next Run.narrow Run.turn Run.picks Run.verdict Refusals.first Refusals.faultsOutside Refusals.cuesOutside Refusals.someAbove Refusals.rising Refusals.notRising Refusals.crowded Refusals.overweight Refusals.namesBeyond Refusals.namesBoth Refusals.allowanceAbove Refusals.budgetAbove Refusals.wayRefusals Refusals.limitRefusals Sheet.little Sheet.value Sheet.field Sheet.column Sheet.total Sheet.deal Sheet.sheetOf Sheet.weightsStart Sheet.bodiesStart Sheet.starts Sheet.headBytes Sheet.contentsBytes Sheet.weightsBytes Sheet.bodyBytes Sheet.bodiesBytes encode Sheet.listsIn Sheet.decode Sheet.sameNumbers Sheet.readRefusals Sheet.readNumber bytes Text.digits Text.decimal Text.word Text.line Text.lines Text.sheetText Text.textBy text
 sheet-text = refl
 
 pub sheet-text-1 : text (encode (show 1)) ≡ bytes "cue low high steps verdict\n7 300000000 350000000 1 spent\n9 0 0 0 met\n"
-unfolding absentRows rows ways any remaining isOpen nonempty fallApart occurs possible child combine end low high refineAt inners grow leafWays Run.from Run.wider Run.widest Run.named Run.mostNamed Run.choice Run.next Run.narrow Run.turn Run.picks Run.verdict Refusals.first Refusals.faultsOutside Refusals.cuesOutside Refusals.someAbove Refusals.rising Refusals.notRising Refusals.crowded Refusals.overweight Refusals.namesBeyond Refusals.namesBoth Refusals.allowanceAbove Refusals.budgetAbove Refusals.wayRefusals Refusals.limitRefusals Sheet.little Sheet.value Sheet.field Sheet.column Sheet.total Sheet.deal Sheet.sheetOf Sheet.weightsStart Sheet.bodiesStart Sheet.starts Sheet.headBytes Sheet.contentsBytes Sheet.weightsBytes Sheet.bodyBytes Sheet.bodiesBytes encode Sheet.listsIn Sheet.decode Sheet.sameNumbers Sheet.readRefusals Sheet.readNumber bytes Text.digits Text.decimal Text.word Text.line Text.lines Text.sheetText Text.textBy text
+unfolding absentRows rows ways any remaining sift surplus minimal rootWays isOpen nonempty fallApart occurs possible child combine end low high refineAt inners grow leafWays Run.from Run.wider Run.widest Run.named Run.mostNamed Run.choice Run.next Run.narrow Run.turn Run.picks Run.verdict Refusals.first Refusals.faultsOutside Refusals.cuesOutside Refusals.someAbove Refusals.rising Refusals.notRising Refusals.crowded Refusals.overweight Refusals.namesBeyond Refusals.namesBoth Refusals.allowanceAbove Refusals.budgetAbove Refusals.wayRefusals Refusals.limitRefusals Sheet.little Sheet.value Sheet.field Sheet.column Sheet.total Sheet.deal Sheet.sheetOf Sheet.weightsStart Sheet.bodiesStart Sheet.starts Sheet.headBytes Sheet.contentsBytes Sheet.weightsBytes Sheet.bodyBytes Sheet.bodiesBytes encode Sheet.listsIn Sheet.decode Sheet.sameNumbers Sheet.readRefusals Sheet.readNumber bytes Text.digits Text.decimal Text.word Text.line Text.lines Text.sheetText Text.textBy text
 sheet-text-1 = refl

@@ -128,7 +128,7 @@ fixing P A f b k (v ∷ vs) a l = by (contradicted P A v) refl (fixing P A f b k
         (ap (λ (m : ℕ). satisfies (dropped m v) a) (k .only) ∙ fits-dropped f (v .present) (v .absent) b a l (sym (k .test v) ∙ e)) ih
 
 -- A word meets a power of two exactly in that bit.
-meets-pow : (w f : ℕ) → not (eqb (bitAnd w (2 ^ f)) 0) ≡ bit f w
+pub meets-pow : (w f : ℕ) → not (eqb (bitAnd w (2 ^ f)) 0) ≡ bit f w
 meets-pow w f = go (bit f w) refl
   where
     hit : bit f w ≡ true → bit f (bitAnd w (2 ^ f)) ≡ true

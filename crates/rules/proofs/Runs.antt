@@ -11,10 +11,10 @@ use native.Mathlib.Omega.{arith}
 use lib.ListN.{length, length-append}
 use lib.Dec.{leb}
 use borrow.Author.Tests.{ltb-true, ltb-false, leb-true, leb-false, lt-ltb}
-use Rattle.rules.specs.Table.{Way, Table, ways}
+use Rattle.rules.specs.Table.{Way, Table}
 use Rattle.rules.specs.Leaf.{isOpen}
 use Rattle.rules.specs.Group.{fallApart}
-use Rattle.rules.specs.Tree.{left, right, Place, DTree, leaf, inner, possible, child, low, high, inners, Refinement, refine, grow, leafWays, roomy, acceptable, seriesFrom}
+use Rattle.rules.specs.Tree.{rootWays, left, right, Place, DTree, leaf, inner, possible, child, low, high, inners, Refinement, refine, grow, leafWays, roomy, acceptable, seriesFrom}
 use Rattle.rules.specs.Run.{Candidate, widest, mostNamed, choice, next, narrow, Turn, stop, go, turn, picks, verdict, ran}
 use Rattle.rules.specs.Refusals.{namesBeyond, Accepted}
 use Rattle.rules.specs.declared.Kind.{Kind}
@@ -26,7 +26,7 @@ use Rattle.rules.proofs.Enclosure.{child-inside}
 use Rattle.rules.proofs.Levels.{open-occurs}
 use Rattle.rules.proofs.Series.{grow-append, grown-inners}
 use Rattle.rules.proofs.Widest.{NoneOpen, Law, nothing, the, widest-law, widest-none, named-occurs, occurs-named, most-named}
-use Rattle.rules.proofs.Accepted.{inside}
+use Rattle.rules.proofs.Accepted.{root-inside}
 
 -- ---- what the rule picks can be made
 
@@ -52,9 +52,9 @@ leaf-inside n (right ∷ p) vs (inner k l r) us h e = leaf-inside n p (child k r
 
 next-acceptable : (t : Table) → Accepted t → (s : DTree) (n : Refinement) → inners s < 255 → next t s ≡ some n → acceptable t s n ≡ true
 unfolding next acceptable
-next-acceptable t ok s n room e = by (widest (t .weights) (ways t) s) (widest-law (t .weights) (ways t) s) e
+next-acceptable t ok s n room e = by (widest (t .weights) (rootWays t) s) (widest-law (t .weights) (rootWays t) s) e
   where
-    by : (o : Option Candidate) → Law (t .weights) (ways t) s o
+    by : (o : Option Candidate) → Law (t .weights) (rootWays t) s o
         → (elim o as (λ o. Option Refinement) [ none ↦ none | some x ↦ some (record { place = x .place; kind = choice (t .weights) (x .ways) }) ]) ≡ some n
         → acceptable t s n ≡ true
     by none h e = absurd (Option·none-ne-some _ e)
@@ -63,7 +63,7 @@ next-acceptable t ok s n room e = by (widest (t .weights) (ways t) s) (widest-la
         (rw (h .there, acceptable)
         (and-both (isOpen (t .weights) (x .ways)) _ (h .opened)
         (and-both (roomy s) _ (lt-ltb (inners s) 255 room)
-        (choice-possible (t .weights) (x .ways) (leaf-inside (length (t .weights)) (x .place) (ways t) s (x .ways) (inside t ok) (h .there)) (h .opened)))))
+        (choice-possible (t .weights) (x .ways) (leaf-inside (length (t .weights)) (x .place) (rootWays t) s (x .ways) (root-inside t ok) (h .there)) (h .opened)))))
 
 -- ---- a turn, read backwards
 
@@ -170,20 +170,20 @@ two-runs t a b c s =
 -- ---- the verdict
 
 -- Where the rule picks nothing no leaf is open.
-next-none : (t : Table) (s : DTree) → next t s ≡ none → NoneOpen (t .weights) (ways t) s
+next-none : (t : Table) (s : DTree) → next t s ≡ none → NoneOpen (t .weights) (rootWays t) s
 unfolding next
-next-none t s e = by (widest (t .weights) (ways t) s) (widest-law (t .weights) (ways t) s) e
+next-none t s e = by (widest (t .weights) (rootWays t) s) (widest-law (t .weights) (rootWays t) s) e
   where
-    by : (o : Option Candidate) → Law (t .weights) (ways t) s o
+    by : (o : Option Candidate) → Law (t .weights) (rootWays t) s o
         → _≡_ {A = Option Refinement} (elim o as (λ o. Option Refinement) [ none ↦ none | some x ↦ some (record { place = x .place; kind = choice (t .weights) (x .ways) }) ]) none
-        → NoneOpen (t .weights) (ways t) s
+        → NoneOpen (t .weights) (rootWays t) s
     by none (nothing f) e = f
     by (some x) h e = absurd (Option·none-ne-some _ (sym e))
 
 -- Where no leaf is open it picks nothing.
-none-next : (t : Table) (s : DTree) → NoneOpen (t .weights) (ways t) s → next t s ≡ none
+none-next : (t : Table) (s : DTree) → NoneOpen (t .weights) (rootWays t) s → next t s ≡ none
 unfolding next
-none-next t s f = rw (widest-none (t .weights) (ways t) s f, next)
+none-next t s f = rw (widest-none (t .weights) (rootWays t) s f, next)
 
 -- The interval at the root is wider than the allowance.
 abbrev pub TooWide : Table → ℕ → DTree → Type 0
@@ -196,7 +196,7 @@ SomeOpen t s = (n : Refinement) × (next t s ≡ some n)
 -- What a verdict says of the tree that a run leaves, with the refinements it made.
 pub data Says (t : Table) (allowance budget made : ℕ) (s : DTree) : Verdict → Type 0 where
   is-met : high t s - low t s ≤ allowance → Says t allowance budget made s Met
-  is-done : TooWide t allowance s → NoneOpen (t .weights) (ways t) s → Says t allowance budget made s Done
+  is-done : TooWide t allowance s → NoneOpen (t .weights) (rootWays t) s → Says t allowance budget made s Done
   is-full : TooWide t allowance s → SomeOpen t s → 255 ≤ inners s → Says t allowance budget made s Full
   is-spent : TooWide t allowance s → SomeOpen t s → inners s < 255 → made ≡ budget → Says t allowance budget made s Spent
 
@@ -233,12 +233,12 @@ verdict-says t a (suc b) s = by (turn t a s) (reason t a s) (λ n. verdict-says 
 -- What the verdict is, exactly, of a tree s that a run leaves: met before done before full before spent.
 pub record Exactly (t : Table) (allowance : ℕ) (s : DTree) (v : Verdict) : Type 0 where
   pub met : (v ≡ Met) ↔ (high t s - low t s ≤ allowance)
-  pub done : (v ≡ Done) ↔ (TooWide t allowance s × NoneOpen (t .weights) (ways t) s)
+  pub done : (v ≡ Done) ↔ (TooWide t allowance s × NoneOpen (t .weights) (rootWays t) s)
   pub full : (v ≡ Full) ↔ (TooWide t allowance s × SomeOpen t s × (255 ≤ inners s))
   pub spent : (v ≡ Spent) ↔ (TooWide t allowance s × SomeOpen t s × (inners s < 255))
 
 -- A leaf that is open is not nothing.
-not-both : (t : Table) (s : DTree) → NoneOpen (t .weights) (ways t) s → SomeOpen t s → ⊥
+not-both : (t : Table) (s : DTree) → NoneOpen (t .weights) (rootWays t) s → SomeOpen t s → ⊥
 not-both t s f o = Option·none-ne-some _ (sym (none-next t s f) ∙ o .1)
 
 -- The verdicts differ: they are tried one after the other.

@@ -9,9 +9,9 @@ use Prim.Native.Nat.{ℕ, _+_, _≤_, _<_}
 use native.Mathlib.Omega.{arith}
 use lib.ListN.{length}
 use borrow.Author.Tests.{ltb-true}
-use Rattle.rules.specs.Table.{Way, Table, ways}
+use Rattle.rules.specs.Table.{Way, Table}
 use Rattle.rules.specs.Leaf.{isOpen}
-use Rattle.rules.specs.Tree.{left, right, Place, DTree, leaf, inner, possible, child, refineAt, inners, Refinement, refine, grow, tree, leafAt, kindAt, leafWays, roomy, acceptable, seriesFrom, series}
+use Rattle.rules.specs.Tree.{rootWays, left, right, Place, DTree, leaf, inner, possible, child, refineAt, inners, Refinement, refine, grow, tree, leafAt, kindAt, leafWays, roomy, acceptable, seriesFrom, series}
 use Rattle.rules.specs.declared.Kind.{Kind}
 use Rattle.rules.proofs.Booleans.{and-left, and-right, and-both}
 use Rattle.rules.proofs.Places.{tree-ext, leaf-undone, ways-leaf, refined-kind, refined-inners, done-stays, done-only}
@@ -21,16 +21,16 @@ use Rattle.rules.proofs.Places.{tree-ext, leaf-undone, ways-leaf, refin
 -- What an acceptable refinement finds: an open leaf with these ways, room in the tree, and a kind that is possible there.
 pub record Found (t : Table) (s : DTree) (n : Refinement) : Type 0 where
   pub found : List Way
-  pub there : leafWays (n .place) (ways t) s ≡ some found
+  pub there : leafWays (n .place) (rootWays t) s ≡ some found
   pub opened : isOpen (t .weights) found ≡ true
   pub room : inners s < 255
   pub fitting : possible (n .kind) found ≡ true
 
 pub acceptable-found : (t : Table) (s : DTree) (n : Refinement) → acceptable t s n ≡ true → Found t s n
 unfolding acceptable
-acceptable-found t s n h = go (leafWays (n .place) (ways t) s) refl h
+acceptable-found t s n h = go (leafWays (n .place) (rootWays t) s) refl h
   where
-    go : (o : Option (List Way)) → leafWays (n .place) (ways t) s ≡ o
+    go : (o : Option (List Way)) → leafWays (n .place) (rootWays t) s ≡ o
         → (elim o as (λ o. Bool) [ none ↦ false | some vs ↦ isOpen (t .weights) vs && (roomy s && possible (n .kind) vs) ]) ≡ true → Found t s n
     go none e h = absurd (true≢false (sym h))
     go (some vs) e h =
@@ -44,7 +44,7 @@ acceptable-found t s n h = go (leafWays (n .place) (ways t) s) refl h
         }
 
 pub acceptable-leaf : (t : Table) (s : DTree) (n : Refinement) → acceptable t s n ≡ true → leafAt (n .place) s ≡ true
-acceptable-leaf t s n h = let k = acceptable-found t s n h in ways-leaf (n .place) (ways t) s (k .found) (k .there)
+acceptable-leaf t s n h = let k = acceptable-found t s n h in ways-leaf (n .place) (rootWays t) s (k .found) (k .there)
 
 -- ---- series, cut and joined
 
@@ -87,16 +87,16 @@ sound-refine ws (b ∷ p) k vs leaf us h e o f = absurd (Option·none-ne-some _ 
 sound-refine ws (left ∷ p) k vs (inner j l r) us h e o f = (h .0, h .1, sound-refine ws p k (child j left vs) l us (h .2) e o f, h .3)
 sound-refine ws (right ∷ p) k vs (inner j l r) us h e o f = (h .0, h .1, h .2, sound-refine ws p k (child j right vs) r us (h .3) e o f)
 
-sound-grow : (t : Table) (ns : List Refinement) (s : DTree) → Sound (t .weights) (ways t) s → seriesFrom t s ns ≡ true → Sound (t .weights) (ways t) (grow s ns)
+sound-grow : (t : Table) (ns : List Refinement) (s : DTree) → Sound (t .weights) (rootWays t) s → seriesFrom t s ns ≡ true → Sound (t .weights) (rootWays t) (grow s ns)
 unfolding seriesFrom grow
 sound-grow t [] s k h = k
 sound-grow t (n ∷ ns) s k h =
     let f = acceptable-found t s n (and-left (acceptable t s n) _ h) in
-    sound-grow t ns (refine n s) (sound-refine (t .weights) (n .place) (n .kind) (ways t) s (f .found) k (f .there) (f .opened) (f .fitting))
+    sound-grow t ns (refine n s) (sound-refine (t .weights) (n .place) (n .kind) (rootWays t) s (f .found) k (f .there) (f .opened) (f .fitting))
     (and-right (acceptable t s n) _ h)
 
 -- The tree of a series is sound.
-pub series-sound : (t : Table) (ns : List Refinement) → series t ns ≡ true → Sound (t .weights) (ways t) (tree ns)
+pub series-sound : (t : Table) (ns : List Refinement) → series t ns ≡ true → Sound (t .weights) (rootWays t) (tree ns)
 unfolding Sound
 series-sound t ns h = sound-grow t ns leaf tt h
 

@@ -1,7 +1,7 @@
 -- A leaf's set of ways, by number: any part of the remaining ways is what remains of the table's ways with those numbers.
 -- So the ways that a tree hands down are the remaining ways by set and fixed faults, as 01 words them. Rests on specs/Leaf.antt.
 use mathlib.Core.Path.{_≡_, refl, sym, ap, ap₂, _∙_, subst}
-use mathlib.Core.Bool.{Bool, true, false, _||_, true≢false, Bool·beq}
+use mathlib.Core.Bool.{Bool, true, false, not, _&&_, _||_, true≢false, Bool·beq}
 use mathlib.Core.List.{List, [], _∷_}
 use mathlib.Core.Logic.{_⊎_, inl, inr}
 use Prim.Native.Nat.{ℕ, suc, _≤_, _<_}
@@ -9,7 +9,7 @@ use native.Mathlib.Omega.{arith}
 use lib.Bits.{bitOr}
 use borrow.Author.Tests.{eq-eqb, ne-eqb}
 use Rattle.rules.specs.Table.{Way, Table, rows, absentRows, ways}
-use Rattle.rules.specs.Leaf.{select, hasNumber, ofSet, contradicted, dropped, remaining}
+use Rattle.rules.specs.Leaf.{select, hasNumber, ofSet, contradicted, dropped, remaining, sift, surplus, minimal}
 use Rattle.rules.specs.Group.{touches, part}
 
 -- ---- numbers rise
@@ -61,6 +61,15 @@ remaining-rising i present absent (v ∷ vs) k = by (contradicted present absent
     by true ih = rising-from i (suc (v .number)) (remaining present absent vs) (omega (arith, k .0)) ih
     by false ih = (k .0, ih)
 
+pub sift-rising : (i : ℕ) (g : Way → Bool) (vs : List Way) → Rising i vs → Rising i (sift g vs)
+unfolding Rising sift
+sift-rising i g [] k = tt
+sift-rising i g (v ∷ vs) k = by (g v) (sift-rising (suc (v .number)) g vs (k .1))
+  where
+    by : (b : Bool) → Rising (suc (v .number)) (sift g vs) → Rising i (elim b as (λ b. List Way) [ true ↦ v ∷ sift g vs | false ↦ sift g vs ])
+    by true ih = (k .0, ih)
+    by false ih = rising-from i (suc (v .number)) (sift g vs) (omega (arith, k .0)) ih
+
 -- Tests that agree from i on select the same of ways that begin there.
 pub select-same : (i : ℕ) (vs : List Way) (P Q : ℕ → Bool) → Rising i vs → ((j : ℕ) → i ≤ j → P j ≡ Q j) → select P vs ≡ select Q vs
 unfolding Rising select
@@ -77,18 +86,8 @@ select-same i (v ∷ vs) P Q k h =
 
 -- ---- parts of the remaining ways
 
--- The ways of a list that pass a test.
-unfoldable pub sift : (Way → Bool) → List Way → List Way
-sift g [] = []
-sift g (v ∷ vs) = elim (g v) as (λ b. List Way) [ true ↦ v ∷ sift g vs | false ↦ sift g vs ]
-
-sift-all : (vs : List Way) → sift (λ v. true) vs ≡ vs
-unfolding sift
-sift-all [] = refl
-sift-all (v ∷ vs) = ap (λ (r : List Way). v ∷ r) (sift-all vs)
-
 -- The part that a word touches, or does not, is such a part.
-part-sift : (b : Bool) (m : ℕ) (vs : List Way) → part b m vs ≡ sift (λ v. Bool·beq b (touches m v)) vs
+pub part-sift : (b : Bool) (m : ℕ) (vs : List Way) → part b m vs ≡ sift (λ v. Bool·beq b (touches m v)) vs
 unfolding sift
 part-sift b m [] = refl
 part-sift b m (v ∷ vs) = by (Bool·beq b (touches m v)) (part-sift b m vs)
@@ -182,20 +181,36 @@ module _ (present absent : ℕ) (g : Way → Bool) (P : ℕ → Bool) where
 
 -- ---- the two forms that are used
 
--- Ways that remain of some set are what remains of their own numbers.
-pub own-set : (all : List Way) → Rising 0 all → (P : ℕ → Bool) (present absent : ℕ) (vs : List Way) → vs ≡ remaining present absent (select P all)
-    → remaining present absent (ofSet vs all) ≡ vs
-unfolding some-of
-own-set all k P present absent vs e =
-    subst (λ (x : List Way). remaining present absent (ofSet x all) ≡ x) (sift-all (remaining present absent (select P all)) ∙ sym e) (part-back present absent (λ v. true) P 0 all k)
+-- A part of a part.
+sift-sift : (g h : Way → Bool) (vs : List Way) → sift g (sift h vs) ≡ sift (λ v. h v && g v) vs
+unfolding sift
+sift-sift g h [] = refl
+sift-sift g h (v ∷ vs) = by (h v) (g v) refl (sift-sift g h vs)
+  where
+    by : (x y : Bool) → g v ≡ y → sift g (sift h vs) ≡ sift (λ v. h v && g v) vs
+        → sift g (elim x as (λ b. List Way) [ true ↦ v ∷ sift h vs | false ↦ sift h vs ])
+        ≡ (elim (x && y) as (λ b. List Way) [ true ↦ v ∷ sift (λ v. h v && g v) vs | false ↦ sift (λ v. h v && g v) vs ])
+    by true true e ih = rw (e, sift) (ap (λ (r : List Way). v ∷ r) ih)
+    by true false e ih = rw (e, sift) ih
+    by false y e ih = ih
 
--- So is a part of them.
-pub part-set : (all : List Way) → Rising 0 all → (P : ℕ → Bool) (present absent : ℕ) (vs : List Way) → vs ≡ remaining present absent (select P all)
+-- What stays of the ways that remain of some set is what remains of its own numbers.
+pub own-set : (all : List Way) → Rising 0 all → (P : ℕ → Bool) (present absent : ℕ) (vs : List Way) → vs ≡ minimal (remaining present absent (select P all))
+    → remaining present absent (ofSet vs all) ≡ vs
+unfolding some-of minimal
+own-set all k P present absent vs e =
+    subst (λ (x : List Way). remaining present absent (ofSet x all) ≡ x) (sym e)
+    (part-back present absent (λ v. not (surplus (remaining present absent (select P all)) v)) P 0 all k)
+
+-- So is a part of it.
+pub part-set : (all : List Way) → Rising 0 all → (P : ℕ → Bool) (present absent : ℕ) (vs : List Way) → vs ≡ minimal (remaining present absent (select P all))
     → (b : Bool) (m : ℕ) → remaining present absent (ofSet (part b m vs) all) ≡ part b m vs
-unfolding some-of
+unfolding some-of minimal
 part-set all k P present absent vs e b m =
+    let us : List Way = remaining present absent (select P all) in
     subst (λ (x : List Way). remaining present absent (ofSet x all) ≡ x)
-    (ap (sift (λ v. Bool·beq b (touches m v))) (sym e) ∙ sym (part-sift b m vs)) (part-back present absent (λ v. Bool·beq b (touches m v)) P 0 all k)
+    (sym (sift-sift (λ v. Bool·beq b (touches m v)) (λ v. not (surplus us v)) us) ∙ ap (sift (λ v. Bool·beq b (touches m v))) (sym e) ∙ sym (part-sift b m vs))
+    (part-back present absent (λ v. not (surplus us v) && Bool·beq b (touches m v)) P 0 all k)
 
 -- All ways of a list, by number.
 pub whole-set : (i : ℕ) (vs : List Way) → Rising i vs → ofSet vs vs ≡ vs

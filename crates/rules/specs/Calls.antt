@@ -6,9 +6,9 @@ use mathlib.Core.Option.{Option, none, some}
 use Prim.Native.Nat.{ℕ, zero, suc, _+_}
 use lib.ListN.{length}
 use lib.Dec.{eqb, ltb}
-use Rattle.rules.specs.Table.{Way, Table, ways}
+use Rattle.rules.specs.Table.{Way, Table}
 use Rattle.rules.specs.Leaf.{isOpen}
-use Rattle.rules.specs.Tree.{Side, left, right, Place, DTree, leaf, possible, low, high, roomy, Refinement, grow, tree, leafWays}
+use Rattle.rules.specs.Tree.{Side, left, right, Place, DTree, leaf, possible, rootWays, low, high, roomy, Refinement, grow, tree, leafWays}
 use Rattle.rules.specs.Run.{picks, verdict}
 use Rattle.rules.specs.Refusals.{Refusal, refusal, first, tableRefusals, tableNumber, limitRefusals}
 use Rattle.rules.specs.Answers.{Reply, answerReply, runReply}
@@ -45,7 +45,7 @@ placeBytes (b ∷ p) = sideByte b ∷ placeBytes p
 
 -- The remaining ways of the leaf that the bytes name, if they name one.
 unfoldable pub leafNamed : Table → DTree → List ℕ → Option (List Way)
-leafNamed t s bs = elim (placeOf bs) as (λ o. Option (List Way)) [ none ↦ none | some p ↦ leafWays p (ways t) s ]
+leafNamed t s bs = elim (placeOf bs) as (λ o. Option (List Way)) [ none ↦ none | some p ↦ leafWays p (rootWays t) s ]
 
 -- ---- refusals
 

@@ -1,5 +1,6 @@
 -- A leaf: its remaining ways and its interval (01, "A leaf and its interval"; 003, Definition 2 for the ways behind the low end).
 -- 01 departs from 003: ways are kept in number order, the high end is a plain sum, and every product is rounded.
+use mathlib.Core.Path.{_≡_}
 use mathlib.Core.Bool.{Bool, true, false, not, _&&_, _||_}
 use mathlib.Core.List.{List, [], _∷_}
 use Prim.Native.Nat.{ℕ, _+_, _-_, _*_, _/_, min}
@@ -46,6 +47,33 @@ remaining present absent [] = []
 remaining present absent (v ∷ vs) =
     elim (contradicted present absent v) as (λ b. List Way)
     [ true ↦ remaining present absent vs | false ↦ dropped (bitOr present absent) v ∷ remaining present absent vs ]
+
+-- ---- ways that say nothing new
+
+-- The ways of a list that pass a test.
+unfoldable pub sift : (Way → Bool) → List Way → List Way
+sift g [] = []
+sift g (v ∷ vs) = elim (g v) as (λ b. List Way) [ true ↦ v ∷ sift g vs | false ↦ sift g vs ]
+
+-- The first way says no more than the second: the second names every fault of the first, in the same sense.
+abbrev pub subsumes : Way → Way → Bool
+subsumes u v = eqb (without (v .present) (u .present)) 0 && eqb (without (v .absent) (u .absent)) 0
+
+-- Beside the first way the second says nothing new: the first says no more, and of equal ways it is the lower numbered.
+abbrev pub outdoes : Way → Way → Bool
+outdoes u v = subsumes u v && (not (subsumes v u) || ltb (u .number) (v .number))
+
+-- The way says nothing new beside some way of the list.
+unfoldable pub surplus : List Way → Way → Bool
+surplus vs v = any (λ u. outdoes u v) vs
+
+-- What stays.
+unfoldable pub minimal : List Way → List Way
+minimal vs = sift (λ v. not (surplus vs v)) vs
+
+-- None of the ways says nothing new.
+abbrev pub Lean : List Way → Type 0
+Lean vs = minimal vs ≡ vs
 
 -- One fault of weight w in a way's chance: named present it counts w, named absent S less w, not named it does not count.
 abbrev pub step : Dir → ℕ → Bool → Bool → ℕ → ℕ

@@ -6,10 +6,10 @@ use mathlib.Core.Option.{Option, none, some}
 use Prim.Native.Nat.{ℕ, zero, suc, _-_}
 use lib.ListN.{length}
 use lib.Dec.{ltb, leb}
-use Rattle.rules.specs.Table.{bit, Way, Table, ways, faults}
+use Rattle.rules.specs.Table.{bit, Way, Table, faults}
 use Rattle.rules.specs.Leaf.{leafWidth, isOpen}
 use Rattle.rules.specs.Group.{fallApart}
-use Rattle.rules.specs.Tree.{Side, left, right, Place, DTree, leaf, inner, child, low, high, roomy, Refinement, refine, grow}
+use Rattle.rules.specs.Tree.{Side, left, right, Place, DTree, leaf, inner, child, rootWays, low, high, roomy, Refinement, refine, grow}
 use Rattle.rules.specs.declared.Kind.{Kind}
 use Rattle.rules.specs.declared.Kind.the-variants.{IndependentOr, Shannon}
 use Rattle.rules.specs.declared.Verdict.{Verdict}
@@ -61,7 +61,7 @@ choice ws vs = elim (fallApart vs) as (λ b. Kind) [ true ↦ IndependentOr | fa
 -- The refinement that the rule picks next, if a leaf is open.
 unfoldable pub next : Table → DTree → Option Refinement
 next t s =
-    elim (widest (t .weights) (ways t) s) as (λ o. Option Refinement)
+    elim (widest (t .weights) (rootWays t) s) as (λ o. Option Refinement)
     [ none ↦ none | some x ↦ some (record { place = x .place; kind = choice (t .weights) (x .ways) }) ]
 
 -- ---- when it stops

@@ -9,7 +9,7 @@ use lib.Dec.{ltb}
 use lib.Bits.{bitOr}
 use Rattle.rules.specs.Rounding.{S, Dir, down, up, over}
 use Rattle.rules.specs.Table.{bit, Way, Table, ways, faults}
-use Rattle.rules.specs.Leaf.{any, remaining, either, leafEnd, isOpen}
+use Rattle.rules.specs.Leaf.{any, remaining, minimal, either, leafEnd, isOpen}
 use Rattle.rules.specs.Group.{group, others, fallApart}
 use Rattle.rules.specs.declared.Kind.{Kind}
 use Rattle.rules.specs.declared.Kind.the-variants.{IndependentOr, Shannon}
@@ -42,8 +42,8 @@ possible (Shannon f) vs = occurs f vs
 unfoldable pub child : Kind → Side → List Way → List Way
 child IndependentOr left vs = group vs
 child IndependentOr right vs = others vs
-child (Shannon f) left vs = remaining (2 ^ f) 0 vs
-child (Shannon f) right vs = remaining 0 (2 ^ f) vs
+child (Shannon f) left vs = minimal (remaining (2 ^ f) 0 vs)
+child (Shannon f) right vs = minimal (remaining 0 (2 ^ f) vs)
 
 -- The weighted mean of two ends, rounded once.
 abbrev pub mean : Dir → ℕ → ℕ → ℕ → ℕ
@@ -66,13 +66,17 @@ unfoldable pub end : Dir → List ℕ → List Way → DTree → ℕ
 end d ws vs leaf = leafEnd d ws vs
 end d ws vs (inner k l r) = overlap d (leafEnd d ws vs) (combine k d ws (end d ws (child k left vs) l) (end d ws (child k right vs) r))
 
+-- The ways at the root: what stays of the table's.
+unfoldable pub rootWays : Table → List Way
+rootWays t = minimal (ways t)
+
 -- The low end at the root of a table's tree.
 unfoldable pub low : Table → DTree → ℕ
-low t s = end down (t .weights) (ways t) s
+low t s = end down (t .weights) (rootWays t) s
 
 -- The high end at the root of a table's tree.
 unfoldable pub high : Table → DTree → ℕ
-high t s = end up (t .weights) (ways t) s
+high t s = end up (t .weights) (rootWays t) s
 
 -- ---- refining at a place
 
@@ -164,7 +168,7 @@ pub record Node : Type 0 where
 -- A child's set: its group or the other ways; under a fault, its parent's set.
 unfoldable pub childSet : Kind → Side → List Way → List Way → List Way
 childSet IndependentOr b us vs = child IndependentOr b vs
-childSet (Shannon f) b us vs = us
+childSet (Shannon f) b us vs = vs
 
 -- The word of the faults fixed present (left) or absent (right), in a child: under a fault the left child fixes it present, the right absent.
 unfoldable pub childFixed : Side → Kind → Side → ℕ → ℕ
@@ -198,7 +202,7 @@ descend (right ∷ p) x (inner k l r) = descend p (childNode k right x) r
 
 -- The root: all ways, nothing fixed.
 abbrev pub root : Table → Node
-root t = record { set = ways t; present = 0; absent = 0; ways = ways t }
+root t = record { set = ways t; present = 0; absent = 0; ways = rootWays t }
 
 -- What stands at a place of a table's tree.
 unfoldable pub subtree : Table → Place → DTree → Option Subtree
@@ -226,7 +230,7 @@ roomy s = ltb (inners s) 255
 -- The refinement can be made: an open leaf is there, the tree has fewer than 255 refinements, and the kind is possible (17 to 20).
 unfoldable pub acceptable : Table → DTree → Refinement → Bool
 acceptable t s n =
-    elim (leafWays (n .place) (ways t) s) as (λ o. Bool) [ none ↦ false | some vs ↦ isOpen (t .weights) vs && (roomy s && possible (n .kind) vs) ]
+    elim (leafWays (n .place) (rootWays t) s) as (λ o. Bool) [ none ↦ false | some vs ↦ isOpen (t .weights) vs && (roomy s && possible (n .kind) vs) ]
 
 -- Each of the refinements was acceptable when it was made.
 unfoldable pub seriesFrom : Table → DTree → List Refinement → Bool

@@ -4,9 +4,11 @@ ghost use mathlib.Core.Path.{_≡_};
 ghost use mathlib.Core.List.{List};
 ghost use Prim.Native.Nat.{ℕ, _+_, _<_, _≤_};
 ghost use lib.ListN.{length};
+ghost use Rattle.rules.specs.Leaf.{Lean};
 ghost use Rattle.rules.specs.Run;
 ghost use Rattle.rules.specs.Run.{choice};
 ghost use Rattle.rules.specs.Refusals.{Accepted};
+ghost use Rattle.records.specs.Records.{recordIn, recordWays};
 ghost use Rattle.store.specs.Lent.{treeOf};
 ghost use Rattle.store.specs.Safe.{Safe};
 ghost use Rattle.clauses.specs.Leaves.{waysOf, Within};
@@ -73,6 +75,7 @@ pub fn refine_by_rule(weights: &[u32], present: &[u64], absent: &[u64], tree: &m
     requires { ⌜ Accepted (record { weights = now weights; present = now present; absent = now absent }) ⌝ }
     requires { ⌜ Safe (treeOf (now tree) .nodes) ⌝ }
     requires { ⌜ (j < 511) × (treeOf (now tree) .used + 1 < 511) ⌝ }
+    requires { ⌜ Lean (recordWays (record { weights = now weights; present = now present; absent = now absent }) (recordIn (treeOf (now tree) .nodes) j)) ⌝ }
     ensures { λ _. ⌜ ByRule (record { weights = now (weights .entry); present = now (present .entry); absent = now (absent .entry) }) (treeOf (now (tree .entry))) j (treeOf (now (tree .exit))) ⌝ }
 {
     let c = ways_of(present, absent, record_at(tree, j));

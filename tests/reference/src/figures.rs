@@ -5,6 +5,7 @@ use crate::paper::{
     chain, equal_ways, most_named, one_division, one_pass, own_interval, p3, p4, p6, p7, p8,
     skipped, widest, with_empty_way, H,
 };
+use crate::redundant;
 use crate::scripts::{lined, Call, Line, Script};
 use crate::tree::{open, State};
 use crate::vectors::make;
@@ -15,13 +16,14 @@ pub type Figures = (&'static str, Table, (u64, u64), Vec<(Call, [u64; 5])>);
 
 /// All of them.
 pub fn typed() -> Vec<Figures> {
-    [roots_and_widths(), stops()].concat()
+    let redundant = redundant::cases().into_iter().map(|case| case.figures);
+    [roots_and_widths(), stops(), redundant.collect()].concat()
 }
 
 /// All of them as scripts, every place shown at the end.
 pub fn figures() -> Vec<Script> {
     let mut scripts: Vec<Script> = typed().into_iter().map(held).collect();
-    scripts.push(counted_thrice());
+    scripts.push(counted_once());
     scripts
 }
 
@@ -37,8 +39,8 @@ fn roots_and_widths() -> Vec<Figures> {
     let q3 = 750_000_000;
     let half = 500_000_000;
     let end = |low, high, count, verdict| run(0, 255, [0, low, high, count, verdict]);
-    let own = run(0, 1, [0, 625_000_000, q3, 1, SPENT]);
-    let narrow = run(50_000_000, 255, [0, 156_250_000, 203_125_000, 6, MET]);
+    let own = run(0, 1, [0, q3, 875_000_000, 1, SPENT]);
+    let narrow = run(50_000_000, 255, [0, 156_250_000, 203_125_000, 2, MET]);
     let closed = by_hand(&[], Act::Fault(0), [18, 0, S, 0, NONE]);
     let nothing = Table::of(&[H], &[]);
     vec![
@@ -51,14 +53,14 @@ fn roots_and_widths() -> Vec<Figures> {
         (
             "never compared with a skipped way",
             skipped(),
-            (q3, S),
+            (625_000_000, S),
             vec![],
         ),
         (
             "groups through chains",
             chain(),
             (q3, S),
-            vec![end(q3, q3, 2, MET)],
+            vec![end(S, S, 2, MET)],
         ),
         (
             "the leaf's own width",
@@ -69,7 +71,7 @@ fn roots_and_widths() -> Vec<Figures> {
         (
             "overlap with the own interval",
             own_interval(),
-            (625_000_000, 750_000_001),
+            (q3, S),
             vec![own],
         ),
         (
@@ -88,8 +90,8 @@ fn roots_and_widths() -> Vec<Figures> {
         (
             "equal ways",
             equal_ways(),
-            (half, S),
-            vec![end(half, half, 1, MET)],
+            (half, half),
+            vec![end(half, half, 0, MET)],
         ),
     ]
 }
@@ -178,12 +180,12 @@ fn told(answer: &Answer) -> [u64; 5] {
     [number, low, high, count, verdict]
 }
 
-/// The fault named in most ways counts equal ways each: a run takes fault 1.
-fn counted_thrice() -> Script {
+/// The fault named in most ways counts only ways that stay: a run takes fault 0.
+fn counted_once() -> Script {
     let table = most_named();
     let (_, mut tree) = open(&table);
     make(&table, &mut tree, &Call::Run(0, 1));
     let root = &tree.places(&table)[0];
-    assert_eq!(root.state, State::Refined(Act::Fault(1)));
+    assert_eq!(root.state, State::Refined(Act::Fault(0)));
     lined(table, vec![Line::Call(Call::Run(0, 1)), Line::Show])
 }

@@ -1,4 +1,4 @@
-//! A leaf's remaining ways and what follows from them alone: the chances of each way,
+//! A leaf's remaining ways and what follows from them alone: which of them stay, the chances of each,
 //! the ways kept for the low end, the leaf's interval, and whether it is open.
 //! All of it for weights that 9 and 10 accept.
 
@@ -25,6 +25,28 @@ impl Way {
     pub fn is_empty(&self) -> bool {
         self.faults() == 0
     }
+
+    /// What it says as one set: element f is fault f present, element 64 + f is fault f absent.
+    fn literals(&self) -> u128 {
+        u128::from(self.absent) << 64 | u128::from(self.present)
+    }
+}
+
+/// What stays of ways in number order: a way that names every fault of another, in the same sense, is left out; of equal
+/// ways the lowest numbered stays. Those that name fewest come first, so that a way is left out just if one that stays
+/// is inside it.
+pub fn staying(ways: &[Way]) -> Vec<Way> {
+    let mut shortest_first = ways.to_vec();
+    shortest_first.sort_by_key(|way| (way.literals().count_ones(), way.number));
+    let mut stay: Vec<Way> = Vec::new();
+    for way in shortest_first {
+        let inside = |shorter: &Way| shorter.literals() & way.literals() == shorter.literals();
+        if !stay.iter().any(inside) {
+            stay.push(way);
+        }
+    }
+    stay.sort_by_key(|way| way.number);
+    stay
 }
 
 #[derive(Clone, Copy, Debug, PartialEq, Eq)]

@@ -10,6 +10,7 @@ pub mod natural;
 pub mod orders;
 pub mod paper;
 pub mod random;
+pub mod redundant;
 pub mod report;
 pub mod run;
 pub mod scripts;

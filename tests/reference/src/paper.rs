@@ -93,12 +93,12 @@ pub fn one_pass() -> Table {
 
 /// The second way shares with the first and is skipped; the third shares with the second alone.
 pub fn skipped() -> Table {
-    Table::of(&[H; 2], &[&[1], &[0, !1], &[0]])
+    Table::of(&[H; 3], &[&[1], &[0, !1], &[0, 2]])
 }
 
 /// The first two ways hang together through the third.
 pub fn chain() -> Table {
-    Table::of(&[H; 2], &[&[0], &[1], &[1, !0]])
+    Table::of(&[H; 2], &[&[0], &[1], &[!0, !1]])
 }
 
 /// The widest leaf is so by its own width, not weighted by its path.
@@ -108,7 +108,7 @@ pub fn widest() -> Table {
 
 /// The root's own leaf interval is better than what its children combine to.
 pub fn own_interval() -> Table {
-    Table::of(&[H, H, H, 1], &[&[0, 1], &[0, 2, 3], &[2]])
+    Table::of(&[H; 3], &[&[0], &[!0, !1, 2], &[1]])
 }
 
 /// One division for a whole node: one for each product would widen it.
@@ -124,7 +124,7 @@ pub fn equal_ways() -> Table {
     Table::of(&[H], &[&[0], &[0]])
 }
 
-/// Fault 1 is named in most ways only because {1, 2, 3} is counted three times.
+/// Fault 0 is named in most ways: of the three ways {1, 2, 3} one stays, and all three would be most for fault 1.
 pub fn most_named() -> Table {
     let thrice: [&[i64]; 3] = [&[1, 2, 3]; 3];
     let pairs: [&[i64]; 3] = [&[0, 1], &[0, 2], &[0, 3]];
@@ -140,19 +140,19 @@ pub fn ring() -> Table {
     Table::of(&[THIRD / 3; 24], &ways)
 }
 
-/// Another, with 12 faults, so that it can be counted over all assignments: triples in a ring.
-pub fn triples() -> Table {
-    let triples: Vec<[i64; 3]> = [(1, 3), (2, 5)]
+/// Another, with 12 faults, so that it can be counted over all assignments: fours in a ring.
+pub fn fours() -> Table {
+    let fours: Vec<[i64; 4]> = [[0, 1, 4, 7], [0, 3, 5, 7]]
         .iter()
-        .flat_map(|&(d, e)| (0..12).map(move |a| [a, (a + d) % 12, (a + e) % 12]))
+        .flat_map(|steps| (0..12).map(move |a| steps.map(|step| (a + step) % 12)))
         .collect();
-    let ways: Vec<&[i64]> = triples.iter().map(|triple| &triple[..]).collect();
+    let ways: Vec<&[i64]> = fours.iter().map(|four| &four[..]).collect();
     Table::of(&[THIRD; 12], &ways)
 }
 
 // Tables of the largest size
 
-/// Every fault is certain, and way i names the faults from i on, twice over.
+/// Every fault is certain, and way i names the faults from i on, twice over: of 128 ways one stays.
 pub fn stairs() -> Table {
     let all: Vec<i64> = (0..64).collect();
     let ways: Vec<&[i64]> = (0..128).map(|i| &all[i % 64..]).collect();

@@ -181,6 +181,28 @@ impl Random {
         }
     }
 
+    /// A sound table of which about every other way is made from another: the same again, a fault more, or one less.
+    pub fn redundant_table(&mut self, most_faults: usize, most_ways: usize) -> Table {
+        let mut table = self.table_within(most_faults, most_ways);
+        let ways = table.present.len();
+        for number in (0..ways).filter(|number| number % 2 == 1) {
+            let other = self.below(ways);
+            let bit = 1u64 << self.below(table.faults());
+            let (present, absent) = (table.present[other], table.absent[other]);
+            let more = (present | absent) & bit == 0;
+            let (present, absent) = match self.below(4) {
+                0 => (present, absent),
+                1 => (present & !bit, absent & !bit),
+                2 if more => (present | bit, absent),
+                _ if more => (present, absent | bit),
+                _ => (present, absent),
+            };
+            table.present[number] = present;
+            table.absent[number] = absent;
+        }
+        table
+    }
+
     /// A sound table of any size, small ones more often.
     pub fn table(&mut self) -> Table {
         let (faults, ways) = match self.below(10) {

@@ -10,6 +10,7 @@ use crate::paper::{
     THIRD,
 };
 use crate::random::Random;
+use crate::redundant;
 use crate::tree::{open, State};
 use crate::vectors::{make, MOST_COUNTED};
 use crate::{Act, Table, Tree, DONE, FULL, MET, MOST_FAULTS, MOST_WAYS, NONE, S, SPENT};
@@ -77,6 +78,7 @@ pub fn scripts() -> Vec<Script> {
     scripts.extend(figures());
     scripts.extend(damages());
     scripts.extend(orders_of_refinement());
+    scripts.extend(redundant::drawn());
     scripts
 }
 
@@ -200,12 +202,14 @@ fn refused_by_hand() -> Vec<Script> {
         told(p3(), &[at(&[], by(0), 18), at(&[1], by(0), 17)]),
         told(chain(), &[at(&[], apart, 20), at(&[], by(1), 0)]),
         told(p7(), &[at(&[], by(2), 20), at(&[], by(1), 0)]),
+        // Closed because one of two ways is left out, and a fault that only the one left out names: 18 comes first.
+        told(Table::of(&[H; 2], &[&[0], &[0, 1]]), &[at(&[], by(1), 18)]),
     ]
 }
 
-/// A leaf 64 steps from the root: 64 ways apart, each twice.
+/// A leaf 64 steps from the root: 64 groups, a fault each, present in one way and absent in another.
 pub fn deep() -> Script {
-    let each: Vec<[i64; 1]> = (0..128).map(|i| [i % 64]).collect();
+    let each: Vec<[i64; 1]> = (0..64).map(|i| [i]).chain((0..64).map(|i| [!i])).collect();
     let ways: Vec<&[i64]> = each.iter().map(|way| &way[..]).collect();
     let table = Table::of(&[1_000_000; MOST_FAULTS], &ways);
     let mut calls: Vec<(Call, u64, u64)> = (0..63)
@@ -217,7 +221,7 @@ pub fn deep() -> Script {
     calls.push((hand(&[1; 64], last), 18, NONE));
     calls.push((hand(&[1; 65], last), 17, NONE));
     calls.push((hand(&[1; 70], last), 17, NONE));
-    calls.push((Call::Run(0, 3), 0, SPENT));
+    calls.push((Call::Run(0, 3), 0, MET));
     told(table, &calls)
 }
 

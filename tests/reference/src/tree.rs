@@ -2,7 +2,7 @@
 //! refined by hand. A node holds its set of ways and its fixed faults, nothing worked
 //! out: remaining ways and intervals are found afresh whenever they are asked for.
 
-use crate::leaf::{down, is_open, leaf_interval, product, up, Interval, Way};
+use crate::leaf::{down, is_open, leaf_interval, product, staying, up, Interval, Way};
 use crate::{Answer, Table, LONGEST_PLACE, MOST_REFINEMENTS, NONE, S};
 
 /// What is done at a leaf to refine it.
@@ -21,13 +21,14 @@ pub enum State {
 }
 
 /// A place as the steps from the root, 0 left and 1 right, with what was done there,
-/// its interval and its remaining ways.
+/// its interval, its remaining ways, and those that remained before any was left out.
 #[derive(Clone, Debug, PartialEq, Eq)]
 pub struct Entry {
     pub place: Vec<u8>,
     pub state: State,
     pub interval: Interval,
     pub ways: Vec<Way>,
+    pub before: Vec<Way>,
 }
 
 /// A set of ways, by number, and the faults fixed present (true) or absent (false).
@@ -231,7 +232,8 @@ impl Node {
 
     /// Adds this node's entry and all below it; gives its interval to the node above.
     fn list(&self, table: &Table, place: Vec<u8>, entries: &mut Vec<Entry>) -> Interval {
-        let ways = self.situation().remaining(table);
+        let before = self.situation().before_leaving_out(table);
+        let ways = staying(&before);
         let own = leaf_interval(&table.weights, &ways);
         let child = |step: u8| [&place[..], &[step]].concat();
         let mut below = Vec::new();
@@ -254,6 +256,7 @@ impl Node {
             state,
             interval,
             ways,
+            before,
         });
         entries.append(&mut below);
         interval
@@ -262,10 +265,15 @@ impl Node {
 
 impl Situation {
     /// The ways of the set that no fixed fault contradicts, with the fixed faults dropped.
-    fn remaining(&self, table: &Table) -> Vec<Way> {
+    fn before_leaving_out(&self, table: &Table) -> Vec<Way> {
         let ways = self.set.iter().filter_map(|&number| table.way(number));
         ways.filter_map(|way| self.fixed.iter().try_fold(way, without))
             .collect()
+    }
+
+    /// The remaining ways: what stays of those.
+    fn remaining(&self, table: &Table) -> Vec<Way> {
+        staying(&self.before_leaving_out(table))
     }
 
     /// The two children that an act gives, or none if it cannot be done here.
@@ -285,12 +293,10 @@ impl Situation {
                 if !ways.iter().any(|way| way.names(fault)) {
                     return None;
                 }
-                let child = |present| {
-                    let mut child = self.clone();
-                    child.fixed.push((fault, present));
-                    // A child's set is its own remaining ways, by number.
-                    child.set = numbers(&child.remaining(table));
-                    child
+                // Children take over only what stays: a way that is left out here does not come back.
+                let child = |present| Situation {
+                    set: numbers(&ways),
+                    fixed: [&self.fixed[..], &[(fault, present)]].concat(),
                 };
                 Some((child(true), child(false)))
             }

@@ -203,10 +203,12 @@ impl Counted<'_> {
         }
     }
 
-    /// A place's interval encloses the chance of its remaining ways.
+    /// A place's interval encloses the chance of its remaining ways, which is that of all before any was left out.
     fn check_place(&self, entry: &Entry) {
         let Some(count) = &self.count else { return };
-        let encloses = count.encloses(entry.interval.low, entry.interval.high, &entry.ways);
+        let sum = count.exact_sum(&entry.ways);
+        assert!(sum == count.exact_sum(&entry.before), "{entry:?}");
+        let encloses = count.encloses_sum(entry.interval.low, entry.interval.high, &sum);
         assert!(encloses, "{entry:?} does not enclose: {:?}", self.table);
     }
 }

@@ -1,7 +1,7 @@
 //! Random inputs held against the rules: enclosure by a count over all assignments,
 //! runs that follow one another, places that keep what they had, and sheets there and back.
 
-use reference::leaf::{leaf_interval, Interval};
+use reference::leaf::{leaf_interval, staying, Interval};
 use reference::random::Random;
 use reference::report::report;
 use reference::run::run;
@@ -16,7 +16,7 @@ fn assert_encloses_everywhere(table: &Table, tree: &Tree, count: &Count) {
         let Interval { low, high } = entry.interval;
         assert!(low <= high && high <= S, "{entry:?} of {table:?}");
         assert!(
-            count.encloses(low, high, &entry.ways),
+            count.encloses(low, high, &entry.before),
             "{entry:?} of {table:?}"
         );
     }
@@ -233,7 +233,7 @@ fn the_root_of_an_opening_is_its_leaf() {
     for _ in 0..2000 {
         let table = random.table();
         let (answer, tree) = open(&table);
-        let leaf = leaf_interval(&table.weights, &table.ways());
+        let leaf = leaf_interval(&table.weights, &staying(&table.ways()));
         assert_eq!(answer, Answer::accepted(leaf, 0, 0));
         assert_eq!(tree.places(&table).len(), 1);
     }

@@ -227,10 +227,10 @@ fn by_hand_19() {
 
 #[test]
 fn a_place_of_length_64_is_legal() {
-    // Fault 0 last: every other fault is fixed away one by one, a level each.
+    // Fault 0 last, which the ways name in different senses: every other fault is fixed away one by one, a level each.
     let all: Vec<i64> = (0..64).collect();
-    let but_last: Vec<i64> = (0..63).collect();
-    let table = Table::of(&[S as u32 - 1; 64], &[&all, &but_last, &all]);
+    let first_absent = [&[!0], &all[1..]].concat();
+    let table = Table::of(&[S as u32 - 1; 64], &[&all, &first_absent]);
     let (_, mut tree) = open(&table);
     let mut place = Vec::new();
     for fault in (1..64).rev().chain([0]) {

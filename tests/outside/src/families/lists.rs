@@ -6,7 +6,7 @@ use crate::bench::Bench;
 use crate::session::{Outcome, Session};
 use crate::step::Step;
 use reference::orders::toward;
-use reference::paper::triples;
+use reference::paper::fours;
 use reference::random::Random;
 use reference::scripts::{any_call, mostly_open};
 use reference::{Table, FULL, S};
@@ -37,6 +37,11 @@ pub fn pairs(bench: &mut Bench) -> Outcome {
         }
         again_and_on(session, random)
     })?;
+    bench.cases("ways that say nothing new", 120, |session, random| {
+        let table = mostly_open(random, |random| random.redundant_table(8, 12));
+        let calls = random.between(3, 14);
+        pair(session, random, table, calls)
+    })?;
     bench.cases("two tables in turn", 60, in_turn)?;
     bench.case("all 255 refinements", full)
 }
@@ -59,7 +64,7 @@ fn in_turn(session: &mut Session, random: &mut Random) -> Outcome {
 
 /// A full tree, twice, and calls that its being full refuses.
 fn full(session: &mut Session, random: &mut Random) -> Outcome {
-    session.opened(triples())?;
+    session.opened(fours())?;
     run_told(session, (0, 255), 0, FULL)?;
     again_and_on(session, random)?;
     for _ in 0..8 {

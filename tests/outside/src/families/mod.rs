@@ -6,6 +6,7 @@ mod lists;
 mod named;
 mod paper;
 mod reading;
+mod redundant;
 mod scripts;
 mod search;
 mod tables;
@@ -23,7 +24,7 @@ type Damage<T> = (u64, fn(&mut T));
 
 type Family = fn(&mut Bench) -> Outcome;
 
-pub const FAMILIES: [(&str, Family); 17] = [
+pub const FAMILIES: [(&str, Family); 18] = [
     ("paper", paper::cases_on_paper),
     ("tests", paper::run_in_the_tests),
     ("wrong", named::easy_to_get_wrong),
@@ -36,6 +37,7 @@ pub const FAMILIES: [(&str, Family); 17] = [
     ("cuts", cuts::cuts),
     ("sixteen", damage::sixteen),
     ("foreign", damage::foreign),
+    ("redundant", redundant::redundant),
     ("sheets", reading::sheets),
     ("bytes", reading::bytes),
     ("reports", reading::reports),

@@ -39,12 +39,14 @@ pub fn easy_to_get_wrong(bench: &mut Bench) -> Outcome {
             session.run(0, 2)
         })?;
     }
-    bench.case("equal ways count in what is named most", |session, _| {
+    bench.case("of equal ways one counts in what is named most", |session, _| {
         session.opened(most_named())?;
         session.run(0, 1)?;
-        // Fault 1 is fixed on both sides now, so that it no longer occurs.
+        // The run fixed fault 0 on both sides: present it leaves {1} {2} {3}, of which none names fault 0.
+        session.refine(vec![0], Act::Fault(0))?;
+        told_number(session, 20)?;
         session.refine(vec![0], Act::Fault(1))?;
-        told_number(session, 20)
+        told_number(session, 0)
     })?;
     bench.case("full counts the tree, spent the run", |session, _| {
         session.opened(ring())?;

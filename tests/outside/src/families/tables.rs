@@ -36,7 +36,7 @@ pub fn tables(bench: &mut Bench) -> Outcome {
     })
 }
 
-fn calls(session: &mut Session, random: &mut Random, count: usize) -> Outcome {
+pub(super) fn calls(session: &mut Session, random: &mut Random, count: usize) -> Outcome {
     for _ in 0..count {
         let call = any_call(random, session.table(), session.tree());
         make(session, call)?;

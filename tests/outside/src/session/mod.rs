@@ -164,7 +164,7 @@ impl Session {
 }
 
 /// What goes with a comparison and is not counted as one.
-fn must<T: PartialEq + Debug + ?Sized>(what: &str, due: &T, got: &T) -> Outcome {
+pub fn must<T: PartialEq + Debug + ?Sized>(what: &str, due: &T, got: &T) -> Outcome {
     if due == got {
         return Ok(());
     }

@@ -150,10 +150,10 @@ impl Session {
         Ok(())
     }
 
-    /// The library's interval holds the exact chance of the place's remaining ways.
+    /// The library's interval holds the exact chance of all ways that remained at the place before any was left out.
     fn encloses(&mut self, entry: &Entry, seen: &Seen) -> Outcome {
         let exact = self.exact.as_mut();
-        match exact.and_then(|exact| exact.encloses(seen.interval, &entry.ways)) {
+        match exact.and_then(|exact| exact.encloses(seen.interval, &entry.before)) {
             None => Ok(()),
             Some(encloses) => self.same(&format!("enclosure at {seen:?}"), &true, &encloses),
         }

@@ -135,6 +135,11 @@ fn main() -> io::Result<()> {
     cut(&mut program, "paper", &paper)?;
     damage(&mut program, "paper", &paper)?;
     cut(&mut program, "show", &stored("samples/show.sheet"))?;
+    cut(
+        &mut program,
+        "redundant",
+        &stored("samples/redundant.sheet"),
+    )?;
     let mut longer = encode(&random.longest_sheet());
     longer.resize(60_000, 0);
     program.check("longest with zeros behind", &longer)?;

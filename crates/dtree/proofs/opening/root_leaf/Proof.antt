@@ -1,9 +1,10 @@
--- `root_leaf` meets its contract: all ways of the table, with nothing fixed.
--- Rests on what holds of an accepted table (`rules`, Accepted) and on the contracts of `whole` and `leaf_record`.
+-- `root_leaf` meets its contract: what stays of the ways of the table, with nothing fixed.
+-- Rests on what holds of an accepted table (`rules`, Accepted) and on the contracts of `staying_rows` and `leaf_record`.
 use mathlib.Core.Path.{_≡_, sym, _∙_}
 use mathlib.Core.List.{List, []}
 use Prim.Native.Nat.{ℕ}
 use Rattle.rules.specs.Table.{Table, ways}
+use Rattle.rules.specs.Tree.{rootWays}
 use Rattle.rules.specs.declared.Way.{Way}
 use Rattle.rules.proofs.Accepted.{few-faults, few-ways, paired-words, light}
 use Rattle.records.specs.Records.{recordAt}
@@ -13,26 +14,26 @@ use Rattle.dtree.proofs.Opens.{root-record}
 use Rattle.dtree.proofs.opening.root_leaf.Statement.{statement}
 use Rattle.dtree.proofs.opening.root_leaf.Tie as tie
 
-from-ways : (t : Table) (vs : List Way) (p a : ℕ) (x : Node) → vs ≡ ways t → p ≡ 0 → a ≡ 0
+from-ways : (t : Table) (vs : List Way) (p a : ℕ) (x : Node) → vs ≡ rootWays t → p ≡ 0 → a ≡ 0
     → x ≡ freshRecord (record { weights = t .weights; present = []; absent = [] }) (record { set = []; present = p; absent = a; ways = vs }) 0
     → x ≡ recordAt t [] []
 from-ways t vs p a x e g h f = f ∙ rw (e, g, h) (root-record t)
 
-whole-requires : tie.Need-whole-requires
-whole-requires c κs =
+staying-rows-requires : tie.Need-staying-rows-requires
+staying-rows-requires c κs =
     let ok = c .before .before .before .pre in
     (few-ways _ ok, sym (paired-words _ ok))
 
 leaf-record-requires : tie.Need-leaf-record-requires
 leaf-record-requires c κs =
     let ok = c .before .before .before .before .pre in
-    (few-faults _ ok, (light _ ok, c .whole .ensures .1))
+    (few-faults _ ok, (light _ ok, c .staying-rows .ensures .1))
 
 returns : tie.Need-returns
-unfolding ways
+unfolding ways rootWays
 returns c =
-    let w = c .before .whole .ensures in
+    let w = c .before .staying-rows .ensures in
     from-ways _ _ _ _ _ (w .0) (w .2) (w .3) (c .leaf-record .ensures .0)
 
 pub root-leaf-spec : {M : Type 1} → statement M
-root-leaf-spec = tie.close (tie.spec whole-requires leaf-record-requires returns)
+root-leaf-spec = tie.close (tie.spec staying-rows-requires leaf-record-requires returns)

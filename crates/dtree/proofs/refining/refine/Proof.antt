@@ -10,6 +10,7 @@ use Rattle.rules.specs.Table.{Table}
 use Rattle.rules.specs.declared.Kind.{Kind}
 use Rattle.rules.proofs.Accepted.{few-ways, paired-words}
 use Rattle.records.specs.declared.Tree.{Tree}
+use Rattle.records.proofs.Live.{lean-at}
 use Rattle.find.specs.Finds.{leafNumber, Refinable, Tells}
 use Rattle.find.specs.declared.Named.{Named}
 use Rattle.find.specs.declared.Named.the-variants.{Leaf, Refused}
@@ -81,11 +82,12 @@ grow-requires c κs =
     let o = i .before .before in
     let ok = sym (o .before .table-number .ensures) ∙ o .if1 .left in
     let yes = not-false _ (e .if2 .left) in
+    let good = found-good _ _ _ (i .is-good .ensures .0) yes in
     let r = refinable _ _ _ _ _ _ (j .j .given .1) (l .leaf-at .ensures) in (
       ok,
       (
         ways-there _ _ _ _ _ (n .record-at .ensures) (w .ways-of .ensures),
-        (r .fault, (i .is-good .ensures .1 yes, (r .inside, odd-room _ _ (found-good _ _ _ (i .is-good .ensures .0) yes) (r .room)))),
+        (r .fault, (i .is-good .ensures .1 yes, ((r .inside, odd-room _ _ good (r .room)), lean-at _ _ good _))),
       ),
     )
 

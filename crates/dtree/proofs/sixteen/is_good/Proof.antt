@@ -42,7 +42,7 @@ remake-requires : tie.Need-remake-requires Inv-loop μ-loop
 remake-requires c κs =
     let l = c .before .before in
     let ok = l .before .before .before .before .before .before .before .before .before .pre in
-    (ok, (l .loop .inv .safe, omega (arith, l .loop .inv .to-go)))
+    (ok, (l .loop .inv .safe, (omega (arith, l .loop .inv .to-go), l .loop .inv .good)))
 
 returns-2 : tie.Need-returns-2 Inv-loop μ-loop
 returns-2 c =

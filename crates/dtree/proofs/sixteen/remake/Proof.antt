@@ -5,6 +5,7 @@ use native.Mathlib.Omega.{arith}
 use borrow.Author.Needs.{needs}
 use borrow.Author.Tests.{not-true, not-false}
 use Rattle.rules.proofs.Accepted.{few-ways, paired-words}
+use Rattle.records.proofs.Live.{lean-at}
 use Rattle.formula.specs.Leaves.{FaultFits}
 use Rattle.dtree.proofs.Refuses.{ways-there}
 use Rattle.dtree.proofs.Again.{full, beyond, cannot, can}
@@ -69,7 +70,13 @@ grow-requires c κs =
         ways-there _ _ _ _ _ (l .record-at3 .ensures) (w .ways-of .ensures),
         (
           subst FaultFits (sym (c .kind-of .ensures)) (m .may .ensures .1 (not-false _ (i .if3 .left))),
-          (p .1 .0, (omega (arith, room, e .if2 .left), omega (arith, room, u .used-in .ensures, p .1 .1))),
+          (
+            p .1 .0,
+            (
+              (omega (arith, room, e .if2 .left), omega (arith, room, u .used-in .ensures, p .1 .1 .0)),
+              lean-at _ _ (p .1 .1 .1) _,
+            ),
+          ),
         ),
       ),
     )
@@ -86,8 +93,9 @@ returns-4 c =
     let f = r .before in
     let u = f .before in
     let g = c .grow .ensures in
+    let p = u .before .before .before .before .before .pre in
     can _ _ _ _ _ (u .used-in .ensures) _ (r .record-at .ensures) _ _ (n .record-at2 .ensures) (l .record-at3 .ensures) _ (m .may .ensures .0 _)
-    (not-false _ (i .if3 .left)) (f .if1 .left) (e .if2 .left) _ (k .kind-of .ensures) (g .0) (g .1) (g .2)
+    (not-false _ (i .if3 .left)) (f .if1 .left) (e .if2 .left) _ (k .kind-of .ensures) (g .0) (g .1) (g .2) (p .0) (p .1 .1 .1)
 
 pub remake-spec : {M : Type 1} → statement M
 remake-spec =

@@ -1,15 +1,15 @@
 -- `children` meets its contract, by the kind.
--- Rests on the contracts of `group_faults`, `part`, `one_bit` and `restrict`.
-use mathlib.Core.Path.{_≡_, refl, ap, _∙_}
+-- Rests on the contracts of `group_faults`, `part`, `one_bit` and `staying`.
+use mathlib.Core.Path.{_≡_, refl, sym, ap, _∙_}
 use mathlib.Core.Bool.{true, false}
 use mathlib.Core.List.{List}
 use Prim.Native.Nat.{ℕ, _^_, _<_}
 use borrow.Author.Needs.{needs}
-use lib.Bits.{bitOr, or-zero-r}
+use lib.Bits.{bitOr, or-zero-l, or-zero-r}
 use Rattle.rules.specs.declared.Way.{Way}
 use Rattle.rules.specs.declared.Kind.{Kind}
 use Rattle.rules.specs.declared.Kind.the-variants.{IndependentOr, Shannon}
-use Rattle.rules.specs.Leaf.{remaining}
+use Rattle.rules.specs.Leaf.{remaining, minimal}
 use Rattle.rules.specs.Group.{part, groupFaults}
 use Rattle.rules.specs.Tree.{Side, left, right, child, childFixed}
 use Rattle.clauses.specs.declared.Clauses.{Clauses}
@@ -25,7 +25,7 @@ unfolding FaultFits
 fits k f e h = rw e at h
 
 module _ (ps qs : List ℕ) (c : Clauses) where
-  -- What `part` and `restrict` say of their answer: its ways, and the words of its fixed faults.
+  -- What `part` and `staying` say of their answer: its ways, and the words of its fixed faults.
   abbrev Made : Clauses → List Way → ℕ → ℕ → Type 0
   Made d vs p q = (waysOf ps qs d ≡ vs) × Within ps qs d × (d .present ≡ p) × (d .absent ≡ q)
 
@@ -46,16 +46,21 @@ module _ (ps qs : List ℕ) (c : Clauses) where
         }
 
     -- And by the fault f, whose word is m.
-    by-fault : (f m : ℕ) → m ≡ 2 ^ f → Made x (remaining m 0 (waysOf ps qs c)) (bitOr (c .present) m) (bitOr (c .absent) 0)
-        → Made y (remaining 0 m (waysOf ps qs c)) (bitOr (c .present) 0) (bitOr (c .absent) m) → Parts ps qs c (Shannon f) (record { left = x; right = y })
+    by-fault : (f m : ℕ) → m ≡ 2 ^ f → Made x (minimal (remaining m 0 (waysOf ps qs c))) (bitOr (c .present) m) (bitOr (c .absent) 0)
+        → Made y (minimal (remaining 0 m (waysOf ps qs c))) (bitOr (c .present) 0) (bitOr (c .absent) m) → Parts ps qs c (Shannon f) (record { left = x; right = y })
     unfolding child childFixed
     by-fault f m e s t =
         record {
           on-left =
-              one (Shannon f) left x s (ap (λ (n : ℕ). remaining n 0 (waysOf ps qs c)) e) (ap (bitOr (c .present)) e) (or-zero-r (c .absent));
+              one (Shannon f) left x s (ap (λ (n : ℕ). minimal (remaining n 0 (waysOf ps qs c))) e) (ap (bitOr (c .present)) e) (or-zero-r (c .absent));
           on-right =
-              one (Shannon f) right y t (ap (λ (n : ℕ). remaining 0 n (waysOf ps qs c)) e) (or-zero-r (c .present)) (ap (bitOr (c .absent)) e);
+              one (Shannon f) right y t (ap (λ (n : ℕ). minimal (remaining 0 n (waysOf ps qs c))) e) (or-zero-r (c .present)) (ap (bitOr (c .absent)) e);
         }
+
+  -- What `staying` asks of the ways that name the fault f, where m is its word and n the same word with the other sense's, which is 0.
+  asks : (d : Clauses) (f m n : ℕ) → m ≡ 2 ^ f → n ≡ m → Made d (part true m (waysOf ps qs c)) (c .present) (c .absent)
+      → Within ps qs d × (waysOf ps qs d ≡ part true n (waysOf ps qs c)) × ((g : ℕ) × (n ≡ 2 ^ g))
+  asks d f m n e z h = (h .1, h .0 ∙ ap (λ (k : ℕ). part true k (waysOf ps qs c)) (sym z), (f, z ∙ e))
 
   -- The kind is this one.
   of-kind : {k j : Kind} {r : Children} → k ≡ j → Parts ps qs c j r → Parts ps qs c k r
@@ -82,11 +87,23 @@ cast-one-bit c = search needs
 one-bit-requires : tie.Need-one-bit-requires
 one-bit-requires c κs = fits _ _ (c .before .k .given .1) (c .before .before .before .before .before .pre .0)
 
-restrict-requires : tie.Need-restrict-requires
-restrict-requires c κs = search needs
+part-requires-3 : tie.Need-part-requires-3
+part-requires-3 c κs = search needs
 
-restrict-requires-2 : tie.Need-restrict-requires-2
-restrict-requires-2 c κs = search needs
+staying-requires : tie.Need-staying-requires
+staying-requires c κs =
+    let o = c .before in
+    let b = o .before .before .before .before .before .before in
+    let h = asks _ _ (b .args .c) (c .part3 .result) _ (o .one-bit .result) (bitOr (o .one-bit .result) 0) (o .one-bit .ensures) (or-zero-r (o .one-bit .result)) (c .part3 .ensures) in
+    (b .pre .1 .0, (b .pre .1 .1, (h .0, (h .1, h .2))))
+
+staying-requires-2 : tie.Need-staying-requires-2
+staying-requires-2 c κs =
+    let d = c .before in
+    let o = d .before in
+    let b = o .before .before .before .before .before .before in
+    let h = asks _ _ (b .args .c) (d .part3 .result) _ (o .one-bit .result) (bitOr 0 (o .one-bit .result)) (o .one-bit .ensures) (or-zero-l (o .one-bit .result)) (d .part3 .ensures) in
+    (b .pre .1 .0, (b .pre .1 .1, (h .0, (h .1, h .2))))
 
 returns : tie.Need-returns
 returns c =
@@ -95,8 +112,8 @@ returns c =
 
 returns-2 : tie.Need-returns-2
 returns-2 c =
-    of-kind _ _ _ (c .before .before .before .before .k .given .1)
-    (by-fault _ _ _ _ _ _ _ (c .before .before .one-bit .ensures) (c .before .restrict .ensures) (c .restrict2 .ensures))
+    of-kind _ _ _ (c .before .before .before .before .before .k .given .1)
+    (by-fault _ _ _ _ _ _ _ (c .before .before .before .one-bit .ensures) (c .before .staying .ensures) (c .staying2 .ensures))
 
 pub children-spec : {M : Type 1} → statement M
 children-spec =
@@ -109,7 +126,8 @@ children-spec =
     enum-known-k
     cast-one-bit
     one-bit-requires
-    restrict-requires
-    restrict-requires-2
+    part-requires-3
+    staying-requires
+    staying-requires-2
     returns
     returns-2)

@@ -1,14 +1,15 @@
 -- `grow` meets its contract: the three records are written as the definition says, and then raised.
 -- Rests on Leaves.antt, on `rules`, Accepted, on `store`, Lent, and on the contracts of `branch_of`, `put_branch` and `raise`.
-use mathlib.Core.Path.{_≡_, ap, _∙_}
+use mathlib.Core.Path.{_≡_, sym, ap, _∙_, subst}
 use mathlib.Core.List.{List}
 use Prim.Native.Nat.{ℕ, _+_, _<_}
 use borrow.Author.Needs.{needs}
 use lib.ListN.{length}
 use Rattle.rules.specs.Table.{Table}
+use Rattle.rules.specs.Leaf.{Lean}
 use Rattle.rules.specs.declared.Kind.{Kind}
 use Rattle.rules.proofs.Accepted.{few-faults, light}
-use Rattle.records.specs.Records.{recordIn}
+use Rattle.records.specs.Records.{recordIn, recordWays}
 use Rattle.records.specs.Growing.{raise, refinedAt, grownAt}
 use Rattle.records.specs.declared.Node.{Node}
 use Rattle.records.specs.declared.Tree.{Tree}
@@ -35,6 +36,10 @@ given s = treeOf (s .args .tree .now)
 read : (t : Table) (xs : List Node) (x : Node) (c : Clauses) (j : ℕ) → x ≡ recordIn xs j → LeafWays (t .present) (t .absent) (recordIn xs j) c
     → LeafWays (t .present) (t .absent) x c
 read t xs x c j e h = rw e h
+
+-- The ways of the leaf are the record's, of which none says nothing new.
+lean-leaf : (t : Table) (x : Node) (c : Clauses) → LeafWays (t .present) (t .absent) x c → Lean (recordWays t x) → Lean (waysOf (t .present) (t .absent) c)
+lean-leaf t x c h l = subst Lean (sym (h .ways-are (t .weights))) l
 
 room : (next used : ℕ) → next ≡ used → used + 1 < 511 → next + 1 < 511
 room next used e h = rw e h
@@ -83,8 +88,11 @@ branch-of-requires c κs =
             (
               safe-read _ _ _ (p .1 .1 .0) e,
               (
-                p .1 .1 .1 .0,
-                room _ _ (c .used-in .ensures) (p .1 .1 .1 .1),
+                (
+                  p .1 .1 .1 .0 .0,
+                  room _ _ (c .used-in .ensures) (p .1 .1 .1 .0 .1),
+                ),
+                lean-leaf t (recordIn (given s .nodes) (a .j)) (a .c) (p .0) (p .1 .1 .1 .1),
               ),
             ),
           ),
@@ -96,7 +104,7 @@ put-branch-requires : tie.Need-put-branch-requires
 put-branch-requires c κs =
     let p = c .before .before in
     let s = p .before .before .before .before .before .before .before in
-    let q = s .pre .1 .1 .1 .1 in
+    let q = s .pre .1 .1 .1 .1 .0 in
     (q .0, room _ _ (p .used-in .ensures) (q .1))
 
 raise-requires : tie.Need-raise-requires
@@ -107,8 +115,8 @@ raise-requires c κs =
     let q = s .pre .1 .1 .1 in (
       light (tableOf s) (s .pre .0),
       (
-        safe-put (tableOf s) (given s) _ _ (a .c) (a .k) (a .j) _ _ (c .before .before .before .branch-of .ensures) (c .before .put-branch .ensures) (long _) (q .1 .0) (room _ _ (p .used-in .ensures) (q .1 .1)) (q .0),
-        q .1 .0,
+        safe-put (tableOf s) (given s) _ _ (a .c) (a .k) (a .j) _ _ (c .before .before .before .branch-of .ensures) (c .before .put-branch .ensures) (long _) (q .1 .0 .0) (room _ _ (p .used-in .ensures) (q .1 .0 .1)) (q .0),
+        q .1 .0 .0,
       ),
     )
 

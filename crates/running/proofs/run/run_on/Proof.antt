@@ -10,6 +10,7 @@ use Rattle.rules.specs.Tree.{Refinement}
 use Rattle.records.specs.Records.{recordIn, history}
 use Rattle.records.specs.declared.Node.{Node}
 use Rattle.records.specs.declared.Tree.{Tree}
+use Rattle.records.proofs.Live.{lean-at}
 use Rattle.store.specs.Lent.{treeOf}
 use Rattle.pick.specs.declared.Found.{Found}
 use Rattle.running.specs.declared.Step.{Step}
@@ -109,8 +110,16 @@ refine-by-rule-requires : tie.Need-refine-by-rule-requires Inv-loop μ-loop
 refine-by-rule-requires c κs =
     let k = c .before .before in
     let l = turn-of (k .before .before) in
-    let s = call l in
-    (s .pre .0, (l .loop .inv .safe, room (table s) (given s) (s .args .limits) (now-tree l) (l .loop .made) (l .loop .inv) _ (goes-there k .0) (s .pre .0)))
+    let s = call l in (
+      s .pre .0,
+      (
+        l .loop .inv .safe,
+        (
+          room (table s) (given s) (s .args .limits) (now-tree l) (l .loop .made) (l .loop .inv) _ (goes-there k .0) (s .pre .0),
+          lean-at (table s) (now-tree l) (l .loop .inv .good) _,
+        ),
+      ),
+    )
 
 add-made : tie.Need-add-made Inv-loop μ-loop
 add-made c =

@@ -40,7 +40,7 @@ module _ (t : Table) (x : Tree) (j : ℕ) (n : Node) (c : Clauses) (e : n ≡ re
       record { grown = g .0 ∙ ap (grownAt t (x .nodes) (x .used) j) h; two-more = g .1; safe = g .2 }
 
 record-at-requires : tie.Need-record-at-requires
-record-at-requires c κs = c .before .before .before .before .pre .1 .1 .0
+record-at-requires c κs = c .before .before .before .before .pre .1 .1 .0 .0
 
 ways-of-requires : tie.Need-ways-of-requires
 ways-of-requires c κs =

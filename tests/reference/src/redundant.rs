@@ -1,0 +1,171 @@
+//! Ways that say nothing new: tables A1 to A10 with figures typed by hand, each of which some wrong reading gets wrong, and
+//! the sheet that has them as its cues. Trees of such tables, drawn at random.
+
+use crate::figures::Figures;
+use crate::paper::{H, Q};
+use crate::random::Random;
+use crate::scripts::{any_call, lined, mostly_open, Call, Line, Script};
+use crate::sheet::Sheet;
+use crate::tree::open;
+use crate::vectors::make;
+use crate::{Act, Table, MET, NONE, S};
+
+const SEED: u64 = 2002;
+const RANDOM: usize = 40;
+const Q3: u32 = 750_000_000;
+const FIFTH: u32 = 200_000_000;
+
+/// What the program prints for `sheet`.
+pub const PRINTED: &str = "cue low high steps verdict
+1 500000000 500000000 0 met
+2 750000000 750000000 0 met
+3 1000000000 1000000000 1 met
+4 500000000 500000000 0 met
+5 875000000 875000000 1 met
+6 906250000 906250000 4 met
+7 1000000000 1000000000 2 met
+8 750000000 750000000 1 met
+9 750000000 750000000 1 met
+10 1000000000 1000000000 0 met
+";
+
+/// The figures of a table, with the numbers of the ways that stay at its root.
+pub struct Case {
+    pub figures: Figures,
+    pub staying: &'static [usize],
+}
+
+/// A1 to A10.
+pub fn cases() -> Vec<Case> {
+    let (half, q3) = (u64::from(H), u64::from(Q3));
+    let end = |figure, count| vec![(Call::Run(0, 255), [0, figure, figure, count, MET])];
+    let by_hand = |act, answer| vec![(Call::Hand(vec![], act), answer)];
+    let apart = by_hand(Act::Independence, [0, q3, q3, 1, NONE]);
+    let refused = by_hand(Act::Fault(2), [20, 0, S, 0, NONE]);
+    let closed = |figure| (figure, figure);
+    let open = |low| (low, S);
+    let case = |name, weights: &[u32], ways: &[&[i64]], staying, root, calls| Case {
+        figures: (name, Table::of(weights, ways), root, calls),
+        staying,
+    };
+    vec![
+        case(
+            "A1: a way that names more",
+            &[H, H],
+            &[&[0], &[0, 1]],
+            &[0],
+            closed(half),
+            end(half, 0),
+        ),
+        case(
+            "A2: equal ways",
+            &[Q, H],
+            &[&[!0], &[!0]],
+            &[0],
+            closed(q3),
+            end(q3, 0),
+        ),
+        case(
+            "A3: one fault in both senses",
+            &[Q, H],
+            &[&[!0], &[0]],
+            &[0, 1],
+            open(q3),
+            end(S, 1),
+        ),
+        case(
+            "A4: the shorter comes later",
+            &[H, 300_000_000],
+            &[&[0, 1], &[0]],
+            &[1],
+            closed(half),
+            end(half, 0),
+        ),
+        case(
+            "A5: at a child",
+            &[FIFTH, H, Q],
+            &[&[!1], &[1, !2], &[0, !2]],
+            &[0, 1, 2],
+            open(575_000_000),
+            end(875_000_000, 1),
+        ),
+        case(
+            "A6: never back",
+            &[H, Q3, Q],
+            &[&[1], &[0, 2], &[0, !2], &[2], &[0, !1]],
+            &[0, 2, 3, 4],
+            open(843_750_000),
+            end(906_250_000, 4),
+        ),
+        case(
+            "A7: the lowest of equals",
+            &[Q3, H, FIFTH],
+            &[&[!0], &[1], &[0], &[!0], &[2]],
+            &[0, 1, 2, 4],
+            open(700_000_000),
+            end(S, 2),
+        ),
+        case(
+            "A8: what falls apart then",
+            &[H, H],
+            &[&[0, 1], &[0], &[1]],
+            &[1, 2],
+            open(q3),
+            apart,
+        ),
+        case(
+            "A9: what occurs then",
+            &[H; 3],
+            &[&[0], &[1], &[0, 2]],
+            &[0, 1],
+            open(q3),
+            refused,
+        ),
+        case(
+            "A10: an empty way",
+            &[H, H],
+            &[&[0], &[]],
+            &[1],
+            closed(S),
+            end(S, 0),
+        ),
+    ]
+}
+
+/// The tables as the cues 1 to 10 of one sheet, each with faults of its own.
+pub fn sheet() -> Sheet {
+    let mut sheet = Sheet {
+        budget: 255,
+        ..Sheet::default()
+    };
+    for (case, cue) in cases().into_iter().zip(1..) {
+        let (_, table, ..) = case.figures;
+        let first = sheet.weights.len();
+        let moved = |word: &u64| word << first;
+        sheet.cues.push(cue);
+        sheet.counts.push(table.present.len() as u16);
+        sheet.present.extend(table.present.iter().map(moved));
+        sheet.absent.extend(table.absent.iter().map(moved));
+        sheet.weights.extend(table.weights);
+    }
+    sheet
+}
+
+/// Calls on random tables of which many ways say nothing new, every place shown at the end.
+pub fn drawn() -> Vec<Script> {
+    let mut random = Random::new(SEED);
+    let table = |random: &mut Random| random.redundant_table(8, 12);
+    let mut script = || {
+        let table = mostly_open(&mut random, table);
+        let mut tree = open(&table).1;
+        let mut lines = Vec::new();
+        for _ in 0..random.between(2, 5) {
+            let call = any_call(&mut random, &table, &tree);
+            make(&table, &mut tree, &call);
+            lines.push(Line::Call(call));
+        }
+        lines.push(Line::Show);
+        lined(table, lines)
+    };
+    (0..RANDOM).map(|_| script()).collect()
+}
