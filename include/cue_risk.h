@@ -6,6 +6,8 @@
  * Figures. Chances are in billionths: CUE_BILLION is chance 1. A table has 1 to 64 faults, numbered from 0, each with a
  * weight, which is its chance, and 0 to 128 ways. Way i is two words: bit f of present[i] says that it names fault f
  * present, bit f of absent[i] that it names it absent. An interval [low, high] encloses the chance that some way happens.
+ * At every node a way that names all faults of another way that remains there, in the same sense, says nothing new and is
+ * left out; of equal ways the lowest numbered stays. Children take over only what stays.
  *
  * Duties of the caller:
  *  - a pointer with a count points to that many elements of its type, aligned; where the count is 0 nothing is read or
@@ -37,7 +39,7 @@
  *  17 the place named is longer than 64 or has no leaf
  *  18 the leaf there is closed
  *  19 the tree has 255 refinements
- *  20 the fault named does not occur in the leaf, or independence is asked where the ways hang together
+ *  20 the fault named does not occur in the ways that stay at the leaf, or independence is asked where they hang together
  *  21 the writer's lists do not agree in length with each other or with the ways its cues count
  *  22 the space lent for writing is shorter than the output
  * A refused call answers low 0, high CUE_BILLION, count 0, verdict 0, and leaves tree and space as they were. Only a
@@ -84,8 +86,8 @@ typedef struct CueNode {
     uint64_t live;    /* 1 for an open leaf, else 0 */
     size_t parent;    /* record of the parent; 0 for the root */
     size_t left;      /* record of the left child, the right one follows it; 0 for a leaf */
-    uint64_t waysa;   /* bit i: way i remains, 0 to 63 */
-    uint64_t waysb;   /* bit i: way 64 + i remains */
+    uint64_t waysa;   /* bit i: way i stays, 0 to 63 */
+    uint64_t waysb;   /* bit i: way 64 + i stays */
     uint64_t present; /* faults fixed present on the way here */
     uint64_t absent;  /* faults fixed absent */
     uint64_t low;     /* the node's interval */

@@ -1,7 +1,18 @@
 #!/bin/bash
 # Measures the library, through its C interface, against the same rules and loops in Rust: prints the tables of docs/PERFORMANCE.md.
-# Usage: tests/bench.sh [stack | once library|rust FAMILY]; the library is target/staticlib/libcapi.a (rt staticlib capi), or the
-# libcapi.a in the folder that CUE_RISK_LIB names.
+# Usage: tests/bench.sh [stack | once library|rust FAMILY | beside ARCHIVE]; the library is target/staticlib/libcapi.a (rt staticlib capi),
+# or the libcapi.a in the folder that CUE_RISK_LIB names. `beside` measures the libcapi.a of another build and the library, in turn.
 set -e
-cd "$(dirname "$0")/.."
+here=$(realpath "$(dirname "$0")")
+if [ "$1" = beside ]; then
+    made=$here/bench/target/beside
+    mkdir -p "$made"
+    # One program has both: the other's symbols are renamed, and all functions aligned, so that their places in it make no difference.
+    renamed=$(nm "$2" | sed -n 's/.* T \(.*\)/--redefine-sym=\1=other_\1/p')
+    objcopy --set-section-alignment '.text.*=64' $renamed "$2" "$made/libother.a"
+    objcopy --set-section-alignment '.text.*=64' "${CUE_RISK_LIB:-$here/../target/staticlib}/libcapi.a" "$made/libcapi.a"
+    export CUE_RISK_LIB=$made CARGO_TARGET_DIR=$made
+    set -- beside
+fi
+cd "$here/.."
 exec cargo run --quiet --release --offline --manifest-path tests/bench/Cargo.toml --bin bench -- "$@"

@@ -18,7 +18,7 @@ use Rattle.rules.proofs.Remaining.{dropped-twice, or-regroup}
 use Rattle.records.specs.Records.{inWords}
 use Rattle.clauses.specs.declared.Clauses.{Clauses}
 use Rattle.clauses.specs.declared.Taken.{Taken}
-use Rattle.clauses.specs.Leaves.{fixedOf, row, waysOf, Within, Takes}
+use Rattle.clauses.specs.Leaves.{fixedOf, row, wayAt, waysOf, Within, Takes, Keeps}
 use Rattle.clauses.proofs.Pairs.{in-none}
 use Rattle.clauses.proofs.Selected.{each-row, passing, select-passing}
 
@@ -64,7 +64,23 @@ numbered ps qs c t w h =
 module _ (ps qs : List ℕ) (f : Way → Bool) (c : Clauses) where
   -- The way with a number, as the leaf has it, passes.
   abbrev passes : ℕ → Bool
-  passes i = f (dropped (fixedOf c) (row ps qs i))
+  passes i = f (wayAt ps qs c i)
+
+  -- Where numbers are those of the leaf whose ways pass, their ways are the leaf's ways that pass, with what else is fixed dropped (h).
+  pub kept-ways : Within ps qs c → (kept : Clauses) (M : ℕ) → fixedOf kept ≡ M → Keeps ps qs f c kept → (h : Way → Way)
+      → ((v : Way) → h (dropped (fixedOf c) v) ≡ dropped M v) → (waysOf ps qs kept ≡ passing f h (waysOf ps qs c)) × Within ps qs kept
+  unfolding waysOf
+  kept-ways w kept M e all h more = (
+    ap (λ (m : ℕ). map (dropped m) (select (inWords (kept .low) (kept .high)) (rows 0 ps qs))) e
+        ∙ select-passing (inWords (kept .low) (kept .high)) (inWords (c .low) (c .high)) f h (fixedOf c) M more (rows 0 ps qs)
+        (each-row (λ v. inWords (kept .low) (kept .high) (v .number) ≡ inWords (c .low) (c .high) (v .number) && f (dropped (fixedOf c) v)) 0 ps qs (w .paired)
+        (λ i k b e. let l : i ≡ k = omega arith in rw l (all k))),
+    record {
+      short = w .short;
+      paired = w .paired;
+      inside = λ i e. w .inside i (and-left (inWords (c .low) (c .high) i) (passes i) (sym (all i) ∙ e));
+    },
+  )
 
   -- In the midst of the loop: the kept numbers, and those left that pass, are those of the leaf that pass. The fixed faults stay.
   pub record Sifting (kept₀ kept left : Clauses) : Type 0 where
@@ -118,7 +134,7 @@ module _ (ps qs : List ℕ) (f : Way → Bool) (c : Clauses) where
 
     module _ (w : Within ps qs c) (z : bitOr (left .low) (left .high) ≡ 0) where
       -- At the end the kept numbers are those of the leaf that pass.
-      all-kept : (i : ℕ) → inWords (kept .low) (kept .high) i ≡ inWords (c .low) (c .high) i && passes i
+      pub all-kept : Keeps ps qs f c kept
       all-kept i =
           sym (or-none (inWords (kept .low) (kept .high) i))
           ∙ sym (ap (λ (x : Bool). inWords (kept .low) (kept .high) i || (x && passes i)) (in-none (left .low) (left .high) z i))
@@ -131,18 +147,7 @@ module _ (ps qs : List ℕ) (f : Way → Bool) (c : Clauses) where
       -- So the kept ways are the leaf's ways that pass, with what else is fixed dropped (h).
       pub ended : (h : Way → Way) → ((v : Way) → h (dropped (fixedOf c) v) ≡ dropped (fixedOf kept₀) v)
           → (waysOf ps qs kept ≡ passing f h (waysOf ps qs c)) × Within ps qs kept
-      unfolding waysOf
-      ended h more = (
-        ap (λ (m : ℕ). map (dropped m) (select (inWords (kept .low) (kept .high)) (rows 0 ps qs))) (ap₂ bitOr (s .kept-present) (s .kept-absent))
-            ∙ select-passing (inWords (kept .low) (kept .high)) (inWords (c .low) (c .high)) f h (fixedOf c) (fixedOf kept₀) more (rows 0 ps qs)
-            (each-row (λ v. inWords (kept .low) (kept .high) (v .number) ≡ inWords (c .low) (c .high) (v .number) && f (dropped (fixedOf c) v)) 0 ps qs (w .paired)
-            (λ i k b e. let l : i ≡ k = omega arith in rw l (all-kept k))),
-        record {
-          short = w .short;
-          paired = w .paired;
-          inside = λ i e. w .inside i (and-left (inWords (c .low) (c .high) i) (passes i) (sym (all-kept i) ∙ e));
-        },
-      )
+      ended h more = kept-ways w kept (fixedOf kept₀) (ap₂ bitOr (s .kept-present) (s .kept-absent)) all-kept h more
 
 -- ---- the words that are fixed
 

@@ -3,6 +3,7 @@
 mod Filter
 pub mod First
 mod Judged
+mod Leaving
 pub mod Loops
 mod Pairs
 mod Selected

@@ -1,7 +1,7 @@
--- The numbers in two words of bits, each by the word that has it: the same numbers, none, all, those below n, and one more.
+-- The numbers in two words of bits, each by the word that has it: the same numbers, none, those below n, less those of two others, both, and one more.
 -- Rests on the laws of bits (`rules`, Bits, and Words.antt).
 use mathlib.Core.Path.{_≡_, refl, sym, ap, ap₂, _∙_}
-use mathlib.Core.Bool.{Bool, true, false, _&&_, _||_}
+use mathlib.Core.Bool.{Bool, true, false, not, _&&_, _||_}
 use Prim.Native.Nat.{ℕ, _+_, _-_, _^_, _<_, _≤_}
 use native.Mathlib.Decide.{decLt}
 use native.Mathlib.Omega.{arith}
@@ -11,9 +11,9 @@ use lib.Pow.{pow-pos}
 use borrow.Author.Tests.{ltb-true, ltb-false, lt-ltb, le-ltb, eqb-true, eq-eqb, ne-eqb}
 use Rattle.rules.specs.Table.{bit}
 use Rattle.rules.proofs.Booleans.{and-true, and-false, same-test}
-use Rattle.rules.proofs.Bits.{bit-zero, bit-and, bit-or, bit-pow, bit-high, bits-ext, or-zero}
+use Rattle.rules.proofs.Bits.{bit-zero, bit-and, bit-or, bit-without, bit-pow, bit-high, bits-ext, or-zero}
 use Rattle.records.specs.Records.{inWords}
-use Rattle.clauses.proofs.Words.{ones}
+use Rattle.clauses.proofs.Words.{and-not, ones}
 
 -- A number below 64 is a bit of the low word.
 pub in-low : (a b i : ℕ) → i < 64 → inWords a b i ≡ bit i a
@@ -51,7 +51,7 @@ module _ (a b x y : ℕ) (same : (i : ℕ) → inWords a b i ≡ inWords x y i) 
       at : (i j : ℕ) → 64 ≤ j → j - 64 ≡ i → bit i b ≡ bit i y
       at i j h e = ap (λ (k : ℕ). bit k b) (sym e) ∙ sym (in-high a b j h) ∙ same j ∙ in-high x y j h ∙ ap (λ (k : ℕ). bit k y) e
 
--- ---- no number, and all
+-- ---- no number
 
 -- Two words that joined are 0 have no number.
 pub in-none : (a b : ℕ) → bitOr a b ≡ 0 → (i : ℕ) → inWords a b i ≡ false
@@ -86,6 +86,25 @@ module _ (n m a b : ℕ) where
     where
       less : (i : ℕ) → 64 ≤ i → ltb (i - 64) (n - 64) ≡ ltb i n
       less i l = same-test _ _ (λ q. lt-ltb i n (omega (arith, ltb-true (i - 64) (n - 64) q))) (λ q. lt-ltb (i - 64) (n - 64) (omega (arith, ltb-true i n q)))
+
+-- ---- the numbers of two pairs of words
+
+module _ (a b x y : ℕ) where
+  -- Those of the first without those of the second, by complements in 64 bits.
+  pub less-numbers : a < 2 ^ 64 → b < 2 ^ 64 → x < 2 ^ 64 → y < 2 ^ 64 → (i : ℕ)
+      → inWords (bitAnd a (2 ^ 64 - 1 - x)) (bitAnd b (2 ^ 64 - 1 - y)) i ≡ inWords a b i && not (inWords x y i)
+  less-numbers h k l m =
+      in-words _ _ (λ i. inWords a b i && not (inWords x y i))
+      (λ i g. ap (bit i) (and-not 64 a x h l) ∙ bit-without i x a ∙ ap₂ (λ (s t : Bool). s && not t) (sym (in-low a b i g)) (sym (in-low x y i g)))
+      (λ i g. ap (bit (i - 64)) (and-not 64 b y k m) ∙ bit-without (i - 64) y b
+      ∙ ap₂ (λ (s t : Bool). s && not t) (sym (in-high a b i g)) (sym (in-high x y i g)))
+
+  -- Those of both.
+  pub both-numbers : (i : ℕ) → inWords (bitOr a x) (bitOr b y) i ≡ inWords a b i || inWords x y i
+  both-numbers =
+      in-words _ _ (λ i. inWords a b i || inWords x y i)
+      (λ i g. bit-or i a x ∙ ap₂ (λ (s t : Bool). s || t) (sym (in-low a b i g)) (sym (in-low x y i g)))
+      (λ i g. bit-or (i - 64) b y ∙ ap₂ (λ (s t : Bool). s || t) (sym (in-high a b i g)) (sym (in-high x y i g)))
 
 -- ---- words with a number more
 

@@ -1,16 +1,18 @@
 -- The ways that a Clauses stands for, over a table's two lists of words, and what taking the first of them gives.
 -- Rests on `rules`, Table and Leaf, and on `records`, Records, for the two words of numbers.
 use mathlib.Core.Path.{_≡_}
-use mathlib.Core.Bool.{true, _||_}
+use mathlib.Core.Bool.{Bool, true, not, _&&_, _||_}
 use mathlib.Core.List.{List, _∷_, map}
 use Prim.Native.Nat.{ℕ, _^_, _≤_, _<_}
 use lib.ListN.{length, getD}
 use lib.Bits.{bitOr}
 use lib.Dec.{eqb}
 use Rattle.rules.specs.Table.{rows}
-use Rattle.rules.specs.Leaf.{select, dropped}
+use Rattle.rules.specs.Leaf.{select, dropped, subsumes}
+use Rattle.rules.specs.Group.{touches, part}
 use Rattle.rules.specs.declared.Way.{Way}
 use Rattle.records.specs.Records.{inWords}
+use Rattle.clauses.specs.declared.ByFault.{ByFault}
 use Rattle.clauses.specs.declared.Clauses.{Clauses}
 use Rattle.clauses.specs.declared.Taken.{Taken}
 
@@ -25,6 +27,10 @@ OneFault p q = (f : ℕ) × (bitOr p q ≡ 2 ^ f)
 -- The way of a table with a number.
 abbrev pub row : List ℕ → List ℕ → ℕ → Way
 row ps qs i = record { number = i; present = getD ps i 0; absent = getD qs i 0 }
+
+-- The same as a leaf has it, without the fixed faults.
+abbrev pub wayAt : List ℕ → List ℕ → Clauses → ℕ → Way
+wayAt ps qs c i = dropped (fixedOf c) (row ps qs i)
 
 -- The ways: those of the table with these numbers, without the fixed faults.
 unfoldable pub waysOf : List ℕ → List ℕ → Clauses → List Way
@@ -44,3 +50,25 @@ pub record Takes (ps qs : List ℕ) (c : Clauses) (t : Taken) : Type 0 where
   pub same-present : t .others .present ≡ c .present
   pub same-absent : t .others .absent ≡ c .absent
   pub within : Within ps qs (t .others)
+
+-- Of a leaf's numbers, those whose ways pass a test.
+abbrev pub Keeps : List ℕ → List ℕ → (Way → Bool) → Clauses → Clauses → Type 0
+Keeps ps qs f c r = (i : ℕ) → inWords (r .low) (r .high) i ≡ inWords (c .low) (c .high) i && f (wayAt ps qs c i)
+
+-- A way that each of a leaf's ways subsumes.
+abbrev pub Covers : List ℕ → List ℕ → Clauses → Way → Type 0
+Covers ps qs c r = (i : ℕ) → inWords (c .low) (c .high) i ≡ true → subsumes (wayAt ps qs c i) r ≡ true
+
+-- The ways of a leaf by a fault, whose word is m: those that name it, the others, and what covers the others.
+pub record Divided (ps qs : List ℕ) (c : Clauses) (m : ℕ) (d : ByFault) : Type 0 where
+  pub whole : Within ps qs c
+  pub named-within : Within ps qs (d .named)
+  pub named-ways : waysOf ps qs (d .named) ≡ part true m (waysOf ps qs c)
+  pub named-numbers : Keeps ps qs (λ v. touches m v) c (d .named)
+  pub named-present : d .named .present ≡ c .present
+  pub named-absent : d .named .absent ≡ c .absent
+  pub others-within : Within ps qs (d .others)
+  pub others-numbers : Keeps ps qs (λ v. not (touches m v)) c (d .others)
+  pub others-present : d .others .present ≡ c .present
+  pub others-absent : d .others .absent ≡ c .absent
+  pub covered : Covers ps qs (d .others) (d .cover)

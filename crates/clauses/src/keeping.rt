@@ -1,6 +1,7 @@
 //! The ways of a leaf that pass a test: what remains of them with more faults fixed, and those that a word of faults touches.
 //! Rests on `rules`, Leaf and Group. Only the numbers are kept, so no way is copied.
 ghost use mathlib.Core.Path.{_≡_};
+ghost use mathlib.Core.Bool.{not, Bool·beq};
 ghost use Prim.Native.Nat.{_≤_};
 ghost use lib.Bits.{bitOr};
 ghost use lib.ListN.{length};
@@ -9,7 +10,7 @@ ghost use Rattle.rules.specs.Leaf;
 ghost use Rattle.rules.specs.Leaf.{remaining};
 ghost use Rattle.rules.specs.Group;
 ghost use Rattle.records.specs.Records.{inWords};
-ghost use Rattle.clauses.specs.Leaves.{waysOf, Within};
+ghost use Rattle.clauses.specs.Leaves.{waysOf, Within, Keeps};
 use super::Clauses;
 use super::sets::select;
 use super::sets::with_number;
@@ -18,7 +19,7 @@ use super::taking::taken;
 use rules::Way;
 
 /// A fault fixed present that the way names absent, or fixed absent that it names present.
-pub fn contradicted(present: u64, absent: u64, v: Way) -> bool
+fn contradicted(present: u64, absent: u64, v: Way) -> bool
     ensures { λ r. ⌜ r ≡ Leaf.contradicted present absent v ⌝ }
 {
     (v.present & absent) | (v.absent & present) != 0
@@ -28,7 +29,8 @@ pub fn contradicted(present: u64, absent: u64, v: Way) -> bool
 pub fn restrict(present: &[u64], absent: &[u64], c: Clauses, p: u64, q: u64) -> Clauses
     requires { ⌜ Within (now present) (now absent) c ⌝ }
     ensures { λ r. ⌜ (waysOf (now (present .entry)) (now (absent .entry)) r ≡ remaining p q (waysOf (now (present .entry)) (now (absent .entry)) c))
-        × Within (now (present .entry)) (now (absent .entry)) r × (r .present ≡ bitOr (c .present) p) × (r .absent ≡ bitOr (c .absent) q) ⌝ }
+        × Within (now (present .entry)) (now (absent .entry)) r × (r .present ≡ bitOr (c .present) p) × (r .absent ≡ bitOr (c .absent) q)
+        × Keeps (now (present .entry)) (now (absent .entry)) (λ v. not (Leaf.contradicted p q v)) c r ⌝ }
 {
     let mut kept = Clauses {
         low: 0,
@@ -69,7 +71,8 @@ pub fn touches(m: u64, v: Way) -> bool
 pub fn part(present: &[u64], absent: &[u64], c: Clauses, m: u64, touched: bool) -> Clauses
     requires { ⌜ Within (now present) (now absent) c ⌝ }
     ensures { λ r. ⌜ (waysOf (now (present .entry)) (now (absent .entry)) r ≡ Group.part touched m (waysOf (now (present .entry)) (now (absent .entry)) c))
-        × Within (now (present .entry)) (now (absent .entry)) r × (r .present ≡ c .present) × (r .absent ≡ c .absent) ⌝ }
+        × Within (now (present .entry)) (now (absent .entry)) r × (r .present ≡ c .present) × (r .absent ≡ c .absent)
+        × Keeps (now (present .entry)) (now (absent .entry)) (λ v. Bool·beq touched (Group.touches m v)) c r ⌝ }
 {
     let mut kept = Clauses {
         low: 0,

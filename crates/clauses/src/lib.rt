@@ -21,3 +21,10 @@ pub struct Taken {
     pub way: Way,
     pub others: Clauses,
 }
+
+/// The ways of a leaf by a fault: those that name it, the others, and a way that each of the others subsumes.
+pub struct ByFault {
+    pub named: Clauses,
+    pub others: Clauses,
+    pub cover: Way,
+}

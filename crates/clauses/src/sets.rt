@@ -1,7 +1,7 @@
 //! Sets of ways by number, as two words of bits: the numbers 0 to 63 and those from 64 on. Rests on `records`, Records.
 //! Numbers beyond the last way of the table are left out.
 ghost use mathlib.Core.Path.{_≡_};
-ghost use mathlib.Core.Bool.{_||_};
+ghost use mathlib.Core.Bool.{not, _&&_, _||_};
 ghost use Prim.Native.Nat.{ℕ, _-_, _<_, _≤_, _^_};
 ghost use lib.Dec.{eqb};
 ghost use lib.ListN.{length};
@@ -64,4 +64,17 @@ pub fn with_number(c: Clauses, i: usize) -> Clauses
         r.high = c.high | one_bit(i - 64);
     }
     r
+}
+
+/// The numbers of the first without those of the second.
+pub fn minus(c: Clauses, d: Clauses) -> Clauses
+    ensures { λ r. ⌜ ((i : ℕ) → inWords (r .low) (r .high) i ≡ inWords (c .low) (c .high) i && not (inWords (d .low) (d .high) i))
+        × (r .present ≡ c .present) × (r .absent ≡ c .absent) ⌝ }
+{
+    Clauses {
+        low: c.low & !d.low,
+        high: c.high & !d.high,
+        present: c.present,
+        absent: c.absent,
+    }
 }

@@ -1,5 +1,5 @@
 //! What stays of ways: those that say nothing new are left out. Rests on `rules`, Leaf.
-//! A table's ways are tested each against each. With a fault fixed in ways that stay, only those that lost it are tested against: see `rules`, FixedLean.
+//! A table's ways are tested each against each. With a fault fixed in a lean list, only a way that lost it can outdo another: see `rules`, FixedLean.
 ghost use mathlib.Core.Path.{_≡_};
 ghost use mathlib.Core.Bool.{true};
 ghost use Prim.Native.Nat.{_≤_};
@@ -8,12 +8,12 @@ ghost use lib.ListN.{length};
 ghost use Rattle.rules.specs.Table.{rows};
 ghost use Rattle.rules.specs.Leaf;
 ghost use Rattle.rules.specs.Leaf.{remaining, minimal, Lean};
-ghost use Rattle.rules.specs.Group;
-ghost use Rattle.clauses.specs.Leaves.{OneFault, waysOf, Within};
+ghost use Rattle.clauses.specs.Leaves.{OneFault, waysOf, Within, Keeps, Covers, Divided};
+use super::ByFault;
 use super::Clauses;
-use super::keeping::contradicted;
+use super::keeping::part;
 use super::keeping::restrict;
-use super::keeping::touches;
+use super::sets::minus;
 use super::sets::with_number;
 use super::taking::taken;
 use rules::Way;
@@ -22,7 +22,10 @@ use rules::Way;
 fn subsumes(u: Way, v: Way) -> bool
     ensures { λ r. ⌜ r ≡ Leaf.subsumes u v ⌝ }
 {
-    (u.present & !v.present) | (u.absent & !v.absent) == 0
+    if u.present & !v.present != 0 {
+        return false;
+    }
+    u.absent & !v.absent == 0
 }
 
 /// Beside the first way the second says nothing new.
@@ -78,53 +81,89 @@ pub fn staying_rows(present: &[u64], absent: &[u64]) -> Clauses
     kept
 }
 
-/// What stays of a leaf's ways with one fault fixed besides, present (p) or absent (q), where `named` are those that name it.
-pub fn staying(
-    present: &[u64],
-    absent: &[u64],
-    c: Clauses,
-    named: Clauses,
-    p: u64,
-    q: u64,
-) -> Clauses
+/// The ways that this one subsumes.
+fn subsumed(present: &[u64], absent: &[u64], c: Clauses, u: Way) -> Clauses
     requires { ⌜ Within (now present) (now absent) c ⌝ }
+    ensures { λ r. ⌜ Keeps (now (present .entry)) (now (absent .entry)) (λ v. Leaf.subsumes u v) c r ⌝ }
+{
+    let mut kept = Clauses {
+        low: 0,
+        high: 0,
+        present: c.present,
+        absent: c.absent,
+    };
+    let mut left = c;
+    while left.low | left.high != 0 {
+        let t = taken(present, absent, left);
+        let v = t.way;
+        left = t.others;
+        if subsumes(u, v) {
+            kept = with_number(kept, v.number);
+        }
+    }
+    kept
+}
+
+/// A way that each of the ways subsumes: it names what any of them names.
+fn cover(present: &[u64], absent: &[u64], c: Clauses) -> Way
+    requires { ⌜ Within (now present) (now absent) c ⌝ }
+    ensures { λ r. ⌜ Covers (now (present .entry)) (now (absent .entry)) c r ⌝ }
+{
+    let mut r = Way {
+        number: 0,
+        present: 0,
+        absent: 0,
+    };
+    let mut left = c;
+    while left.low | left.high != 0 {
+        let t = taken(present, absent, left);
+        let v = t.way;
+        left = t.others;
+        r.present = r.present | v.present;
+        r.absent = r.absent | v.absent;
+    }
+    r
+}
+
+/// The ways of a leaf by a fault, whose word is m.
+pub fn by_fault(present: &[u64], absent: &[u64], c: Clauses, m: u64) -> ByFault
+    requires { ⌜ Within (now present) (now absent) c ⌝ }
+    ensures { λ r. ⌜ Divided (now (present .entry)) (now (absent .entry)) c m r ⌝ }
+{
+    let named = part(present, absent, c, m, true);
+    let others = minus(c, named);
+    ByFault {
+        named,
+        others,
+        cover: cover(present, absent, others),
+    }
+}
+
+/// What stays of a leaf's ways with one fault fixed besides, present (p) or absent (q). A way that lost the fault stays; it leaves out
+/// what it subsumes of those that did not name it, which is nothing if it does not even subsume their cover.
+pub fn staying(present: &[u64], absent: &[u64], c: Clauses, d: ByFault, p: u64, q: u64) -> Clauses
     requires { ⌜ Lean (waysOf (now present) (now absent) c) ⌝ }
-    requires { ⌜ Within (now present) (now absent) named ⌝ }
-    requires { ⌜ waysOf (now present) (now absent) named ≡ Group.part true (bitOr p q) (waysOf (now present) (now absent) c) ⌝ }
+    requires { ⌜ Divided (now present) (now absent) c (bitOr p q) d ⌝ }
     requires { ⌜ OneFault p q ⌝ }
     ensures { λ r. ⌜ (waysOf (now (present .entry)) (now (absent .entry)) r ≡ minimal (remaining p q (waysOf (now (present .entry)) (now (absent .entry)) c)))
         × Within (now (present .entry)) (now (absent .entry)) r × (r .present ≡ bitOr (c .present) p) × (r .absent ≡ bitOr (c .absent) q) ⌝ }
 {
-    let shorter = restrict(present, absent, named, p, q);
-    let mut kept = Clauses {
-        low: 0,
-        high: 0,
-        present: c.present | p,
-        absent: c.absent | q,
-    };
-    let mut left = c;
-    'ways: while left.low | left.high != 0 {
+    let shorter = restrict(present, absent, d.named, p, q);
+    let all = d.cover;
+    let mut kept = d.others;
+    let mut left = shorter;
+    while left.low | left.high != 0 {
         let t = taken(present, absent, left);
-        let v = t.way;
-        // Before the search, since `continue` skips what follows it.
+        let u = t.way;
         left = t.others;
-        if touches(p | q, v) {
-            if contradicted(p, q, v) {
-                continue 'ways;
-            }
-            kept = with_number(kept, v.number);
-            continue 'ways;
+        if subsumes(u, all) {
+            kept = minus(kept, subsumed(present, absent, kept, u));
         }
-        let mut rest = shorter;
-        while rest.low | rest.high != 0 {
-            let s = taken(present, absent, rest);
-            let u = s.way;
-            rest = s.others;
-            if subsumes(u, v) {
-                continue 'ways;
-            }
-        }
-        kept = with_number(kept, v.number);
     }
-    kept
+    Clauses {
+        low: shorter.low | kept.low,
+        high: shorter.high | kept.high,
+        present: shorter.present,
+        absent: shorter.absent,
+    }
 }

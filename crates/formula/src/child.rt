@@ -16,6 +16,7 @@ use chances::chance::has;
 use clauses::Clauses;
 use clauses::keeping::part;
 use clauses::sets::one_bit;
+use clauses::staying::by_fault;
 use clauses::staying::staying;
 use clauses::taking::faults;
 use clauses::taking::taken;
@@ -38,9 +39,9 @@ pub fn children(present: &[u64], absent: &[u64], c: Clauses, k: Kind) -> Childre
         }
         Kind::Shannon(f) => {
             let b = one_bit(f as usize);
-            let named = part(present, absent, c, b, true);
-            let left = staying(present, absent, c, named, b, 0);
-            let right = staying(present, absent, c, named, 0, b);
+            let d = by_fault(present, absent, c, b);
+            let left = staying(present, absent, c, d, b, 0);
+            let right = staying(present, absent, c, d, 0, b);
             Children { left, right }
         }
     }

@@ -1,4 +1,4 @@
--- What a record tells of its place: whether an open leaf is there, the leaf's remaining ways and its width; and that no way of a record says nothing new.
+-- What a record tells of its place: whether an open leaf is there, the leaf's remaining ways and its width; and that the ways of a record are lean.
 -- Rests on Words.antt.
 use mathlib.Core.Path.{_≡_, refl, sym, ap, ap₂, _∙_, subst}
 use mathlib.Core.Bool.{Bool, true, false}
@@ -50,22 +50,25 @@ holds t ns h p i = by (has-subtree p (root t) (tree ns) (held-has t ns h p i)) (
         (ap (λ (y : Option Subtree). end up (t .weights) (subtreeOr y .node .ways) (subtreeOr y .below) - end down (t .weights) (subtreeOr y .node .ways) (subtreeOr y .below)) (x .1)
         ∙ ap (λ (s : DTree). end up (t .weights) (x .0 .node .ways) s - end down (t .weights) (x .0 .node .ways) s) (l .1))
 
--- ---- no way of a record says nothing new
+-- ---- the ways of a record are lean
 
--- A blank record has no ways.
+-- Of no number there is no way.
 none-chosen : (P : ℕ → Bool) → ((i : ℕ) → P i ≡ false) → (vs : List Way) → select P vs ≡ []
 unfolding select
 none-chosen P h [] = refl
 none-chosen P h (v ∷ vs) = rw (select, h (v .number)) (none-chosen P h vs)
 
+-- A blank record has no ways.
 blank-ways : (t : Table) → recordWays t blank ≡ []
 unfolding recordWays lowWord highWord hasNumber remaining
 blank-ways t = ap (remaining 0 0) (none-chosen (inWords 0 0) (λ i. words-number [] i) (ways t))
 
+-- None at all are lean.
 lean-none : Lean []
 unfolding minimal sift
 lean-none = refl
 
+-- In every record of a series, in use or blank.
 lean-record : (t : Table) (ns : List Refinement) → series t ns ≡ true → (j : ℕ) → Lean (recordWays t (recordIn (recordsOf t ns) j))
 unfolding subtree
 lean-record t ns h j = by (decLt j (length (places ns)))

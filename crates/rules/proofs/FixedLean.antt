@@ -1,4 +1,4 @@
--- Fixing one fault in ways of which none says nothing new: only a way that lost the fault can make another say nothing new, and one that lost it stays.
+-- Fixing one fault in a lean list: a way that lost the fault stays, and another is redundant just if one that lost the fault subsumes it.
 -- So the code tests the ways that did not name the fault against those that did, and nothing else. Rests on Minimal.antt.
 use mathlib.Core.Path.{_≡_, refl, sym, ap, ap₂, _∙_}
 use mathlib.Core.Bool.{Bool, true, false, not, _&&_, _||_, true≢false, Bool·beq}
@@ -8,31 +8,28 @@ use lib.Dec.{eqb, ltb}
 use lib.Bits.{bitAnd, bitOr, and-comm}
 use borrow.Author.Tests.{eqb-true, eq-eqb, not-false}
 use Rattle.rules.specs.Table.{bit, Way, faults}
-use Rattle.rules.specs.Leaf.{any, without, dropped, contradicted, remaining, subsumes, outdoes, surplus, minimal}
+use Rattle.rules.specs.Leaf.{any, without, dropped, contradicted, remaining, subsumes, outdoes, redundant, Lean}
 use Rattle.rules.specs.Group.{touches, part}
 use Rattle.rules.proofs.Booleans.{and-left, and-right, and-both, and-false, or-first, or-second, or-left, or-right, is-false, same-test}
 use Rattle.rules.proofs.Bits.{bit-zero, bit-and, bit-or, bit-without, bit-pow, bits-zero, apart-bit}
 use Rattle.rules.proofs.Remaining.{meets-pow}
-use Rattle.rules.proofs.Groups.{In, none-passes}
-use Rattle.rules.proofs.Minimal.{part-bit, bit-part, on-present, on-absent, outdone, lean-none}
+use Rattle.rules.proofs.Groups.{In, Within, none-passes}
+use Rattle.rules.proofs.Minimal.{subsumes-inside, inside-subsumes, outdone, lean-none}
 
 -- ---- words, bit by bit
 
--- Every bit of the first word is one of the second.
-abbrev Inside : ℕ → ℕ → Type 0
-Inside x y = (i : ℕ) → bit i x ≡ true → bit i y ≡ true
-
 module _ (m : ℕ) where
-  -- Bits dropped are none besides.
-  less : (w : ℕ) → Inside (without m w) w
+  -- A word of which bits are dropped has no bit besides.
+  less : (w : ℕ) → Within (without m w) w
   less w i h = and-left (bit i w) (not (bit i m)) (sym (bit-without i m w) ∙ h)
 
-  -- Words from which the same bits are dropped, and back: what is dropped of the first must be in the second.
-  drop-both : (x y : ℕ) → Inside (without m x) y → Inside (without m x) (without m y)
+  -- The bits that one word lost, the other may lose too.
+  drop-both : (x y : ℕ) → Within (without m x) y → Within (without m x) (without m y)
   drop-both x y k i h =
       bit-without i m y ∙ and-both (bit i y) (not (bit i m)) (k i h) (and-right (bit i x) (not (bit i m)) (sym (bit-without i m x) ∙ h))
 
-  undrop : (x y : ℕ) → ((i : ℕ) → bit i m ≡ true → bit i x ≡ true → bit i y ≡ true) → Inside (without m x) (without m y) → Inside x y
+  -- And back, where of what is dropped the second has what the first has.
+  undrop : (x y : ℕ) → ((i : ℕ) → bit i m ≡ true → bit i x ≡ true → bit i y ≡ true) → Within (without m x) (without m y) → Within x y
   undrop x y c k i h = by (bit i m) refl
     where
       by : (b : Bool) → bit i m ≡ b → bit i y ≡ true
@@ -46,6 +43,7 @@ module _ (f P A : ℕ) (only : bitOr P A ≡ 2 ^ f) where
   abbrev m : ℕ
   m = bitOr P A
 
+  -- It has no other bit.
   only-bit : (i : ℕ) → bit i m ≡ true → i ≡ f
   only-bit i h = eqb-true i f (sym (bit-pow i f) ∙ ap (bit i) (sym only) ∙ h)
 
@@ -55,10 +53,11 @@ module _ (f P A : ℕ) (only : bitOr P A ≡ 2 ^ f) where
       ap (λ (w : ℕ). not (eqb (bitAnd w (faults v)) 0)) only ∙ ap (λ (w : ℕ). not (eqb w 0)) (and-comm (2 ^ f) (faults v))
       ∙ meets-pow (faults v) f
 
-  -- What the fixed words say of it, and what a way that is not contradicted says.
+  -- It is fixed in one sense.
   fixed-either : bit f P || bit f A ≡ true
   fixed-either = sym (bit-or f P A) ∙ ap (bit f) only ∙ bit-pow f f ∙ eq-eqb f f refl
 
+  -- And a way that is not contradicted does not name it in the other.
   clash-off : (v : Way) → contradicted P A v ≡ false → (bit f (v .present) && bit f A) || (bit f (v .absent) && bit f P) ≡ false
   clash-off v h =
       sym (bit-or f (bitAnd (v .present) A) (bitAnd (v .absent) P) ∙ ap₂ (λ (x y : Bool). x || y) (bit-and f (v .present) A) (bit-and f (v .absent) P))
@@ -100,11 +99,13 @@ module _ (f P A : ℕ) (only : bitOr P A ≡ 2 ^ f) where
   abbrev Follows : Way → Way → Type 0
   Follows u v = (bit f (u .present) ≡ true → bit f (v .present) ≡ true) × (bit f (u .absent) ≡ true → bit f (v .absent) ≡ true)
 
+  -- It does if it names the fault at all, and neither is contradicted.
   both-follow : (u v : Way) → contradicted P A u ≡ false → contradicted P A v ≡ false → touches m v ≡ true → Follows u v
   both-follow u v cu cv n =
       alike (bit f P) (bit f A) (bit f (u .present)) (bit f (u .absent)) (bit f (v .present)) (bit f (v .absent)) fixed-either (clash-off u cu) (clash-off v cv)
       (sym (bit-or f (v .present) (v .absent)) ∙ sym (names v) ∙ n)
 
+  -- And if the first does not name it.
   none-follows : (u v : Way) → touches m u ≡ false → Follows u v
   none-follows u v n = (
     λ e. absurd (true≢false (sym e ∙ or-left (bit f (u .present)) (bit f (u .absent)) off)),
@@ -116,38 +117,32 @@ module _ (f P A : ℕ) (only : bitOr P A ≡ 2 ^ f) where
 
   -- ---- subsuming, with the fault dropped and before
 
+  -- Where the second way says of the fault what the first says, subsuming without it is subsuming with it.
   back : (u v : Way) → Follows u v → subsumes (dropped m u) (dropped m v) ≡ true → subsumes u v ≡ true
   back u v c h =
-      and-both _ _
-      (bit-part (v .present) (u .present)
-      (undrop m (u .present) (v .present) (λ i b e. at i b (λ (j : ℕ). bit j (u .present) ≡ true → bit j (v .present) ≡ true) (c .0) e)
-      (λ i b. part-bit (without m (v .present)) (without m (u .present)) i (on-present (dropped m u) (dropped m v) h) b)))
-      (bit-part (v .absent) (u .absent)
-      (undrop m (u .absent) (v .absent) (λ i b e. at i b (λ (j : ℕ). bit j (u .absent) ≡ true → bit j (v .absent) ≡ true) (c .1) e)
-      (λ i b. part-bit (without m (v .absent)) (without m (u .absent)) i (on-absent (dropped m u) (dropped m v) h) b)))
+      let k = subsumes-inside (dropped m u) (dropped m v) h in
+      inside-subsumes u v (undrop m (u .present) (v .present) (at (u .present) (v .present) (c .0)) (k .0), undrop m (u .absent) (v .absent) (at (u .absent) (v .absent) (c .1)) (k .1))
     where
-      at : (i : ℕ) → bit i m ≡ true → (Q : ℕ → Type 0) → Q f → Q i
-      at i b Q q = rw (only-bit i b) q
+      at : (x y : ℕ) → (bit f x ≡ true → bit f y ≡ true) → (i : ℕ) → bit i m ≡ true → bit i x ≡ true → bit i y ≡ true
+      at x y g i b = rw (only-bit i b) g
 
+  -- A way without the fault that subsumes another subsumes it without the fault too.
   forth : (u v : Way) → subsumes (dropped m u) v ≡ true → subsumes (dropped m u) (dropped m v) ≡ true
   forth u v h =
-      and-both _ _
-      (bit-part (without m (v .present)) (without m (u .present))
-      (drop-both m (u .present) (v .present) (λ i b. part-bit (v .present) (without m (u .present)) i (on-present (dropped m u) v h) b)))
-      (bit-part (without m (v .absent)) (without m (u .absent))
-      (drop-both m (u .absent) (v .absent) (λ i b. part-bit (v .absent) (without m (u .absent)) i (on-absent (dropped m u) v h) b)))
+      let k = subsumes-inside (dropped m u) v h in
+      inside-subsumes (dropped m u) (dropped m v) (drop-both m (u .present) (v .present) (k .0), drop-both m (u .absent) (v .absent) (k .1))
 
+  -- What subsumes a way without the fault subsumes the way.
   weaker : (u v : Way) → subsumes u (dropped m v) ≡ true → subsumes u v ≡ true
   weaker u v h =
-      and-both _ _
-      (bit-part (v .present) (u .present) (λ i b. less m (v .present) i (part-bit (without m (v .present)) (u .present) i (on-present u (dropped m v) h) b)))
-      (bit-part (v .absent) (u .absent) (λ i b. less m (v .absent) i (part-bit (without m (v .absent)) (u .absent) i (on-absent u (dropped m v) h) b)))
+      let k = subsumes-inside u (dropped m v) h in
+      inside-subsumes u v (λ i b. less m (v .present) i (k .0 i b), λ i b. less m (v .absent) i (k .1 i b))
 
+  -- A way that subsumes another subsumes it without the fault.
   lighter : (u v : Way) → subsumes u v ≡ true → subsumes (dropped m u) v ≡ true
   lighter u v h =
-      and-both _ _
-      (bit-part (v .present) (without m (u .present)) (λ i b. part-bit (v .present) (u .present) i (on-present u v h) (less m (u .present) i b)))
-      (bit-part (v .absent) (without m (u .absent)) (λ i b. part-bit (v .absent) (u .absent) i (on-absent u v h) (less m (u .absent) i b)))
+      let k = subsumes-inside u v h in
+      inside-subsumes (dropped m u) v (λ i b. k .0 i (less m (u .present) i b), λ i b. k .1 i (less m (u .absent) i b))
 
   -- A way that names the fault does not say less than one that does not.
   names-more : (u v : Way) → touches m u ≡ true → touches m v ≡ false → subsumes u v ≡ false
@@ -160,8 +155,8 @@ module _ (f P A : ℕ) (only : bitOr P A ≡ 2 ^ f) where
       off = sym (bit-or f (v .present) (v .absent)) ∙ sym (names v) ∙ o
 
       there : subsumes u v ≡ true → (x y : Bool) → bit f (u .present) ≡ x → bit f (u .absent) ≡ y → x || y ≡ true → bit f (v .present) || bit f (v .absent) ≡ true
-      there h true y e g k = or-first (bit f (v .present)) (bit f (v .absent)) (part-bit (v .present) (u .present) f (on-present u v h) e)
-      there h false true e g k = or-second (bit f (v .present)) (bit f (v .absent)) (part-bit (v .absent) (u .absent) f (on-absent u v h) g)
+      there h true y e g k = or-first (bit f (v .present)) (bit f (v .absent)) (subsumes-inside u v h .0 f e)
+      there h false true e g k = or-second (bit f (v .present)) (bit f (v .absent)) (subsumes-inside u v h .1 f g)
       there h false false e g k = absurd (true≢false (sym k))
 
   -- Of two ways of which each says of the fault what the other says, dropping it changes nothing.
@@ -171,14 +166,15 @@ module _ (f P A : ℕ) (only : bitOr P A ≡ 2 ^ f) where
       same : (u v : Way) → Follows u v → subsumes (dropped m u) (dropped m v) ≡ subsumes u v
       same u v c = same-test _ _ (λ h. back u v c h) (λ h. forth u v (lighter u v h))
 
-  -- ---- in ways of which none says nothing new
+  -- ---- in a lean list
 
-  module _ (vs : List Way) (lean : minimal vs ≡ vs) where
+  module _ (vs : List Way) (lean : Lean vs) where
+    -- No way of it outdoes another.
     not-outdone : (u v : Way) → In u vs → In v vs → outdoes u v ≡ false
-    unfolding surplus
+    unfolding redundant
     not-outdone u v i j = none-passes (λ w. outdoes w v) vs u (lean-none vs lean v j) i
 
-    -- Of two that are not contradicted, the first makes the second say nothing new just if it lost the fault, the second did not, and it now subsumes it.
+    -- Of two that are not contradicted, the first outdoes the second just if it lost the fault, the second did not, and without the fault it subsumes it.
     one-pair : (u v : Way) → In u vs → In v vs → contradicted P A u ≡ false → contradicted P A v ≡ false
         → outdoes (dropped m u) (dropped m v) ≡ not (touches m v) && (touches m u && subsumes (dropped m u) v)
     one-pair u v i j cu cv = by (touches m u) refl (touches m v) refl
@@ -199,11 +195,11 @@ module _ (f P A : ℕ) (only : bitOr P A ≡ 2 ^ f) where
             (or-first (not (subsumes (dropped m v) (dropped m u))) (ltb (u .number) (v .number))
             (ap not (is-false (subsumes (dropped m v) (dropped m u)) (λ k. strictly v u j i (back v u (none-follows v u g) k) (names-more u v e g))))))
 
-    -- So a way that is not contradicted says nothing new just if it does not name the fault, and one that lost it subsumes it.
-    pub surplus-fixed : (v : Way) → In v vs → contradicted P A v ≡ false
-        → surplus (remaining P A vs) (dropped m v) ≡ not (touches m v) && any (λ u. subsumes u v) (remaining P A (part true m vs))
-    unfolding surplus any remaining
-    surplus-fixed v j cv = over vs (λ u i. i)
+    -- So a way that is not contradicted is redundant just if it does not name the fault, and one that lost it subsumes it.
+    pub redundant-fixed : (v : Way) → In v vs → contradicted P A v ≡ false
+        → redundant (remaining P A vs) (dropped m v) ≡ not (touches m v) && any (λ u. subsumes u v) (remaining P A (part true m vs))
+    unfolding redundant any remaining
+    redundant-fixed v j cv = over vs (λ u i. i)
       where
         none : (b : Bool) → false ≡ b && false
         none b = sym (and-false b)

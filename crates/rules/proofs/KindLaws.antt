@@ -1,5 +1,6 @@
 -- What the theorems about trees need of each kind of inner node: one record of laws, and its proof for each kind.
 -- Everything about whole trees (enclosure, no widening, levels, demand 3) uses these laws only, so that a further kind brings its laws and no more.
+-- Rests on Sum and Rounding for the bounds, on Groups and Remaining for each kind's children, on Minimal and Sets for what stays and what numbers tell.
 use mathlib.Core.Path.{_≡_, refl, sym, ap, ap₂, _∙_}
 use mathlib.Core.Bool.{Bool, true, false, not, _||_, true≢false}
 use mathlib.Core.List.{List, [], _∷_}
@@ -13,7 +14,7 @@ use lib.Bits.{bitOr, or-zero-l, or-zero-r}
 use borrow.Author.Tests.{leb-false, eqb-false, eq-eqb, ne-eqb}
 use Rattle.rules.specs.Rounding.{S, Dir, Le}
 use Rattle.rules.specs.Table.{bit, Way, faults, Assignment, happens}
-use Rattle.rules.specs.Leaf.{any, hasNumber, ofSet, dropped, remaining, minimal, isEmpty}
+use Rattle.rules.specs.Leaf.{any, hasNumber, ofSet, dropped, remaining, sift, minimal, Lean, isEmpty}
 use Rattle.rules.specs.Group.{groupFaults, part, group, others, nonempty, fallApart}
 use Rattle.rules.specs.Tree.{Side, left, right, occurs, possible, child, combine, Node, childSet, childFixed, childNode}
 use Rattle.rules.specs.Refusals.{namesBeyond}
@@ -25,8 +26,8 @@ use Rattle.rules.proofs.Sum.{mass, Weights, mass-not, mass-neither, mas
 use Rattle.rules.proofs.Rounding.{either-bound, mean-bound, either-mono, mean-mono}
 use Rattle.rules.proofs.Ways.{independent}
 use Rattle.rules.proofs.Remaining.{remaining-any, fixed-gone, fix-present, fix-absent, fix-again}
-use Rattle.rules.proofs.Sets.{Rising, own-set, part-set, part-sift}
-use Rattle.rules.proofs.Minimal.{minimal-happens, minimal-any, sift-lean, minimal-twice}
+use Rattle.rules.proofs.Sets.{Rising, part-told, part-sift}
+use Rattle.rules.proofs.Minimal.{minimal-happens, minimal-any, sift-any, sift-lean, minimal-twice}
 use Rattle.rules.proofs.Groups.{group-off, others-off, part-happens, part-any, first-faults}
 
 -- ---- faults that occur
@@ -40,6 +41,7 @@ beyond-off n i v vs h l =
     ∙ or-neither _ _ (bit-high n i (v .present) l (leb-false (2 ^ n) (v .present) (or-left (leb (2 ^ n) (v .present)) _ e)))
     (bit-high n i (v .absent) l (leb-false (2 ^ n) (v .absent) (or-right (leb (2 ^ n) (v .present)) _ e)))
 
+-- What 12 lets through of a list, it lets through of the ways after the first.
 beyond-tail : (n : ℕ) (v : Way) (vs : List Way) → namesBeyond n (v ∷ vs) ≡ false → namesBeyond n vs ≡ false
 unfolding namesBeyond
 beyond-tail n v vs h = any-tail _ v vs h
@@ -72,7 +74,11 @@ some-occurs n (v ∷ vs) h e o =
 
 -- ---- the laws of a kind
 
--- A node's ways are the remaining ways of its set, as 01 words them: those of the table's ways in the set that no fixed fault contradicts, with the fixed faults dropped.
+-- A node's ways by their own numbers, as a record tells them: what remains of the table's ways with those numbers.
+abbrev pub Told : List Way → Node → Type 0
+Told all x = remaining (x .present) (x .absent) (ofSet (x .ways) all) ≡ x .ways
+
+-- A node's ways by its set, as 01 words them: what stays of the table's ways in the set that no fixed fault contradicts, with the fixed faults dropped.
 abbrev pub Handed : List Way → Node → Type 0
 Handed all x = x .ways ≡ minimal (remaining (x .present) (x .absent) (ofSet (x .set) all))
 
@@ -80,6 +86,7 @@ Handed all x = x .ways ≡ minimal (remaining (x .present) (x .absent) (ofSet (x
 abbrev pub Stable : (Way → Bool) → Type 0
 Stable h = (m : ℕ) (v : Way) → h v ≡ false → h (dropped m v) ≡ false
 
+-- The laws of a kind.
 pub record Laws (k : Kind) : Type 0 where
   -- Bounds on the exact sums of the children combine to a bound on the node's.
   pub bound : (d : Dir) (ws : List ℕ) → Weights ws → (vs : List Way) → namesBeyond (length ws) vs ≡ false → possible k vs ≡ true → (x y : ℕ)
@@ -92,13 +99,17 @@ pub record Laws (k : Kind) : Type 0 where
   -- Some fault that occurs in the node does not occur in a child.
   pub removes : (n : ℕ) (b : Side) (vs : List Way) → namesBeyond n vs ≡ false → any isEmpty vs ≡ false → nonempty vs ≡ true → possible k vs ≡ true
       → (g : ℕ) × (g < n) × (occurs g vs ≡ true) × (occurs g (child k b vs) ≡ false)
-  -- Where no way of the node says nothing new, none of a child does.
-  pub lean : (b : Side) (vs : List Way) → possible k vs ≡ true → minimal vs ≡ vs → minimal (child k b vs) ≡ child k b vs
+  -- The children of a lean node are lean.
+  pub lean : (b : Side) (vs : List Way) → possible k vs ≡ true → Lean vs → Lean (child k b vs)
+  -- Where a node's own numbers tell its ways, so do a child's.
+  pub told : (all : List Way) → Rising 0 all → (b : Side) (x : Node) → Told all x → possible k (x .ways) ≡ true → Told all (childNode k b x)
   -- The ways handed down to a child are the remaining ways of its set.
-  pub handed : (all : List Way) → Rising 0 all → (b : Side) (x : Node) → Handed all x → possible k (x .ways) ≡ true → Handed all (childNode k b x)
+  pub handed : (all : List Way) → Rising 0 all → (b : Side) (x : Node) → Told all x → Lean (x .ways) → possible k (x .ways) ≡ true
+      → Handed all (childNode k b x)
 
 -- ---- independent-or
 
+-- The group and the other ways share no fault, so they are independent events.
 group-bound : (d : Dir) (ws : List ℕ) → Weights ws → (vs : List Way) (x y : ℕ)
     → Le d (x * S ^ length ws) (S * mass ws (happens (group vs))) → Le d (y * S ^ length ws) (S * mass ws (happens (others vs)))
     → Le d (combine IndependentOr d ws x y * S ^ length ws) (S * mass ws (happens vs))
@@ -148,18 +159,13 @@ others-removes n (v ∷ vs) h e o =
     let r = names-some n v vs h (any-head isEmpty v vs e) in
     (r .0, r .1, or-first (bit (r .0) (faults v)) _ (r .2), others-off (groupFaults (v ∷ vs)) (r .0) (v ∷ vs) (first-faults v vs (r .0) (r .2)))
 
-part-lean : (b : Bool) (m : ℕ) (vs : List Way) → minimal vs ≡ vs → minimal (part b m vs) ≡ part b m vs
-part-lean b m vs e = ap minimal (part-sift b m vs) ∙ sift-lean _ vs e ∙ sym (part-sift b m vs)
+-- Either child is a part of the ways, by a test.
+or-sift : (b : Side) (vs : List Way) → (g : Way → Bool) × (child IndependentOr b vs ≡ sift g vs)
+unfolding child
+or-sift left vs = (_, part-sift true (groupFaults vs) vs)
+or-sift right vs = (_, part-sift false (groupFaults vs) vs)
 
-handed-lean : (all : List Way) (x : Node) → Handed all x → minimal (x .ways) ≡ x .ways
-handed-lean all x e = ap minimal e ∙ minimal-twice _ ∙ sym e
-
-of-part : (all : List Way) → Rising 0 all → (x : Node) → Handed all x → (b : Bool)
-    → part b (groupFaults (x .ways)) (x .ways) ≡ minimal (remaining (x .present) (x .absent) (ofSet (part b (groupFaults (x .ways)) (x .ways)) all))
-of-part all r x e b =
-    sym (part-lean b (groupFaults (x .ways)) (x .ways) (handed-lean all x e))
-    ∙ ap minimal (sym (part-set all r (hasNumber (x .set)) (x .present) (x .absent) (x .ways) e b (groupFaults (x .ways))))
-
+-- The laws of independent-or.
 independent-or-laws : Laws IndependentOr
 unfolding child childSet childFixed combine possible
 independent-or-laws =
@@ -169,20 +175,19 @@ independent-or-laws =
       keeps = keeps;
       removes = removes;
       lean = lean;
-      handed = handed;
+      told = told;
+      handed = λ all r b x e l p. sym (lean b (x .ways) p l) ∙ ap minimal (sym (told all r b x e p));
     }
   where
-    handed : (all : List Way) → Rising 0 all → (b : Side) (x : Node) → Handed all x → possible IndependentOr (x .ways) ≡ true → Handed all (childNode IndependentOr b x)
-    handed all r left x e p = of-part all r x e true
-    handed all r right x e p = of-part all r x e false
-
-    lean : (b : Side) (vs : List Way) → possible IndependentOr vs ≡ true → minimal vs ≡ vs → minimal (child IndependentOr b vs) ≡ child IndependentOr b vs
-    lean left vs p e = part-lean true (groupFaults vs) vs e
-    lean right vs p e = part-lean false (groupFaults vs) vs e
-
     keeps : (h : Way → Bool) → Stable h → (b : Side) (vs : List Way) → any h vs ≡ false → any h (child IndependentOr b vs) ≡ false
-    keeps h s left vs e = part-any h true (groupFaults vs) vs e
-    keeps h s right vs e = part-any h false (groupFaults vs) vs e
+    keeps h k b vs e = let s = or-sift b vs in rw (s .1) (sift-any h (s .0) vs e)
+
+    lean : (b : Side) (vs : List Way) → possible IndependentOr vs ≡ true → Lean vs → Lean (child IndependentOr b vs)
+    lean b vs p e = let s = or-sift b vs in rw (s .1) (sift-lean (s .0) vs e)
+
+    told : (all : List Way) → Rising 0 all → (b : Side) (x : Node) → Told all x → possible IndependentOr (x .ways) ≡ true
+        → Told all (childNode IndependentOr b x)
+    told all r b x e p = let s = or-sift b (x .ways) in rw (s .1) (part-told all r (hasNumber (x .ways)) (x .present) (x .absent) (x .ways) (sym e) (s .0))
 
     removes : (n : ℕ) (b : Side) (vs : List Way) → namesBeyond n vs ≡ false → any isEmpty vs ≡ false → nonempty vs ≡ true → possible IndependentOr vs ≡ true
         → (g : ℕ) × (g < n) × (occurs g vs ≡ true) × (occurs g (child IndependentOr b vs) ≡ false)
@@ -191,6 +196,7 @@ independent-or-laws =
 
 -- ---- Shannon expansion
 
+-- The exact sum is the weighted mean of those with the fault present and with it absent, and leaving ways out changes neither.
 fault-bound : (d : Dir) (ws : List ℕ) → Weights ws → (vs : List Way) (f : ℕ) → f < length ws → (x y : ℕ)
     → Le d (x * S ^ length ws) (S * mass ws (happens (minimal (remaining (2 ^ f) 0 vs)))) → Le d (y * S ^ length ws) (S * mass ws (happens (minimal (remaining 0 (2 ^ f) vs))))
     → Le d (combine (Shannon f) d ws x y * S ^ length ws) (S * mass ws (happens vs))
@@ -204,27 +210,22 @@ fault-bound d ws k vs f l x y p q =
     (rw (mass-cong ws (happens (minimal (remaining (2 ^ f) 0 vs))) (happens (remaining (2 ^ f) 0 vs)) (λ a e. minimal-happens (remaining (2 ^ f) 0 vs) a)) at p)
     (rw (mass-cong ws (happens (minimal (remaining 0 (2 ^ f) vs))) (happens (remaining 0 (2 ^ f) vs)) (λ a e. minimal-happens (remaining 0 (2 ^ f) vs) a)) at q)
 
--- A fault that occurs is not fixed yet.
-not-fixed : (f P A : ℕ) (us : List Way) → occurs f (remaining P A us) ≡ true → bit f (bitOr P A) ≡ false
-not-fixed f P A us o = is-false _ (λ b. true≢false (sym o ∙ fixed-gone f P A us b))
-
--- So fixing it is fixing one fault more.
-fix-more : (all : List Way) → Rising 0 all → (x : Node) (f P′ A′ : ℕ) → Handed all x → occurs f (x .ways) ≡ true → bitOr P′ A′ ≡ 2 ^ f
-    → remaining P′ A′ (x .ways) ≡ remaining (bitOr (x .present) P′) (bitOr (x .absent) A′) (ofSet (x .ways) all)
-fix-more all r x f P′ A′ h o q =
-    ap (remaining P′ A′) e ∙ fix-again (x .present) (x .absent) P′ A′ (rw q (apart-test (bitOr (x .present) (x .absent)) (2 ^ f) elsewhere)) (ofSet (x .ways) all)
+-- A fault that occurs is not fixed yet, so fixing it is fixing one fault more.
+fix-more : (all : List Way) (x : Node) (f P A : ℕ) → Told all x → occurs f (x .ways) ≡ true → bitOr P A ≡ 2 ^ f
+    → remaining P A (x .ways) ≡ remaining (bitOr (x .present) P) (bitOr (x .absent) A) (ofSet (x .ways) all)
+fix-more all x f P A e o q =
+    ap (remaining P A) (sym e)
+    ∙ fix-again (x .present) (x .absent) P A (rw q (apart-test (bitOr (x .present) (x .absent)) (2 ^ f) elsewhere)) (ofSet (x .ways) all)
   where
-    e : x .ways ≡ remaining (x .present) (x .absent) (ofSet (x .ways) all)
-    e = sym (own-set all r (hasNumber (x .set)) (x .present) (x .absent) (x .ways) h)
-
     free : bit f (bitOr (x .present) (x .absent)) ≡ false
-    free = not-fixed f (x .present) (x .absent) (ofSet (x .ways) all) (ap (occurs f) (sym e) ∙ o)
+    free = is-false _ (λ b. true≢false (sym o ∙ ap (occurs f) (sym e) ∙ fixed-gone f (x .present) (x .absent) (ofSet (x .ways) all) b))
 
     elsewhere : (i : ℕ) → bit i (bitOr (x .present) (x .absent)) ≡ true → bit i (2 ^ f) ≡ false
-    elsewhere i b = bit-pow i f ∙ ne-eqb i f (λ z. true≢false (sym b ∙ ap (λ (j : ℕ). bit j (bitOr (x .present) (x .absent))) z ∙ free))
+    elsewhere i b = bit-pow i f ∙ ne-eqb i f (λ z. true≢false (sym b ∙ rw z free))
 
+-- The laws of Shannon expansion, of any fault.
 shannon-laws : (f : ℕ) → Laws (Shannon f)
-unfolding child childSet childFixed combine possible occurs
+unfolding child childSet childFixed combine possible occurs minimal
 shannon-laws f =
     record {
       bound = λ d ws k vs h p x y. fault-bound d ws k vs f (occurs-below (length ws) f vs h p) x y;
@@ -232,12 +233,17 @@ shannon-laws f =
       keeps = keeps;
       removes = removes;
       lean = lean;
-      handed = handed;
+      told = told;
+      handed = λ all r b x e l p. handed all b x e p;
     }
   where
-    handed : (all : List Way) → Rising 0 all → (b : Side) (x : Node) → Handed all x → possible (Shannon f) (x .ways) ≡ true → Handed all (childNode (Shannon f) b x)
-    handed all r left x e p = ap minimal (fix-more all r x f (2 ^ f) 0 e p (or-zero-r (2 ^ f)) ∙ ap (λ (m : ℕ). remaining (bitOr (x .present) (2 ^ f)) m (ofSet (x .ways) all)) (or-zero-r (x .absent)))
-    handed all r right x e p = ap minimal (fix-more all r x f 0 (2 ^ f) e p (or-zero-l (2 ^ f)) ∙ ap (λ (m : ℕ). remaining m (bitOr (x .absent) (2 ^ f)) (ofSet (x .ways) all)) (or-zero-r (x .present)))
+    -- The child's set is the node's own ways, so that these are told by number is enough.
+    handed : (all : List Way) (b : Side) (x : Node) → Told all x → possible (Shannon f) (x .ways) ≡ true → Handed all (childNode (Shannon f) b x)
+    handed all left x e p = ap minimal (rw or-zero-r at (fix-more all x f (2 ^ f) 0 e p (or-zero-r (2 ^ f))))
+    handed all right x e p = ap minimal (rw or-zero-r at (fix-more all x f 0 (2 ^ f) e p (or-zero-l (2 ^ f))))
+
+    told : (all : List Way) → Rising 0 all → (b : Side) (x : Node) → Told all x → possible (Shannon f) (x .ways) ≡ true → Told all (childNode (Shannon f) b x)
+    told all r b x e p = rw (handed all b x e p) (part-told all r (hasNumber (x .ways)) _ _ _ refl _)
 
     itself : bit f (2 ^ f) ≡ true
     itself = bit-pow f f ∙ eq-eqb f f refl
@@ -246,7 +252,7 @@ shannon-laws f =
     keeps h s left vs e = minimal-any h (remaining (2 ^ f) 0 vs) (remaining-any h s (2 ^ f) 0 vs e)
     keeps h s right vs e = minimal-any h (remaining 0 (2 ^ f) vs) (remaining-any h s 0 (2 ^ f) vs e)
 
-    lean : (b : Side) (vs : List Way) → possible (Shannon f) vs ≡ true → minimal vs ≡ vs → minimal (child (Shannon f) b vs) ≡ child (Shannon f) b vs
+    lean : (b : Side) (vs : List Way) → possible (Shannon f) vs ≡ true → Lean vs → Lean (child (Shannon f) b vs)
     lean left vs p e = minimal-twice (remaining (2 ^ f) 0 vs)
     lean right vs p e = minimal-twice (remaining 0 (2 ^ f) vs)
 

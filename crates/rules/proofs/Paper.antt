@@ -1,5 +1,5 @@
--- The cases on paper, P1 to P9, as one list with one claim about the list, and the whole sheet that 01 prints (01, "On paper first").
--- The checker computes both from the definitions.
+-- The cases on paper, P1 to P9, as one list with one claim about the list, and the whole sheet that 01 prints (01, "On paper first"); A1 to A10 likewise,
+-- on ways that say nothing new (02, a). The checker computes all of them from the definitions.
 use mathlib.Core.Path.{_≡_, refl}
 use mathlib.Core.Bool.{Bool, true, false, _&&_, Bool·beq}
 use mathlib.Core.List.{List, [], _∷_}
@@ -8,19 +8,20 @@ use lib.ListN.{length}
 use lib.Dec.{eqb}
 use Rattle.rules.specs.Rounding.{S}
 use Rattle.rules.specs.Table.{Way, Table, ways, rows, absentRows}
-use Rattle.rules.specs.Leaf.{sift, surplus, minimal, any, remaining, isOpen}
+use Rattle.rules.specs.Leaf.{sift, redundant, minimal, any, remaining, isOpen}
 use Rattle.rules.specs.Group.{nonempty, fallApart}
 use Rattle.rules.specs.Tree.{rootWays, left, leaf, occurs, possible, child, combine, end, low, high, refineAt, inners, Refinement, grow, tree, leafWays, acceptable, seriesFrom, series}
 use Rattle.rules.specs.Run
 use Rattle.rules.specs.Refusals
 use Rattle.rules.specs.Calls
-use Rattle.rules.specs.Calls.{runAnswer}
+use Rattle.rules.specs.Calls.{Call, byHand, byRun, Outcome, handed, ran, openAnswer, runAnswer, outcome}
 use Rattle.rules.specs.Refusals.{tableNumber}
 use Rattle.rules.specs.Sheet
 use Rattle.rules.specs.Sheet.{Sheet, encode}
 use Rattle.rules.specs.Text
 use Rattle.rules.specs.Text.{bytes, text}
 use Rattle.rules.specs.declared.Limits.{Limits}
+use Rattle.rules.specs.declared.Answer.{Answer}
 use Rattle.rules.specs.declared.RunAnswer.{RunAnswer}
 use Rattle.rules.specs.declared.Verdict.{Verdict}
 use Rattle.rules.specs.declared.Verdict.the-variants.{Met, Done, Spent}
@@ -85,7 +86,7 @@ allHold (c ∷ cs) = holds c && allHold cs
 
 -- P1 TO P9 HOLD.
 pub on-paper : allHold cases ≡ true
-unfolding ways rows absentRows any remaining sift surplus minimal rootWays isOpen nonempty fallApart occurs possible child combine end low high refineAt inners grow leafWays acceptable seriesFrom tableNumber Refusals.tableRefusals Refusals.wayRefusals Refusals.first Refusals.faultsOutside Refusals.someAbove Refusals.overweight Refusals.wordsAmiss Refusals.namesBeyond Refusals.namesBoth
+unfolding ways rows absentRows any remaining sift redundant minimal rootWays isOpen nonempty fallApart occurs possible child combine end low high refineAt inners grow leafWays acceptable seriesFrom tableNumber Refusals.tableRefusals Refusals.wayRefusals Refusals.first Refusals.faultsOutside Refusals.someAbove Refusals.overweight Refusals.wordsAmiss Refusals.namesBeyond Refusals.namesBoth
 on-paper = refl
 
 -- ---- runs that 01 names: P3 with allowance 0 is done, with 1 is met, 0 refinements each; P4 with the printed sheet's limits
@@ -111,51 +112,76 @@ runs =
     ∷ (runAnswer p4 false leaf (limits 10000000 1), ended Spent 300000000 350000000 1)
     ∷ []
 
-abbrev AllEqual : List (RunAnswer × RunAnswer) → Type 0
+abbrev AllEqual : {A : Type 0} → List (A × A) → Type 0
 AllEqual [] = Unit {0}
 AllEqual (x ∷ xs) = (x .0 ≡ x .1) × AllEqual xs
 
 pub runs-on-paper : AllEqual runs
-unfolding absentRows rows ways any remaining sift surplus minimal rootWays isOpen nonempty fallApart occurs possible child combine end low high refineAt inners grow leafWays Run.from Run.wider Run.widest Run.named Run.mostNamed Run.choice Run.next Run.narrow Run.turn Run.picks Run.verdict Refusals.first Refusals.faultsOutside Refusals.someAbove Refusals.overweight Refusals.namesBeyond Refusals.namesBoth Refusals.allowanceAbove Refusals.budgetAbove Refusals.wayRefusals Refusals.limitRefusals Calls.runAnswer Calls.runAnswerBy Calls.runNumber Calls.runRefusals Calls.runMakes Calls.figures tableNumber Refusals.tableRefusals Refusals.wordsAmiss
+unfolding absentRows rows ways any remaining sift redundant minimal rootWays isOpen nonempty fallApart occurs possible child combine end low high refineAt inners grow leafWays Run.from Run.wider Run.widest Run.named Run.mostNamed Run.choice Run.next Run.narrow Run.turn Run.picks Run.verdict Refusals.first Refusals.faultsOutside Refusals.someAbove Refusals.overweight Refusals.namesBeyond Refusals.namesBoth Refusals.allowanceAbove Refusals.budgetAbove Refusals.wayRefusals Refusals.limitRefusals Calls.runAnswer Calls.runAnswerBy Calls.runNumber Calls.runRefusals Calls.runMakes Calls.figures tableNumber Refusals.tableRefusals Refusals.wordsAmiss
 runs-on-paper = (refl, (refl, (refl, (refl, (refl, (refl, (refl, tt)))))))
 
--- ---- (02, a) ways that say nothing new: runs with allowance 0 and budget 255, and two refinements by hand
+-- ---- ways that say nothing new: A1 to A10 (02, a)
 
-abbrev leanRuns : List (RunAnswer × RunAnswer)
-leanRuns =
-    -- A1, A2: a way that names more, the longer one first or last. A3: equal ways. A4: ways in different senses.
-    (runAnswer (table (500000000 ∷ 500000000 ∷ []) (1 ∷ 3 ∷ []) (0 ∷ 0 ∷ [])) false leaf (limits 0 255), ended Met 500000000 500000000 0)
-    ∷ (runAnswer (table (500000000 ∷ 300000000 ∷ []) (3 ∷ 1 ∷ []) (0 ∷ 0 ∷ [])) false leaf (limits 0 255), ended Met 500000000 500000000 0)
-    ∷ (runAnswer (table (250000000 ∷ 500000000 ∷ []) (0 ∷ 0 ∷ []) (1 ∷ 1 ∷ [])) false leaf (limits 0 255), ended Met 750000000 750000000 0)
-    ∷ (runAnswer (table (250000000 ∷ 500000000 ∷ []) (0 ∷ 1 ∷ []) (1 ∷ 0 ∷ [])) false leaf (limits 0 255), ended Met S S 1)
-    -- A5, A6: what a child leaves out, and that its own children do not get it back. A7: the lowest numbered of equals. A8: an empty way.
-    ∷ (runAnswer (table (200000000 ∷ 500000000 ∷ 250000000 ∷ []) (0 ∷ 2 ∷ 1 ∷ []) (2 ∷ 4 ∷ 4 ∷ [])) false leaf (limits 0 255), ended Met 875000000 875000000 1)
-    ∷ (runAnswer (table (500000000 ∷ 750000000 ∷ 250000000 ∷ []) (2 ∷ 5 ∷ 1 ∷ 4 ∷ 1 ∷ []) (0 ∷ 0 ∷ 4 ∷ 0 ∷ 2 ∷ [])) false leaf (limits 0 255), ended Met 906250000 906250000 4)
-    ∷ (runAnswer (table (750000000 ∷ 500000000 ∷ 200000000 ∷ []) (0 ∷ 2 ∷ 1 ∷ 0 ∷ 4 ∷ []) (1 ∷ 0 ∷ 0 ∷ 1 ∷ 0 ∷ [])) false leaf (limits 0 255), ended Met S S 2)
-    ∷ (runAnswer (table (500000000 ∷ 500000000 ∷ []) (1 ∷ 0 ∷ []) (0 ∷ 0 ∷ [])) false leaf (limits 0 255), ended Met S S 0)
+-- What is stated of a table, and of a call on its opened tree: the numbers of the ways that stay at the root, what the opening answers, whether the
+-- root leaf is open, and what the call hands back.
+record Shown : Type 0 where
+  staying : List ℕ
+  opening : Answer
+  opened : Bool
+  back : Outcome
+
+abbrev numbers : List Way → List ℕ
+numbers [] = []
+numbers (v ∷ vs) = v .number ∷ numbers vs
+
+-- By the definitions.
+abbrev shown : Table → Call → Shown
+shown t c = record { staying = numbers (rootWays t); opening = openAnswer t; opened = isOpen (t .weights) (rootWays t); back = outcome t leaf c }
+
+abbrev at : ℕ → ℕ → ℕ → Answer
+at l h n = Answer.Accepted (record { low = l; high = h; count = n })
+
+-- A root leaf that is closed, and the run that finds it so.
+abbrev closedRoot : List ℕ → ℕ → Shown
+closedRoot ns x = record { staying = ns; opening = at x x 0; opened = false; back = ran (ended Met x x 0) }
+
+-- A root leaf that is open from l to S, and a call that hands this back.
+abbrev openRoot : List ℕ → ℕ → Outcome → Shown
+openRoot ns l o = record { staying = ns; opening = at l S 0; opened = true; back = o }
+
+abbrev run : Call
+run = byRun (limits 0 255)
+
+-- The root by hand.
+abbrev byHandAtRoot : Kind → Call
+byHandAtRoot k = byHand [] k
+
+-- A1, A4, A10: a way that names more, the longer one last, first, and beside an empty way. A2, A7: of equal ways the lowest numbered. A3: one fault in
+-- both senses. A5: at a child. A6: a way left out at the root does not come back in a child. A8: ways may fall apart for want of what was left out.
+-- A9: a fault that only a left-out way names does not occur.
+abbrev redundancies : List (Shown × Shown)
+redundancies =
+    (shown (table (500000000 ∷ 500000000 ∷ []) (1 ∷ 3 ∷ []) (0 ∷ 0 ∷ [])) run, closedRoot (0 ∷ []) 500000000)
+    ∷ (shown (table (250000000 ∷ 500000000 ∷ []) (0 ∷ 0 ∷ []) (1 ∷ 1 ∷ [])) run, closedRoot (0 ∷ []) 750000000)
+    ∷ (shown (table (250000000 ∷ 500000000 ∷ []) (0 ∷ 1 ∷ []) (1 ∷ 0 ∷ [])) run, openRoot (0 ∷ 1 ∷ []) 750000000 (ran (ended Met S S 1)))
+    ∷ (shown (table (500000000 ∷ 300000000 ∷ []) (3 ∷ 1 ∷ []) (0 ∷ 0 ∷ [])) run, closedRoot (1 ∷ []) 500000000)
+    ∷ (shown (table (200000000 ∷ 500000000 ∷ 250000000 ∷ []) (0 ∷ 2 ∷ 1 ∷ []) (2 ∷ 4 ∷ 4 ∷ [])) run,
+    openRoot (0 ∷ 1 ∷ 2 ∷ []) 575000000 (ran (ended Met 875000000 875000000 1)))
+    ∷ (shown (table (500000000 ∷ 750000000 ∷ 250000000 ∷ []) (2 ∷ 5 ∷ 1 ∷ 4 ∷ 1 ∷ []) (0 ∷ 0 ∷ 4 ∷ 0 ∷ 2 ∷ [])) run,
+    openRoot (0 ∷ 2 ∷ 3 ∷ 4 ∷ []) 843750000 (ran (ended Met 906250000 906250000 4)))
+    ∷ (shown (table (750000000 ∷ 500000000 ∷ 200000000 ∷ []) (0 ∷ 2 ∷ 1 ∷ 0 ∷ 4 ∷ []) (1 ∷ 0 ∷ 0 ∷ 1 ∷ 0 ∷ [])) run,
+    openRoot (0 ∷ 1 ∷ 2 ∷ 4 ∷ []) 700000000 (ran (ended Met S S 2)))
+    ∷ (shown (table (500000000 ∷ 500000000 ∷ []) (3 ∷ 1 ∷ 2 ∷ []) (0 ∷ 0 ∷ 0 ∷ [])) (byHandAtRoot IndependentOr),
+    openRoot (1 ∷ 2 ∷ []) 750000000 (handed (at 750000000 750000000 1)))
+    ∷ (shown (table (500000000 ∷ 500000000 ∷ 500000000 ∷ []) (1 ∷ 2 ∷ 5 ∷ []) (0 ∷ 0 ∷ 0 ∷ [])) (byHandAtRoot (Shannon 2)),
+    openRoot (0 ∷ 1 ∷ []) 750000000 (handed (Answer.Refused 20)))
+    ∷ (shown (table (500000000 ∷ 500000000 ∷ []) (1 ∷ 0 ∷ []) (0 ∷ 0 ∷ [])) run, closedRoot (1 ∷ []) S)
     ∷ []
 
-pub lean-runs : AllEqual leanRuns
-unfolding absentRows rows ways any remaining sift surplus minimal rootWays isOpen nonempty fallApart occurs possible child combine end low high refineAt inners grow leafWays Run.from Run.wider Run.widest Run.named Run.mostNamed Run.choice Run.next Run.narrow Run.turn Run.picks Run.verdict Refusals.first Refusals.faultsOutside Refusals.someAbove Refusals.overweight Refusals.namesBeyond Refusals.namesBoth Refusals.allowanceAbove Refusals.budgetAbove Refusals.wayRefusals Refusals.limitRefusals Calls.runAnswer Calls.runAnswerBy Calls.runNumber Calls.runRefusals Calls.runMakes Calls.figures tableNumber Refusals.tableRefusals Refusals.wordsAmiss
-lean-runs = (refl, (refl, (refl, (refl, (refl, (refl, (refl, (refl, tt))))))))
-
--- A9: by hand, a leaf may fall apart for want of what was left out; A10: a fault that only left-out ways name does not occur.
-abbrev numbersOf : List Way → List ℕ
-numbersOf [] = []
-numbersOf (v ∷ vs) = v .number ∷ numbersOf vs
-
-abbrev a9 : Table
-a9 = table (500000000 ∷ 500000000 ∷ []) (3 ∷ 1 ∷ 2 ∷ []) (0 ∷ 0 ∷ 0 ∷ [])
-
-abbrev a10 : Table
-a10 = table (500000000 ∷ 500000000 ∷ 500000000 ∷ []) (1 ∷ 2 ∷ 5 ∷ []) (0 ∷ 0 ∷ 0 ∷ [])
-
-pub lean-by-hand : (holds (refined a9 750000000 S (atRoot IndependentOr ∷ []) 750000000 750000000) ≡ true)
-    × (acceptable a10 leaf (atRoot (Shannon 2)) ≡ false)
-    × (numbersOf (rootWays a10) ≡ 0 ∷ 1 ∷ [])
-    × (numbersOf (rootWays (table (500000000 ∷ []) (0 ∷ 1 ∷ 0 ∷ []) (1 ∷ 0 ∷ 1 ∷ []))) ≡ 0 ∷ 1 ∷ [])
-unfolding ways rows absentRows any remaining sift surplus minimal rootWays isOpen nonempty fallApart occurs possible child combine end low high refineAt inners grow leafWays acceptable seriesFrom tableNumber Refusals.tableRefusals Refusals.wayRefusals Refusals.first Refusals.faultsOutside Refusals.someAbove Refusals.overweight Refusals.wordsAmiss Refusals.namesBeyond Refusals.namesBoth
-lean-by-hand = (refl, refl, refl, refl)
+-- A1 TO A10 HOLD.
+pub redundant-on-paper : AllEqual redundancies
+unfolding absentRows rows ways any remaining sift redundant minimal rootWays isOpen nonempty fallApart occurs possible child combine end low high refineAt inners grow leafWays Run.from Run.wider Run.widest Run.named Run.mostNamed Run.choice Run.next Run.narrow Run.turn Run.picks Run.verdict Refusals.first Refusals.faultsOutside Refusals.someAbove Refusals.overweight Refusals.namesBeyond Refusals.namesBoth Refusals.allowanceAbove Refusals.budgetAbove Refusals.wayRefusals Refusals.limitRefusals Calls.runAnswer Calls.runAnswerBy Calls.runNumber Calls.runRefusals Calls.runMakes Calls.figures tableNumber Refusals.tableRefusals Refusals.wordsAmiss Calls.openAnswer Calls.answerBy Calls.outcome Calls.handAnswer Calls.handNumber Calls.handRefusals Calls.leafRefusals Calls.leafNamed Calls.noLeaf Calls.ofLeaf Calls.handMakes Calls.placeOf
+redundant-on-paper = (refl, (refl, (refl, (refl, (refl, (refl, (refl, (refl, (refl, (refl, tt))))))))))
 
 -- ---- the whole sheet
 
@@ -175,9 +201,9 @@ show-length = refl
 
 -- WHAT THE PROGRAM PRINTS for them, with budget 40 and with budget 1.
 pub sheet-text : text (encode (show 40)) ≡ bytes "cue low high steps verdict\n7 300000000 300000000 2 met\n9 0 0 0 met\n"
-unfolding absentRows rows ways any remaining sift surplus minimal rootWays isOpen nonempty fallApart occurs possible child combine end low high refineAt inners grow leafWays Run.from Run.wider Run.widest Run.named Run.mostNamed Run.choice Run.next Run.narrow Run.turn Run.picks Run.verdict Refusals.first Refusals.faultsOutside Refusals.cuesOutside Refusals.someAbove Refusals.rising Refusals.notRising Refusals.crowded Refusals.overweight Refusals.namesBeyond Refusals.namesBoth Refusals.allowanceAbove Refusals.budgetAbove Refusals.wayRefusals Refusals.limitRefusals Sheet.little Sheet.value Sheet.field Sheet.column Sheet.total Sheet.deal Sheet.sheetOf Sheet.weightsStart Sheet.bodiesStart Sheet.starts Sheet.headBytes Sheet.contentsBytes Sheet.weightsBytes Sheet.bodyBytes Sheet.bodiesBytes encode Sheet.listsIn Sheet.decode Sheet.sameNumbers Sheet.readRefusals Sheet.readNumber bytes Text.digits Text.decimal Text.word Text.line Text.lines Text.sheetText Text.textBy text
+unfolding absentRows rows ways any remaining sift redundant minimal rootWays isOpen nonempty fallApart occurs possible child combine end low high refineAt inners grow leafWays Run.from Run.wider Run.widest Run.named Run.mostNamed Run.choice Run.next Run.narrow Run.turn Run.picks Run.verdict Refusals.first Refusals.faultsOutside Refusals.cuesOutside Refusals.someAbove Refusals.rising Refusals.notRising Refusals.crowded Refusals.overweight Refusals.namesBeyond Refusals.namesBoth Refusals.allowanceAbove Refusals.budgetAbove Refusals.wayRefusals Refusals.limitRefusals Sheet.little Sheet.value Sheet.field Sheet.column Sheet.total Sheet.deal Sheet.sheetOf Sheet.weightsStart Sheet.bodiesStart Sheet.starts Sheet.headBytes Sheet.contentsBytes Sheet.weightsBytes Sheet.bodyBytes Sheet.bodiesBytes encode Sheet.listsIn Sheet.decode Sheet.sameNumbers Sheet.readRefusals Sheet.readNumber bytes Text.digits Text.decimal Text.word Text.line Text.lines Text.sheetText Text.textBy text
 sheet-text = refl
 
 pub sheet-text-1 : text (encode (show 1)) ≡ bytes "cue low high steps verdict\n7 300000000 350000000 1 spent\n9 0 0 0 met\n"
-unfolding absentRows rows ways any remaining sift surplus minimal rootWays isOpen nonempty fallApart occurs possible child combine end low high refineAt inners grow leafWays Run.from Run.wider Run.widest Run.named Run.mostNamed Run.choice Run.next Run.narrow Run.turn Run.picks Run.verdict Refusals.first Refusals.faultsOutside Refusals.cuesOutside Refusals.someAbove Refusals.rising Refusals.notRising Refusals.crowded Refusals.overweight Refusals.namesBeyond Refusals.namesBoth Refusals.allowanceAbove Refusals.budgetAbove Refusals.wayRefusals Refusals.limitRefusals Sheet.little Sheet.value Sheet.field Sheet.column Sheet.total Sheet.deal Sheet.sheetOf Sheet.weightsStart Sheet.bodiesStart Sheet.starts Sheet.headBytes Sheet.contentsBytes Sheet.weightsBytes Sheet.bodyBytes Sheet.bodiesBytes encode Sheet.listsIn Sheet.decode Sheet.sameNumbers Sheet.readRefusals Sheet.readNumber bytes Text.digits Text.decimal Text.word Text.line Text.lines Text.sheetText Text.textBy text
+unfolding absentRows rows ways any remaining sift redundant minimal rootWays isOpen nonempty fallApart occurs possible child combine end low high refineAt inners grow leafWays Run.from Run.wider Run.widest Run.named Run.mostNamed Run.choice Run.next Run.narrow Run.turn Run.picks Run.verdict Refusals.first Refusals.faultsOutside Refusals.cuesOutside Refusals.someAbove Refusals.rising Refusals.notRising Refusals.crowded Refusals.overweight Refusals.namesBeyond Refusals.namesBoth Refusals.allowanceAbove Refusals.budgetAbove Refusals.wayRefusals Refusals.limitRefusals Sheet.little Sheet.value Sheet.field Sheet.column Sheet.total Sheet.deal Sheet.sheetOf Sheet.weightsStart Sheet.bodiesStart Sheet.starts Sheet.headBytes Sheet.contentsBytes Sheet.weightsBytes Sheet.bodyBytes Sheet.bodiesBytes encode Sheet.listsIn Sheet.decode Sheet.sameNumbers Sheet.readRefusals Sheet.readNumber bytes Text.digits Text.decimal Text.word Text.line Text.lines Text.sheetText Text.textBy text
 sheet-text-1 = refl

@@ -48,7 +48,7 @@ remaining present absent (v ∷ vs) =
     elim (contradicted present absent v) as (λ b. List Way)
     [ true ↦ remaining present absent vs | false ↦ dropped (bitOr present absent) v ∷ remaining present absent vs ]
 
--- ---- ways that say nothing new
+-- ---- ways that say nothing new (02, a): they are left out at every leaf, once faults are fixed
 
 -- The ways of a list that pass a test.
 unfoldable pub sift : (Way → Bool) → List Way → List Way
@@ -63,15 +63,15 @@ subsumes u v = eqb (without (v .present) (u .present)) 0 && eqb (without (v .abs
 abbrev pub outdoes : Way → Way → Bool
 outdoes u v = subsumes u v && (not (subsumes v u) || ltb (u .number) (v .number))
 
--- The way says nothing new beside some way of the list.
-unfoldable pub surplus : List Way → Way → Bool
-surplus vs v = any (λ u. outdoes u v) vs
+-- Beside some way of the list it says nothing new (003: a redundant clause).
+unfoldable pub redundant : List Way → Way → Bool
+redundant vs v = any (λ u. outdoes u v) vs
 
--- What stays.
+-- What stays: the redundant ways are left out.
 unfoldable pub minimal : List Way → List Way
-minimal vs = sift (λ v. not (surplus vs v)) vs
+minimal vs = sift (λ v. not (redundant vs v)) vs
 
--- None of the ways says nothing new.
+-- Nothing is left to leave out.
 abbrev pub Lean : List Way → Type 0
 Lean vs = minimal vs ≡ vs
 

@@ -38,7 +38,8 @@ unfoldable pub possible : Kind → List Way → Bool
 possible IndependentOr vs = fallApart vs
 possible (Shannon f) vs = occurs f vs
 
--- The ways of a child: the first group and the other ways; or what remains with the fault fixed present and with it fixed absent.
+-- The ways of a child: the first group and the other ways, where all stay that stayed before; or what stays of those that remain with the fault
+-- fixed present, and with it fixed absent.
 unfoldable pub child : Kind → Side → List Way → List Way
 child IndependentOr left vs = group vs
 child IndependentOr right vs = others vs
@@ -165,7 +166,7 @@ pub record Node : Type 0 where
   pub absent : ℕ
   pub ways : List Way
 
--- A child's set: its group or the other ways; under a fault, its parent's set.
+-- A child's set: its group or the other ways; under a fault, what stays at its parent, so that a way left out there does not come back.
 unfoldable pub childSet : Kind → Side → List Way → List Way → List Way
 childSet IndependentOr b us vs = child IndependentOr b vs
 childSet (Shannon f) b us vs = vs
@@ -200,7 +201,7 @@ descend (b ∷ p) x leaf = none
 descend (left ∷ p) x (inner k l r) = descend p (childNode k left x) l
 descend (right ∷ p) x (inner k l r) = descend p (childNode k right x) r
 
--- The root: all ways, nothing fixed.
+-- The root: its set is all ways, and nothing is fixed.
 abbrev pub root : Table → Node
 root t = record { set = ways t; present = 0; absent = 0; ways = rootWays t }
 

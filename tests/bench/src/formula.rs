@@ -1,11 +1,11 @@
-//! The ways of a leaf and what follows from them: chances, both ends, groups and the fault named most.
+//! The ways of a leaf and what follows from them: what stays of them, chances, both ends, groups and the fault named most.
 //! The same loops as the library's `chances`, `clauses` and `formula`: no list of ways is written down.
 
 pub const S: u64 = 1_000_000_000;
 pub const MOST_WAYS: usize = 128;
 pub const MOST_FAULTS: usize = 64;
 
-#[derive(Clone, Copy)]
+#[derive(Clone, Copy, Default)]
 pub struct Way {
     pub number: usize,
     pub present: u64,
@@ -16,6 +16,21 @@ impl Way {
     pub fn faults(&self) -> u64 {
         self.present | self.absent
     }
+
+    /// One of these fixed faults is named in the other sense.
+    fn contradicted(&self, present: u64, absent: u64) -> bool {
+        (self.present & absent) | (self.absent & present) != 0
+    }
+
+    /// It says no more than the other, which names every fault of it in the same sense.
+    fn subsumes(&self, other: &Way) -> bool {
+        self.present & !other.present == 0 && self.absent & !other.absent == 0
+    }
+
+    /// Beside it the other says nothing new. Of equal ways the lowest number stays.
+    fn outdoes(&self, other: &Way) -> bool {
+        self.subsumes(other) && (!other.subsumes(self) || self.number < other.number)
+    }
 }
 
 /// A table as a call gets it.
@@ -24,6 +39,33 @@ pub struct Table<'a> {
     pub weights: &'a [u32],
     pub present: &'a [u64],
     pub absent: &'a [u64],
+}
+
+impl Table<'_> {
+    /// All its ways, in number order.
+    fn rows(&self) -> impl Iterator<Item = Way> + '_ {
+        let words = self.present.iter().zip(self.absent);
+        words.enumerate().map(|(number, (&present, &absent))| Way {
+            number,
+            present,
+            absent,
+        })
+    }
+
+    /// What stays of its ways, each tested against each: those that say nothing new are left out.
+    pub fn staying(&self) -> Clauses {
+        let mut kept = Clauses {
+            set: [0; 2],
+            present: 0,
+            absent: 0,
+        };
+        for way in self.rows() {
+            if !self.rows().any(|other| other.outdoes(&way)) {
+                kept.add(way.number);
+            }
+        }
+        kept
+    }
 }
 
 /// The ways of a leaf: those of a table with these numbers, less the fixed faults.
@@ -59,6 +101,10 @@ impl Clauses {
         })
     }
 
+    fn add(&mut self, number: usize) {
+        self.set[number / 64] |= 1 << (number % 64);
+    }
+
     /// Those that pass a test.
     fn keep(&self, table: &Table, mut test: impl FnMut(&Way) -> bool) -> Clauses {
         let mut kept = Clauses {
@@ -67,27 +113,80 @@ impl Clauses {
         };
         for way in self.ways(table) {
             if test(&way) {
-                kept.set[way.number / 64] |= 1 << (way.number % 64);
+                kept.add(way.number);
             }
         }
         kept
     }
 
-    /// What remains with more faults fixed.
-    pub fn restrict(&self, table: &Table, present: u64, absent: u64) -> Clauses {
-        let kept = self.keep(table, |way| {
-            (way.present & absent) | (way.absent & present) == 0
-        });
+    /// The same numbers with more faults fixed.
+    fn fixing(self, present: u64, absent: u64) -> Clauses {
         Clauses {
+            set: self.set,
             present: self.present | present,
             absent: self.absent | absent,
-            ..kept
+        }
+    }
+
+    /// What remains with more faults fixed.
+    pub fn restrict(&self, table: &Table, present: u64, absent: u64) -> Clauses {
+        self.keep(table, |way| !way.contradicted(present, absent))
+            .fixing(present, absent)
+    }
+
+    /// Those numbers that the other has not.
+    fn minus(&self, other: &Clauses) -> Clauses {
+        let set = [0, 1].map(|word| self.set[word] & !other.set[word]);
+        Clauses { set, ..*self }
+    }
+
+    /// A way that each of these subsumes.
+    fn cover(&self, table: &Table) -> Way {
+        self.ways(table).fold(Way::default(), |cover, way| Way {
+            number: 0,
+            present: cover.present | way.present,
+            absent: cover.absent | way.absent,
+        })
+    }
+
+    /// The ways by a fault, whose word is given.
+    pub fn by_fault(&self, table: &Table, word: u64) -> ByFault {
+        let named = self.part(table, word, true);
+        let others = self.minus(&named);
+        ByFault {
+            named,
+            others,
+            cover: others.cover(table),
         }
     }
 
     /// The ways that the word of faults touches, or those that it does not.
     pub fn part(&self, table: &Table, word: u64, touched: bool) -> Clauses {
         self.keep(table, |way| (word & way.faults() != 0) == touched)
+    }
+}
+
+/// The ways of a leaf by a fault: those that name it, the others, and a way that each of the others subsumes.
+pub struct ByFault {
+    named: Clauses,
+    others: Clauses,
+    cover: Way,
+}
+
+impl ByFault {
+    /// What stays with the fault fixed, where before each way said something new: a way that lost the fault stays, and leaves
+    /// out what it subsumes of the others, which is nothing if it does not even subsume their cover.
+    pub fn staying(&self, table: &Table, present: u64, absent: u64) -> Clauses {
+        let shorter = self.named.restrict(table, present, absent);
+        let mut kept = self.others;
+        for way in shorter.ways(table) {
+            if way.subsumes(&self.cover) {
+                let subsumed = kept.keep(table, |other| way.subsumes(other));
+                kept = kept.minus(&subsumed);
+            }
+        }
+        let set = [0, 1].map(|word| shorter.set[word] | kept.set[word]);
+        Clauses { set, ..shorter }
     }
 }
 

@@ -1,80 +1,92 @@
 //! The library through its C interface (include/cue_risk.h).
 
-use crate::formula::Table;
-use crate::run::Answer;
-use crate::tree::Tree;
+/// The functions of a build, by its symbols for `cue_sheet_report`, `cue_open` and `cue_run`.
+macro_rules! build {
+    ($report:literal, $open:literal, $run:literal) => {
+        use crate::formula::Table;
+        use crate::run::Answer;
+        use crate::tree::Tree;
 
-mod linked {
-    use super::{Answer, Tree};
+        extern "C" {
+            #[link_name = $report]
+            fn cue_sheet_report(
+                sheet: *const u8,
+                len: usize,
+                space: *mut u8,
+                room: usize,
+            ) -> Answer;
+            #[link_name = $open]
+            fn cue_open(
+                tree: *mut Tree,
+                weights: *const u32,
+                faults: usize,
+                present: *const u64,
+                presents: usize,
+                absent: *const u64,
+                absents: usize,
+            ) -> Answer;
+            #[link_name = $run]
+            fn cue_run(
+                tree: *mut Tree,
+                weights: *const u32,
+                faults: usize,
+                present: *const u64,
+                presents: usize,
+                absent: *const u64,
+                absents: usize,
+                allowance: u32,
+                budget: u16,
+            ) -> Answer;
+        }
 
-    extern "C" {
-        pub fn cue_sheet_report(
-            sheet: *const u8,
-            len: usize,
-            space: *mut u8,
-            room: usize,
-        ) -> Answer;
-        pub fn cue_open(
-            tree: *mut Tree,
-            weights: *const u32,
-            faults: usize,
-            present: *const u64,
-            presents: usize,
-            absent: *const u64,
-            absents: usize,
-        ) -> Answer;
-        pub fn cue_run(
-            tree: *mut Tree,
-            weights: *const u32,
-            faults: usize,
-            present: *const u64,
-            presents: usize,
-            absent: *const u64,
-            absents: usize,
-            allowance: u32,
-            budget: u16,
-        ) -> Answer;
-    }
-}
+        /// The report of a sheet at the front of the space; its length.
+        pub fn report(sheet: &[u8], space: &mut [u8]) -> usize {
+            // Sound: both are lent for the call, with their lengths.
+            let answer = unsafe {
+                cue_sheet_report(sheet.as_ptr(), sheet.len(), space.as_mut_ptr(), space.len())
+            };
+            assert_eq!(answer.number, 0);
+            answer.count as usize
+        }
 
-/// The report of a sheet at the front of the space; its length.
-pub fn report(sheet: &[u8], space: &mut [u8]) -> usize {
-    // Sound: both are lent for the call, with their lengths.
-    let answer = unsafe {
-        linked::cue_sheet_report(sheet.as_ptr(), sheet.len(), space.as_mut_ptr(), space.len())
+        pub fn open(tree: &mut Tree, table: &Table) -> Answer {
+            // Sound: the tree has the header's layout, and all is lent for the call, with its lengths.
+            unsafe {
+                cue_open(
+                    tree,
+                    table.weights.as_ptr(),
+                    table.weights.len(),
+                    table.present.as_ptr(),
+                    table.present.len(),
+                    table.absent.as_ptr(),
+                    table.absent.len(),
+                )
+            }
+        }
+
+        pub fn run(tree: &mut Tree, table: &Table, allowance: u32, budget: u16) -> Answer {
+            // Sound: as above.
+            unsafe {
+                cue_run(
+                    tree,
+                    table.weights.as_ptr(),
+                    table.weights.len(),
+                    table.present.as_ptr(),
+                    table.present.len(),
+                    table.absent.as_ptr(),
+                    table.absent.len(),
+                    allowance,
+                    budget,
+                )
+            }
+        }
     };
-    assert_eq!(answer.number, 0);
-    answer.count as usize
 }
 
-pub fn open(tree: &mut Tree, table: &Table) -> Answer {
-    // Sound: the tree has the header's layout, and all is lent for the call, with its lengths.
-    unsafe {
-        linked::cue_open(
-            tree,
-            table.weights.as_ptr(),
-            table.weights.len(),
-            table.present.as_ptr(),
-            table.present.len(),
-            table.absent.as_ptr(),
-            table.absent.len(),
-        )
-    }
-}
+build!("cue_sheet_report", "cue_open", "cue_run");
 
-pub fn run(tree: &mut Tree, table: &Table, allowance: u32, budget: u16) -> Answer {
-    // Sound: as above.
-    unsafe {
-        linked::cue_run(
-            tree,
-            table.weights.as_ptr(),
-            table.weights.len(),
-            table.present.as_ptr(),
-            table.present.len(),
-            table.absent.as_ptr(),
-            table.absent.len(),
-            allowance,
-            budget,
-        )
-    }
+/// Another build, linked by `tests/bench.sh beside` alone.
+#[cfg(beside)]
+pub mod other {
+    build!("other_cue_sheet_report", "other_cue_open", "other_cue_run");
 }

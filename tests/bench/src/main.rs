@@ -2,14 +2,19 @@
 //! Both sides alternate; a time is the median of the rounds. Every report, answer and tree has to be equal.
 //!
 //! `bench`: the tables. `bench stack`: the stack that the largest sheet needs. `bench once SIDE FAMILY`: one sheet, for a profiler.
+//! `bench beside`, if another build is linked: the tables for that and this one.
 
 use std::hint::black_box;
 use std::time::Duration;
 
 use bench::formula::Table;
 use bench::run::{self, Answer};
+use bench::sheets::Shape;
 use bench::tree::Tree;
 use bench::{clock, library, sheet, sheets};
+
+#[cfg(beside)]
+mod beside;
 
 /// More than the longest report: 27 bytes and 24 lines of 38.
 const ROOM: usize = 1024;
@@ -33,6 +38,12 @@ fn steps(text: &[u8]) -> u64 {
     text.lines().skip(1).map(count).sum()
 }
 
+/// Refinements a sheet.
+fn refinements(report: Report, sheets: &[Vec<u8>]) -> f64 {
+    let made: u64 = sheets.iter().map(|sheet| steps(&text(report, sheet))).sum();
+    made as f64 / sheets.len() as f64
+}
+
 /// The time of so many reports of each sheet.
 fn time(report: Report, sheets: &[Vec<u8>], repeat: u32) -> Duration {
     let mut space = [0; ROOM];
@@ -50,63 +61,66 @@ fn median(mut times: Vec<f64>) -> f64 {
     times[times.len() / 2]
 }
 
-struct Measured {
-    /// Microseconds a sheet.
-    library: f64,
-    rust: f64,
+/// Of two sides: microseconds of each, and the first to the second.
+struct Medians {
+    times: [f64; 2],
     ratio: f64,
-    /// Refinements a sheet.
-    steps: f64,
 }
 
-/// Compares the two sides on the sheets, then measures them in turn.
-fn measure(sheets: &[Vec<u8>]) -> Measured {
-    let mut made = 0;
-    for sheet in sheets {
-        let ours = text(library::report, sheet);
-        assert!(ours == text(sheet::report, sheet), "the reports differ");
-        made += steps(&ours);
-    }
-    let once = time(sheet::report, sheets, 1).max(Duration::from_nanos(1));
-    let repeat = (LEAST.as_nanos() / once.as_nanos() + 1) as u32;
-    let count = sheets.len() as f64;
-    let micros =
-        |report| time(report, sheets, repeat).as_secs_f64() * 1e6 / f64::from(repeat) / count;
-    let (mut library, mut rust, mut ratio) = (Vec::new(), Vec::new(), Vec::new());
+/// Measures two sides in turn.
+fn in_turn<S: Copy>(sides: [S; 2], mut micros: impl FnMut(S) -> f64) -> Medians {
+    let (mut first, mut second, mut ratio) = (Vec::new(), Vec::new(), Vec::new());
     for _ in 0..ROUNDS {
-        let ours = micros(library::report);
-        let theirs = micros(sheet::report);
-        library.push(ours);
-        rust.push(theirs);
+        let [ours, theirs] = sides.map(&mut micros);
+        first.push(ours);
+        second.push(theirs);
         ratio.push(ours / theirs);
     }
-    Measured {
-        library: median(library),
-        rust: median(rust),
+    Medians {
+        times: [median(first), median(second)],
         ratio: median(ratio),
-        steps: made as f64 / count,
     }
 }
 
-fn line(name: &str, shape: &sheets::Shape) {
-    let sheets: Vec<_> = (1..=SEEDS).map(|seed| sheets::sheet(shape, seed)).collect();
-    let m = measure(&sheets);
-    let each = |time: f64| {
-        if m.steps == 0.0 {
-            "-".to_string()
-        } else {
-            format!("{:.2}", time / m.steps)
-        }
-    };
+/// Microseconds a sheet.
+fn measure(sides: [Report; 2], sheets: &[Vec<u8>]) -> Medians {
+    let [a, b] = sides.map(|report| time(report, sheets, 1));
+    let once = a.min(b).max(Duration::from_nanos(1));
+    let repeat = (LEAST.as_nanos() / once.as_nanos() + 1) as u32;
+    let reports = f64::from(repeat) * sheets.len() as f64;
+    in_turn(sides, |report| {
+        time(report, sheets, repeat).as_secs_f64() * 1e6 / reports
+    })
+}
+
+fn seeded(shape: &Shape) -> Vec<Vec<u8>> {
+    (1..=SEEDS).map(|seed| sheets::sheet(shape, seed)).collect()
+}
+
+/// Microseconds a refinement.
+fn each(time: f64, steps: f64) -> String {
+    if steps == 0.0 {
+        return "-".to_string();
+    }
+    format!("{:.2}", time / steps)
+}
+
+/// Compares and measures the two sides on the sheets of a shape.
+fn line(name: &str, shape: &Shape) {
+    let sheets = seeded(shape);
+    let sides: [Report; 2] = [library::report, sheet::report];
+    for sheet in &sheets {
+        let [ours, theirs] = sides.map(|report| text(report, sheet));
+        assert!(ours == theirs, "the reports differ");
+    }
+    let steps = refinements(library::report, &sheets);
+    let Medians { times, ratio } = measure(sides, &sheets);
+    let [library, rust] = times;
     println!(
-        "| {name} | {} | {:.0} | {:.1} | {:.1} | {} | {} | {:.2} |",
+        "| {name} | {} | {steps:.0} | {library:.1} | {rust:.1} | {} | {} | {ratio:.2} |",
         sheets[0].len(),
-        m.steps,
-        m.library,
-        m.rust,
-        each(m.library),
-        each(m.rust),
-        m.ratio
+        each(library, steps),
+        each(rust, steps)
     );
 }
 
@@ -119,54 +133,56 @@ fn heading(first: &str) {
 
 type Open = fn(&mut Tree, &Table) -> Answer;
 type Run = fn(&mut Tree, &Table, u32, u16) -> Answer;
+type Calls = (Open, Run);
+type Rows = (Vec<u32>, Vec<u64>, Vec<u64>);
 
 /// A table opened and run in eight pieces of the budget; the tree and the answers of the calls.
-fn pieces(open: Open, run: Run, table: &Table, budget: u16, tree: &mut Tree) -> [Answer; 8] {
-    open(tree, table);
-    [(); 8].map(|()| run(tree, table, 0, budget / 8))
+fn pieces((open, run): Calls, rows: &Rows, budget: u16, tree: &mut Tree) -> [Answer; 8] {
+    let (weights, present, absent) = rows;
+    let table = Table {
+        weights,
+        present,
+        absent,
+    };
+    open(tree, &table);
+    [(); 8].map(|()| run(tree, &table, 0, budget / 8))
+}
+
+/// Microseconds of the eight calls.
+fn measure_pieces(sides: [Calls; 2], rows: &Rows, budget: u16) -> Medians {
+    let mut tree = Tree::new();
+    in_turn(sides, |calls| {
+        let start = clock::now();
+        for _ in 0..4 {
+            black_box(pieces(calls, black_box(rows), budget, &mut tree));
+        }
+        (clock::now() - start).as_secs_f64() * 1e6 / 4.0
+    })
 }
 
 /// Compares and measures eight calls on the table of the shape's first cue.
-fn pieces_line(name: &str, shape: &sheets::Shape) {
-    let (weights, present, absent) = sheets::first_table(shape, 1);
-    let table = Table {
-        weights: &weights,
-        present: &present,
-        absent: &absent,
-    };
+fn pieces_line(name: &str, shape: &Shape) {
+    let rows = sheets::first_table(shape, 1);
+    let sides: [Calls; 2] = [(library::open, library::run), (run::open, run::run)];
     let mut trees = [Tree::new(), Tree::new()];
     let [a, b] = &mut trees;
-    let budget = shape.budget;
-    let ours = pieces(library::open, library::run, &table, budget, a);
-    assert!(
-        ours == pieces(run::open, run::run, &table, budget, b),
-        "the answers differ"
-    );
+    let ours = pieces(sides[0], &rows, shape.budget, a);
+    let theirs = pieces(sides[1], &rows, shape.budget, b);
+    assert!(ours == theirs, "the answers differ");
     assert!(a == b, "the trees differ");
-    let (mut library, mut rust, mut ratio) = (Vec::new(), Vec::new(), Vec::new());
-    for _ in 0..ROUNDS {
-        let mut micros = |open: Open, run: Run| {
-            let start = clock::now();
-            for _ in 0..4 {
-                black_box(pieces(open, run, black_box(&table), budget, a));
-            }
-            (clock::now() - start).as_secs_f64() * 1e6 / 4.0
-        };
-        let ours = micros(library::open, library::run);
-        let theirs = micros(run::open, run::run);
-        library.push(ours);
-        rust.push(theirs);
-        ratio.push(ours / theirs);
-    }
-    println!(
-        "| {name} | {:.0} | {:.0} | {:.2} |",
-        median(library),
-        median(rust),
-        median(ratio)
-    );
+    let Medians { times, ratio } = measure_pieces(sides, &rows, shape.budget);
+    let [library, rust] = times;
+    println!("| {name} | {library:.0} | {rust:.0} | {ratio:.2} |");
 }
 
-fn tables() {
+fn pieces_heading(first: &str) {
+    println!("\n| {first} | library, µs | Rust, µs | ratio |\n|---|---|---|---|");
+}
+
+type Heading = fn(&str);
+type Line = fn(&str, &Shape);
+
+fn tables(heading: Heading, line: Line, pieces_heading: Heading, pieces_line: Line) {
     heading("family");
     for (name, shape) in sheets::families() {
         line(name, &shape);
@@ -175,7 +191,7 @@ fn tables() {
     for (name, value, shape) in sheets::growth() {
         line(&format!("{value} {name}"), &shape);
     }
-    println!("\n| one cue, opened and run in eight calls | library, µs | Rust, µs | ratio |\n|---|---|---|---|");
+    pieces_heading("one cue, opened and run in eight calls");
     for (name, shape) in sheets::families() {
         if shape.ways > 0 {
             pieces_line(name, &shape);
@@ -232,7 +248,14 @@ fn main() {
     let arguments: Vec<String> = std::env::args().skip(1).collect();
     let words: Vec<&str> = arguments.iter().map(String::as_str).collect();
     match words[..] {
-        [] => tables(),
+        [] => tables(heading, line, pieces_heading, pieces_line),
+        #[cfg(beside)]
+        ["beside"] => tables(
+            beside::heading,
+            beside::line,
+            beside::pieces_heading,
+            beside::pieces_line,
+        ),
         ["stack"] => {
             for name in ["library", "rust"] {
                 println!(
@@ -253,6 +276,6 @@ fn main() {
                 String::from_utf8(text(side(name), &sheets::sheet(shape, 1))).unwrap()
             );
         }
-        _ => panic!("usage: bench [stack | once library|rust FAMILY]"),
+        _ => panic!("usage: bench [stack | once library|rust FAMILY | beside]"),
     }
 }

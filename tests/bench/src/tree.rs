@@ -74,6 +74,12 @@ fn leaf(table: &Table, ways: &Clauses, parent: usize) -> Node {
     }
 }
 
+/// Kept out of line, so that `open` is short enough to be put in line: then a tree that is made and opened is cleared once.
+#[inline(never)]
+fn root_leaf(table: &Table) -> Node {
+    leaf(table, &table.staying(), 0)
+}
+
 impl Tree {
     pub const fn new() -> Tree {
         Tree {
@@ -83,13 +89,9 @@ impl Tree {
     }
 
     pub fn open(&mut self, table: &Table) {
-        let all = Clauses {
-            set: all_numbers(table.present.len()),
-            present: 0,
-            absent: 0,
-        };
+        let root = root_leaf(table);
         self.nodes.fill(NO_NODE);
-        self.nodes[0] = leaf(table, &all, 0);
+        self.nodes[0] = root;
         self.used = 1;
     }
 
@@ -147,7 +149,8 @@ impl Tree {
             }
             Kind::Shannon(fault) => {
                 let bit = 1 << fault;
-                [ways.restrict(table, bit, 0), ways.restrict(table, 0, bit)]
+                let by_fault = ways.by_fault(table, bit);
+                [(bit, 0), (0, bit)].map(|(p, a)| by_fault.staying(table, p, a))
             }
         };
         self.nodes[left] = leaf(table, &children[0], at);
@@ -253,9 +256,4 @@ fn possible(told: &Node, table: &Table, ways: &Clauses) -> Option<Kind> {
     let fault = told.fault as usize;
     let occurs = fault < MOST_FAULTS && ways.ways(table).any(|way| way.faults() >> fault & 1 == 1);
     occurs.then_some(Kind::Shannon(fault))
-}
-
-fn all_numbers(count: usize) -> [u64; 2] {
-    let below = |n: usize| if n >= 64 { !0 } else { (1u64 << n) - 1 };
-    [below(count), below(count.saturating_sub(64))]
 }

@@ -6,7 +6,7 @@ use borrow.Author.Needs.{needs}
 use lib.ListN.{length}
 use Rattle.rules.specs.Group.{touches}
 use Rattle.clauses.specs.Leaves.{waysOf}
-use Rattle.clauses.proofs.Filter.{Sifting, numbered, begun, turn, ended, passing-part}
+use Rattle.clauses.proofs.Filter.{Sifting, numbered, begun, turn, all-kept, ended, passing-part}
 use Rattle.clauses.proofs.Loops.{fewer}
 use Rattle.clauses.proofs.keeping.part.Statement.{statement}
 use Rattle.clauses.proofs.keeping.part.Tie as tie
@@ -57,7 +57,7 @@ returns c =
     let l = c .before .before .loop in
     let a = c .before .before .before .before .before .args in
     let e = ended _ _ _ _ _ _ _ (l .inv) (search needs) (c .if1 .left) (λ v. v) (λ v. refl) in
-    (e .0 ∙ passing-part (a .touched) (a .m) (waysOf (a .present .now) (a .absent .now) (a .c)), e .1, l .inv .kept-present, l .inv .kept-absent)
+    (e .0 ∙ passing-part (a .touched) (a .m) (waysOf (a .present .now) (a .absent .now) (a .c)), e .1, l .inv .kept-present, l .inv .kept-absent, all-kept _ _ _ _ _ _ _ (l .inv) (search needs) (c .if1 .left))
 
 pub part-spec : {M : Type 1} → statement M
 part-spec =

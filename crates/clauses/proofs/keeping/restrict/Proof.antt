@@ -7,7 +7,7 @@ use lib.ListN.{length}
 use lib.Bits.{bitOr}
 use Rattle.rules.specs.Leaf.{contradicted, dropped}
 use Rattle.clauses.specs.Leaves.{waysOf}
-use Rattle.clauses.proofs.Filter.{Sifting, numbered, begun, turn, ended, passing-remaining, fixed-more}
+use Rattle.clauses.proofs.Filter.{Sifting, numbered, begun, turn, all-kept, ended, passing-remaining, fixed-more}
 use Rattle.clauses.proofs.Loops.{fewer}
 use Rattle.clauses.proofs.keeping.restrict.Statement.{statement}
 use Rattle.clauses.proofs.keeping.restrict.Tie as tie
@@ -56,7 +56,7 @@ returns c =
     let l = c .before .before .loop in
     let a = c .before .before .before .before .before .before .before .args in
     let e = ended _ _ _ _ _ _ _ (l .inv) (search needs) (c .if1 .left) (dropped (bitOr (a .p) (a .q))) (fixed-more (a .c) (a .p) (a .q)) in
-    (e .0 ∙ passing-remaining (a .p) (a .q) _, e .1, l .inv .kept-present, l .inv .kept-absent)
+    (e .0 ∙ passing-remaining (a .p) (a .q) _, e .1, l .inv .kept-present, l .inv .kept-absent, all-kept _ _ _ _ _ _ _ (l .inv) (search needs) (c .if1 .left))
 
 pub restrict-spec : {M : Type 1} → statement M
 restrict-spec =

@@ -1,33 +1,37 @@
--- `subsumes` meets its contract: what the first way names beyond the second, in one word, is nothing just if both senses leave nothing.
--- Rests on Words.antt and on `rules`, Bits.
-use mathlib.Core.Path.{_≡_, ap₂, _∙_}
-use mathlib.Core.Bool.{_&&_}
+-- `subsumes` meets its contract, sense by sense: what the first way names beyond the second is nothing.
+-- Rests on Words.antt.
+use mathlib.Core.Path.{_≡_, refl, sym, ap, _∙_}
+use mathlib.Core.Bool.{true, false}
 use Prim.Native.Nat.{ℕ}
 use borrow.Author.Needs.{needs}
-use borrow.Author.Tests.{eqb-true, eq-eqb}
-use lib.Bits.{bitOr}
+use borrow.Author.Tests.{eq-eqb, ne-eqb}
 use lib.Dec.{eqb}
-use Rattle.rules.specs.Leaf.{without}
-use Rattle.rules.proofs.Booleans.{and-left, and-right, and-both, same-test}
-use Rattle.rules.proofs.Bits.{or-zero}
+use Rattle.rules.specs.declared.Way.{Way}
+use Rattle.rules.specs.Leaf.{without, subsumes}
 use Rattle.clauses.proofs.Words.{and-not}
 use Rattle.clauses.proofs.staying.subsumes.Statement.{statement}
 use Rattle.clauses.proofs.staying.subsumes.Tie as tie
 
-neither : (x y : ℕ) → eqb (bitOr x y) 0 ≡ eqb x 0 && eqb y 0
-neither x y =
-    same-test (eqb (bitOr x y) 0) (eqb x 0 && eqb y 0)
-    (λ h. let z = or-zero x y (eqb-true (bitOr x y) 0 h) in and-both (eqb x 0) (eqb y 0) (eq-eqb x 0 (z .0)) (eq-eqb y 0 (z .1)))
-    (λ h. eq-eqb (bitOr x y) 0
-    (ap₂ bitOr (eqb-true x 0 (and-left (eqb x 0) (eqb y 0) h)) (eqb-true y 0 (and-right (eqb x 0) (eqb y 0) h))))
+module _ (u v : Way) (p : ℕ) (is : p ≡ without (v .present) (u .present)) where
+  -- A fault that only the first names present settles it.
+  named-beyond : (p ≡ 0 → ⊥) → false ≡ subsumes u v
+  named-beyond h = rw (sym is, ne-eqb p 0 h)
+
+  -- Otherwise the absent words do.
+  by-absent : p ≡ 0 → (q : ℕ) → q ≡ without (v .absent) (u .absent) → eqb q 0 ≡ subsumes u v
+  by-absent h q e = rw (sym is, eq-eqb p 0 h, sym e)
 
 returns : tie.Need-returns
 returns c =
-    let u = c .before .before .before .before .args .u in
-    let v = c .before .before .before .before .args .v in
-    ap₂ (λ (x y : ℕ). eqb (bitOr x y) 0)
-    (and-not 64 (u .present) (v .present) (search needs) (search needs)) (and-not 64 (u .absent) (v .absent) (search needs) (search needs))
-    ∙ neither (without (v .present) (u .present)) (without (v .absent) (u .absent))
+    let a = c .before .before .before .args in
+    named-beyond (a .u) (a .v) _ (and-not 64 (a .u .present) (a .v .present) (search needs) (search needs)) (c .if1 .taken)
+
+returns-2 : tie.Need-returns-2
+returns-2 c =
+    let i = c .before .before in
+    let a = i .before .before .before .args in
+    by-absent (a .u) (a .v) _ (and-not 64 (a .u .present) (a .v .present) (search needs) (search needs)) (i .if1 .left)
+    _ (and-not 64 (a .u .absent) (a .v .absent) (search needs) (search needs))
 
 pub subsumes-spec : {M : Type 1} → statement M
-subsumes-spec = tie.close (tie.spec returns)
+subsumes-spec = tie.close (tie.spec returns returns-2)

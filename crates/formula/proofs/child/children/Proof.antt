@@ -1,6 +1,6 @@
 -- `children` meets its contract, by the kind.
--- Rests on the contracts of `group_faults`, `part`, `one_bit` and `staying`.
-use mathlib.Core.Path.{_≡_, refl, sym, ap, _∙_}
+-- Rests on the contracts of `group_faults`, `part`, `one_bit`, `by_fault` and `staying`.
+use mathlib.Core.Path.{_≡_, refl, sym, ap, _∙_, subst}
 use mathlib.Core.Bool.{true, false}
 use mathlib.Core.List.{List}
 use Prim.Native.Nat.{ℕ, _^_, _<_}
@@ -12,8 +12,9 @@ use Rattle.rules.specs.declared.Kind.the-variants.{IndependentOr, Shannon}
 use Rattle.rules.specs.Leaf.{remaining, minimal}
 use Rattle.rules.specs.Group.{part, groupFaults}
 use Rattle.rules.specs.Tree.{Side, left, right, child, childFixed}
+use Rattle.clauses.specs.declared.ByFault.{ByFault}
 use Rattle.clauses.specs.declared.Clauses.{Clauses}
-use Rattle.clauses.specs.Leaves.{waysOf, Within}
+use Rattle.clauses.specs.Leaves.{waysOf, Within, Divided}
 use Rattle.formula.specs.declared.Children.{Children}
 use Rattle.formula.specs.Leaves.{FaultFits, Part, Parts}
 use Rattle.formula.proofs.child.children.Statement.{statement}
@@ -57,10 +58,9 @@ module _ (ps qs : List ℕ) (c : Clauses) where
               one (Shannon f) right y t (ap (λ (n : ℕ). minimal (remaining 0 n (waysOf ps qs c))) e) (or-zero-r (c .present)) (ap (bitOr (c .absent)) e);
         }
 
-  -- What `staying` asks of the ways that name the fault f, where m is its word and n the same word with the other sense's, which is 0.
-  asks : (d : Clauses) (f m n : ℕ) → m ≡ 2 ^ f → n ≡ m → Made d (part true m (waysOf ps qs c)) (c .present) (c .absent)
-      → Within ps qs d × (waysOf ps qs d ≡ part true n (waysOf ps qs c)) × ((g : ℕ) × (n ≡ 2 ^ g))
-  asks d f m n e z h = (h .1, h .0 ∙ ap (λ (k : ℕ). part true k (waysOf ps qs c)) (sym z), (f, z ∙ e))
+  -- What `staying` asks of the ways by the fault f, where m is its word and n the same word with the other sense's, which is 0.
+  asks : (d : ByFault) (f m n : ℕ) → m ≡ 2 ^ f → n ≡ m → Divided ps qs c m d → Divided ps qs c n d × ((g : ℕ) × (n ≡ 2 ^ g))
+  asks d f m n e z h = (subst (λ (k : ℕ). Divided ps qs c k d) (sym z) h, (f, z ∙ e))
 
   -- The kind is this one.
   of-kind : {k j : Kind} {r : Children} → k ≡ j → Parts ps qs c j r → Parts ps qs c k r
@@ -87,28 +87,32 @@ cast-one-bit c = search needs
 one-bit-requires : tie.Need-one-bit-requires
 one-bit-requires c κs = fits _ _ (c .before .k .given .1) (c .before .before .before .before .before .pre .0)
 
-part-requires-3 : tie.Need-part-requires-3
-part-requires-3 c κs = search needs
+by-fault-requires : tie.Need-by-fault-requires
+by-fault-requires c κs = search needs
 
 staying-requires : tie.Need-staying-requires
 staying-requires c κs =
     let o = c .before in
     let b = o .before .before .before .before .before .before in
-    let h = asks _ _ (b .args .c) (c .part3 .result) _ (o .one-bit .result) (bitOr (o .one-bit .result) 0) (o .one-bit .ensures) (or-zero-r (o .one-bit .result)) (c .part3 .ensures) in
-    (b .pre .1 .0, (b .pre .1 .1, (h .0, (h .1, h .2))))
+    let w = o .one-bit .result in
+    let h = asks _ _ (b .args .c) (c .by-fault .result) _ w (bitOr w 0) (o .one-bit .ensures) (or-zero-r w) (c .by-fault .ensures) in
+    (b .pre .1 .1, h)
 
 staying-requires-2 : tie.Need-staying-requires-2
 staying-requires-2 c κs =
     let d = c .before in
     let o = d .before in
     let b = o .before .before .before .before .before .before in
-    let h = asks _ _ (b .args .c) (d .part3 .result) _ (o .one-bit .result) (bitOr 0 (o .one-bit .result)) (o .one-bit .ensures) (or-zero-l (o .one-bit .result)) (d .part3 .ensures) in
-    (b .pre .1 .0, (b .pre .1 .1, (h .0, (h .1, h .2))))
+    let w = o .one-bit .result in
+    let h = asks _ _ (b .args .c) (d .by-fault .result) _ w (bitOr 0 w) (o .one-bit .ensures) (or-zero-l w) (d .by-fault .ensures) in
+    (b .pre .1 .1, h)
 
 returns : tie.Need-returns
 returns c =
+    let l = c .before .part .ensures in
+    let r = c .part2 .ensures in
     of-kind _ _ _ (c .before .before .before .enum-told .given .1)
-    (by-groups _ _ _ _ _ _ (c .before .before .group-faults .ensures) (c .before .part .ensures) (c .part2 .ensures))
+    (by-groups _ _ _ _ _ _ (c .before .before .group-faults .ensures) (l .0, l .1, l .2, l .3) (r .0, r .1, r .2, r .3))
 
 returns-2 : tie.Need-returns-2
 returns-2 c =
@@ -126,7 +130,7 @@ children-spec =
     enum-known-k
     cast-one-bit
     one-bit-requires
-    part-requires-3
+    by-fault-requires
     staying-requires
     staying-requires-2
     returns

@@ -37,7 +37,7 @@ read : (t : Table) (xs : List Node) (x : Node) (c : Clauses) (j : ℕ) → x ≡
     → LeafWays (t .present) (t .absent) x c
 read t xs x c j e h = rw e h
 
--- The ways of the leaf are the record's, of which none says nothing new.
+-- The ways of the leaf are the record's, which are lean.
 lean-leaf : (t : Table) (x : Node) (c : Clauses) → LeafWays (t .present) (t .absent) x c → Lean (recordWays t x) → Lean (waysOf (t .present) (t .absent) c)
 lean-leaf t x c h l = subst Lean (sym (h .ways-are (t .weights))) l
 
