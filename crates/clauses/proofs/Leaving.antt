@@ -6,7 +6,6 @@ use mathlib.Core.List.{List, [], _∷_, List·Memᴰ·head, List·Memᴰ·tail}
 use Prim.Native.Nat.{ℕ}
 use lib.Bits.{bitOr}
 use lib.Dec.{eqb}
-use lib.ListN.{length}
 use borrow.Author.Tests.{eqb-true}
 use Rattle.rules.specs.Table.{bit}
 use Rattle.rules.specs.declared.Way.{Way}
@@ -21,7 +20,7 @@ use Rattle.records.specs.Records.{inWords}
 use Rattle.clauses.specs.declared.ByFault.{ByFault}
 use Rattle.clauses.specs.declared.Clauses.{Clauses}
 use Rattle.clauses.specs.declared.Taken.{Taken}
-use Rattle.clauses.specs.Leaves.{OneFault, fixedOf, row, wayAt, waysOf, Within, Takes, Keeps, Covers, Divided}
+use Rattle.clauses.specs.Leaves.{OneFault, row, wayAt, waysOf, Within, Takes, Keeps, Covers, Divided}
 use Rattle.clauses.proofs.Pairs.{in-none, both-numbers}
 use Rattle.clauses.proofs.Selected.{passing}
 use Rattle.clauses.proofs.Filter.{kept-ways, fixed-more}
@@ -68,7 +67,7 @@ module _ (ps qs : List ℕ) (c : Clauses) where
     one-joined t h =
         record {
           covers = λ i k. by i (eqb i (t .way .number)) refl (inWords (t .others .low) (t .others .high) i) (subsumes (wayAt ps qs c i) r) refl
-          (ap (λ (b : Bool). b || subsumes (wayAt ps qs c i) r) (sym (h .numbers i)) ∙ s .covers i k);
+              (ap (λ (b : Bool). b || subsumes (wayAt ps qs c i) r) (sym (h .numbers i)) ∙ s .covers i k);
           left-present = h .same-present ∙ s .left-present;
           left-absent = h .same-absent ∙ s .left-absent;
           within = h .within;
@@ -223,7 +222,7 @@ module _ (ps qs : List ℕ) (others shorter : Clauses) where
     leaves out k o l x y =
         record {
           numbers = λ i. ap (λ (b : Bool). b && not (some-subsume (t .others) i)) (l i ∙ ap (λ (b : Bool). inWords (kept .low) (kept .high) i && not b) (subsumed i))
-          ∙ by (inWords (kept .low) (kept .high) i) (subsumes (t .way) (wayAt ps qs others i)) (some-subsume (t .others) i) ∙ before i;
+              ∙ by (inWords (kept .low) (kept .high) i) (subsumes (t .way) (wayAt ps qs others i)) (some-subsume (t .others) i) ∙ before i;
           inside = λ i e. s .inside i (and-left (inWords (kept .low) (kept .high) i) _ (sym (l i) ∙ e));
           kept-present = x ∙ s .kept-present;
           kept-absent = y ∙ s .kept-absent;

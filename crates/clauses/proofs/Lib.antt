@@ -2,9 +2,9 @@
 -- Those marked pub are for the proofs of callers too.
 mod Filter
 pub mod First
-mod Judged
 mod Leaving
 pub mod Loops
 mod Pairs
+mod Rows
 mod Selected
 mod Words

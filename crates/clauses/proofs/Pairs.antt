@@ -1,4 +1,4 @@
--- The numbers in two words of bits, each by the word that has it: the same numbers, none, those below n, less those of two others, both, and one more.
+-- The numbers in two words of bits, each by the word that has it: the same numbers, none, all, those below n, less those of two others, both, and one more.
 -- Rests on the laws of bits (`rules`, Bits, and Words.antt).
 use mathlib.Core.Path.{_≡_, refl, sym, ap, ap₂, _∙_}
 use mathlib.Core.Bool.{Bool, true, false, not, _&&_, _||_}
@@ -51,13 +51,21 @@ module _ (a b x y : ℕ) (same : (i : ℕ) → inWords a b i ≡ inWords x y i) 
       at : (i j : ℕ) → 64 ≤ j → j - 64 ≡ i → bit i b ≡ bit i y
       at i j h e = ap (λ (k : ℕ). bit k b) (sym e) ∙ sym (in-high a b j h) ∙ same j ∙ in-high x y j h ∙ ap (λ (k : ℕ). bit k y) e
 
--- ---- no number
+-- ---- no number, and all
 
 -- Two words that joined are 0 have no number.
 pub in-none : (a b : ℕ) → bitOr a b ≡ 0 → (i : ℕ) → inWords a b i ≡ false
 in-none a b h =
     let z = or-zero a b h in
     in-words a b (λ i. false) (λ i g. ap (bit i) (z .0) ∙ bit-zero i) (λ i g. ap (bit (i - 64)) (z .1) ∙ bit-zero (i - 64))
+
+-- Two words of ones have every number below 128.
+pub all-in : (i : ℕ) → i < 128 → inWords (2 ^ 64 - 1) (2 ^ 64 - 1) i ≡ true
+all-in i h = by (decLt i 64)
+  where
+    by : Dec (i < 64) → inWords (2 ^ 64 - 1) (2 ^ 64 - 1) i ≡ true
+    by (yes g) = in-low (2 ^ 64 - 1) (2 ^ 64 - 1) i g ∙ ones 64 i g
+    by (no g) = in-high (2 ^ 64 - 1) (2 ^ 64 - 1) i (omega arith) ∙ ones 64 (i - 64) (omega arith)
 
 -- ---- words cut to the numbers below n
 

@@ -78,7 +78,13 @@ select-same P Q [] e = refl
 select-same P Q (v ∷ vs) e =
     ap₂ (λ (b : Bool) (r : List Way). elim b as (λ b. List Way) [ true ↦ v ∷ r | false ↦ r ]) (e .0) (select-same P Q vs (e .1))
 
--- A test that no number passes selects nothing.
+-- A test that every number passes selects all.
+select-all : (vs : List Way) → select (λ j. true) vs ≡ vs
+unfolding select
+select-all [] = refl
+select-all (v ∷ vs) = ap (λ (r : List Way). v ∷ r) (select-all vs)
+
+-- One that no number passes selects nothing.
 pub select-none : (P : ℕ → Bool) → ((j : ℕ) → P j ≡ false) → (vs : List Way) → select P vs ≡ []
 unfolding select
 select-none P h [] = refl
@@ -173,3 +179,7 @@ module _ (ps qs : List ℕ) (short : length ps ≤ 128) (paired : length qs ≡ 
     where
       same : (j : ℕ) → j < length ps → inWords x y j ≡ P j
       same j l = cut j ∙ ap (λ (t : Bool). P j && t) (lt-ltb j (length ps) l) ∙ and-true (P j)
+
+  -- A test that every number below 128 passes selects all the ways of the table.
+  pub all-selected : (P : ℕ → Bool) → ((j : ℕ) → j < 128 → P j ≡ true) → select P (rows 0 ps qs) ≡ rows 0 ps qs
+  all-selected P h = rows-same P (λ j. true) (λ j l. h j (omega arith)) ∙ select-all (rows 0 ps qs)

@@ -51,6 +51,16 @@ pub fn select(present: &[u64], absent: &[u64], a: u64, b: u64) -> Clauses
     }
 }
 
+/// All ways of a table.
+pub fn whole(present: &[u64], absent: &[u64]) -> Clauses
+    requires { ⌜ length (now present) ≤ 128 ⌝ }
+    requires { ⌜ length (now absent) ≡ length (now present) ⌝ }
+    ensures { λ r. ⌜ (waysOf (now (present .entry)) (now (absent .entry)) r ≡ rows 0 (now (present .entry)) (now (absent .entry)))
+        × Within (now (present .entry)) (now (absent .entry)) r × (r .present ≡ 0) × (r .absent ≡ 0) ⌝ }
+{
+    select(present, absent, !0, !0)
+}
+
 /// The numbers with one more.
 pub fn with_number(c: Clauses, i: usize) -> Clauses
     requires { ⌜ i < 128 ⌝ }

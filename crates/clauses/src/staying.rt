@@ -14,6 +14,7 @@ use super::Clauses;
 use super::keeping::part;
 use super::keeping::restrict;
 use super::sets::minus;
+use super::sets::whole;
 use super::sets::with_number;
 use super::taking::taken;
 use rules::Way;
@@ -41,6 +42,27 @@ fn outdoes(u: Way, v: Way) -> bool
     u.number < v.number
 }
 
+/// Some way of the table outdoes this one.
+fn outdone(present: &[u64], absent: &[u64], v: Way) -> bool
+    requires { ⌜ length (now absent) ≡ length (now present) ⌝ }
+    ensures { λ r. ⌜ r ≡ Leaf.redundant (rows 0 (now (present .entry)) (now (absent .entry))) v ⌝ }
+{
+    let n = present.len();
+    let mut j: usize = 0;
+    while j < n {
+        let u = Way {
+            number: j,
+            present: present[j],
+            absent: absent[j],
+        };
+        if outdoes(u, v) {
+            return true;
+        }
+        j += 1;
+    }
+    false
+}
+
 /// What stays of a table's ways.
 pub fn staying_rows(present: &[u64], absent: &[u64]) -> Clauses
     requires { ⌜ length (now present) ≤ 128 ⌝ }
@@ -54,29 +76,14 @@ pub fn staying_rows(present: &[u64], absent: &[u64]) -> Clauses
         present: 0,
         absent: 0,
     };
-    let n = present.len();
-    let mut i: usize = 0;
-    'ways: while i < n {
-        let v = Way {
-            number: i,
-            present: present[i],
-            absent: absent[i],
-        };
-        // Before the search, since `continue` skips what follows it.
-        i += 1;
-        let mut j: usize = 0;
-        while j < n {
-            let u = Way {
-                number: j,
-                present: present[j],
-                absent: absent[j],
-            };
-            if outdoes(u, v) {
-                continue 'ways;
-            }
-            j += 1;
+    let mut left = whole(present, absent);
+    while left.low | left.high != 0 {
+        let t = taken(present, absent, left);
+        let v = t.way;
+        left = t.others;
+        if !outdone(present, absent, v) {
+            kept = with_number(kept, v.number);
         }
-        kept = with_number(kept, v.number);
     }
     kept
 }

@@ -8,44 +8,22 @@ use Prim.Native.Nat.{ℕ, zero, suc, _+_, _-_, _*_, _/_, _%_, _<_, _≤_}
 use native.Mathlib.Omega.{arith}
 use borrow.Author.Tests.{lt-ltb, le-ltb, eq-eqb, ne-eqb}
 use lib.Dec.{eqb, ltb}
-use lib.ListN.{replicate, length-replicate}
-use Rattle.rules.specs.Rounding.{down, up}
 use Rattle.rules.specs.Table.{Table}
-use Rattle.rules.specs.Tree.{rootWays, possible, end, seriesFrom}
+use Rattle.rules.specs.Tree.{possible}
 use Rattle.rules.specs.Refusals.{Accepted}
 use Rattle.rules.specs.declared.Kind.{Kind}
 use Rattle.rules.proofs.Booleans.{and-false}
-use Rattle.rules.proofs.LeafEnds.{leaf-le}
-use Rattle.records.specs.Records.{blank, noNodes, layout, children, recordIn, recordAt, faultCode, leftCode, position, above, places, samePlace, recordWays, kindOf, treeCount, sameNodes, isGood, Good}
+use Rattle.records.specs.Records.{layout, children, recordIn, recordAt, places, recordWays, kindOf, treeCount, sameNodes, isGood, Good}
 use Rattle.records.specs.Growing.{grownAt, mayAt, rebuild, sameAs, isGoodRebuilt}
 use Rattle.records.specs.declared.Node.{Node}
 use Rattle.records.specs.declared.Tree.{Tree}
 use Rattle.records.proofs.Sixteen.{same-nodes}
 use Rattle.records.proofs.Rebuilt.{rebuilt-is, good-next}
-use Rattle.store.specs.Safe.{SafeNode, Safe}
-use Rattle.store.proofs.SafeLaws.{safe-blanks, safe-set}
+use Rattle.store.specs.Safe.{Safe}
 use Rattle.dtree.specs.Promises.{oneRecord}
 use Rattle.dtree.specs.Remade.{nextAt, nextKind, mayNext, Remade}
-use Rattle.dtree.proofs.Opens.{one-layout, root-record}
-
--- The record of the root leaf is safe.
-root-safe : (t : Table) → SafeNode (recordAt t [] [])
-unfolding faultCode end position above places samePlace leftCode
-root-safe t =
-    rw (sym (root-record t))
-    record {
-      fault-fits = omega arith;
-      parent-inside = omega arith;
-      children-inside = omega arith;
-      low-le = leaf-le down (t .weights) (rootWays t);
-      high-le = leaf-le up (t .weights) (rootWays t);
-      ownlow-le = leaf-le down (t .weights) (rootWays t);
-      ownhigh-le = leaf-le up (t .weights) (rootWays t);
-    }
-
-alone-safe : (t : Table) → Safe (oneRecord (recordAt t [] []) .nodes)
-unfolding oneRecord noNodes
-alone-safe t = safe-set (replicate 511 blank) 0 (recordAt t [] []) (simp length-replicate (omega arith)) (safe-blanks 511) (root-safe t)
+use Rattle.dtree.proofs.Opens.{one-layout}
+use Rattle.dtree.proofs.Fresh.{alone-safe, alone-good}
 
 -- ---- one turn of building again
 
@@ -75,14 +53,14 @@ module _ (t : Table) (ok : Accepted t) (x : Tree) (used : ℕ) (u : used ≡ x .
 
   -- At first the root leaf stands alone, and all refinements are to go.
   begun-alone : (used % 2 ≡ 0 → ⊥) → Answers t x (oneRecord (recordAt t [] [])) (used / 2)
-  unfolding isGoodRebuilt treeCount oneRecord layout places children seriesFrom
+  unfolding isGoodRebuilt treeCount oneRecord layout places children
   begun-alone h =
       let odd : x .used ≡ 2 * ((x .used - 1) / 2) + 1 = omega (arith, u, h) in
       let half : used / 2 ≡ (x .used - 1) / 2 = omega (arith, u, h) in
       record {
         to-go = omega (arith, odd, half);
         safe = alone-safe t;
-        good = record { made = []; accepted = refl; is = one-layout t };
+        good = alone-good t;
         rest =
             ap₂ (λ (m : ℕ) (y : Tree). sameAs (x .nodes) (rebuild t m (x .nodes) (y .nodes) (y .used))) half (one-layout t)
             ∙ (rw (eq-eqb (x .used) (2 * ((x .used - 1) / 2) + 1) odd) at (rebuilt-is t ok x));

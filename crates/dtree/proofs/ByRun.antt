@@ -1,4 +1,4 @@
--- A run on an accepted table and a good tree: it leaves and hands back what the rules say.
+-- A run on a good tree that nothing refuses: it leaves and hands back what the rules say.
 -- Rests on the contract of `running`.
 use mathlib.Core.Path.{_≡_, refl, sym, ap, _∙_}
 use mathlib.Core.Bool.{true, false}
@@ -8,13 +8,11 @@ use lib.ListN.{length}
 use Rattle.rules.specs.Table.{Table}
 use Rattle.rules.specs.Tree.{Refinement, DTree, leaf, tree, low, high, series}
 use Rattle.rules.specs.Run.{picks, verdict}
-use Rattle.rules.specs.Refusals.{first, limitRefusals, Accepted}
 use Rattle.rules.specs.Calls.{runNumber, runAnswer, runAnswerBy, byRun, ran, runMakes, figures, callNumber, outcome, makes, makesBy, wouldMake}
 use Rattle.rules.specs.declared.Limits.{Limits}
 use Rattle.rules.specs.declared.Verdict.{Verdict}
 use Rattle.rules.specs.declared.RunAnswer.{RunAnswer}
 use Rattle.rules.proofs.Series.{grow-append}
-use Rattle.rules.proofs.Demand3.{run-number}
 use Rattle.records.specs.Records.{layout, history, Good}
 use Rattle.records.specs.Library.{callTree, callOutcome}
 use Rattle.records.specs.declared.Node.{Node}
@@ -42,10 +40,10 @@ said-run t ns m z top e v f n g =
     rw (e, f, g, root-low t (ns ++ ms), root-high t (ns ++ ms), grow-append ns ms leaf, z) refl
 
 -- The run is made.
-pub ran-on : (t : Table) → Accepted t → (x : Tree) → Good t x → (m : Limits) → first (limitRefusals m) ≡ 0 → (y : Tree) (r : Ended) → Ran t (history x) m y r
+pub ran-on : (t : Table) (x : Tree) → Good t x → (m : Limits) → runNumber t false m ≡ 0 → (y : Tree) (r : Ended) → Ran t (history x) m y r
     → (top : Node) → top ≡ rootOf y
     → Called t x (byRun m) y (ran (RunAnswer.Ended (r .verdict) (record { low = top .low; high = top .high; count = r .count })))
-ran-on t ok x g m l y r w top o = called t x (byRun m) y _ tree-is outcome-is
+ran-on t x g m zeroed y r w top o = called t x (byRun m) y _ tree-is outcome-is
   where
     own : history x ≡ g .made
     own = ap history (g .is) ∙ history-layout t (g .made) (g .accepted)
@@ -55,9 +53,6 @@ ran-on t ok x g m l y r w top o = called t x (byRun m) y _ tree-is outcome-is
 
     is : x ≡ layout t (history x)
     is = g .is ∙ ap (layout t) (sym own)
-
-    zeroed : runNumber t false m ≡ 0
-    zeroed = run-number t ok m ∙ l
 
     tree-is : y ≡ callTree t x (byRun m)
     tree-is =

@@ -38,7 +38,7 @@ root-high t ns = refl
 -- ---- what 0 says
 
 -- Where nothing of two lists is refused, nothing of the first is.
-front-free : (xs ys : List Refusal) → first (xs ++ ys) ≡ 0 → first xs ≡ 0
+pub front-free : (xs ys : List Refusal) → first (xs ++ ys) ≡ 0 → first xs ≡ 0
 front-free xs ys h = by (first xs) refl
   where
     by : (n : ℕ) → first xs ≡ n → first xs ≡ 0

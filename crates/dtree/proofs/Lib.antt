@@ -1,6 +1,7 @@
 -- What the definitions of the calls come to; each function's proof stands in its own directory.
 -- Rests on the theorems of `rules` and `records`, and on the contracts below.
 mod Opens
+mod Fresh
 mod Again
 mod Calling
 mod Refuses

@@ -1,8 +1,8 @@
 -- When a call on a tree is refused, and what it then hands back.
--- Rests on Calling.antt and on `rules`, First.
+-- Rests on Calling.antt and on `rules`, First and Demand3.
 use mathlib.Core.Path.{_≡_, refl, sym, ap, subst, _∙_}
 use mathlib.Core.Bool.{Bool, true, false, not}
-use mathlib.Core.List.{List, []}
+use mathlib.Core.List.{List, [], _∷_, _++_, append-assoc}
 use Prim.Native.Nat.{ℕ, zero, suc, _+_, _<_}
 use native.Mathlib.Omega.{arith}
 use Rattle.rules.specs.Table.{Table}
@@ -10,7 +10,8 @@ use Rattle.rules.specs.Refusals.{refusal, first, tableRefusals, wayRefusals, li
 use Rattle.rules.specs.Calls.{handNumber, runNumber, handRefusals, runRefusals, Call, byHand, byRun}
 use Rattle.rules.specs.declared.Kind.{Kind}
 use Rattle.rules.specs.declared.Limits.{Limits}
-use Rattle.rules.proofs.First.{none-applies, first-here, first-after, first-before}
+use Rattle.rules.proofs.First.{none-applies, first-here, first-after, first-before, first-end}
+use Rattle.rules.proofs.Demand3.{run-number}
 use Rattle.records.specs.Records.{layout, isGood, bad, Good}
 use Rattle.records.specs.declared.Node.{Node}
 use Rattle.records.specs.declared.Tree.{Tree}
@@ -19,7 +20,7 @@ use Rattle.records.proofs.Sixteen.{good-sure}
 use Rattle.clauses.specs.declared.Clauses.{Clauses}
 use Rattle.grow.specs.Branched.{LeafWays}
 use Rattle.dtree.specs.Promises.{numberOf, Called}
-use Rattle.dtree.proofs.Calling.{called, refusedBy, refused-tree, refused-outcome}
+use Rattle.dtree.proofs.Calling.{front-free, called, refusedBy, refused-tree, refused-outcome}
 
 -- With the number that applies, and the tree as it was.
 pub refused-call : (t : Table) (x : Tree) (c : Call) (n : ℕ) → numberOf t x c ≡ n → (n ≡ 0 → ⊥) → Called t x c x (refusedBy c n)
@@ -28,29 +29,47 @@ refused-call t x c (suc n) e f = called t x c x (refusedBy c (suc n)) (sym (refu
 
 -- ---- which number
 
--- 9 to 13 come first in every call.
+-- 9 to 13 come first in a run, whatever 16 says.
+pub run-table : (t : Table) (b : Bool) (m : Limits) (n : ℕ) → n ≡ tableNumber t → (n ≡ 0 → ⊥) → runNumber t b m ≡ n
+unfolding runNumber runRefusals tableNumber
+run-table t b m zero e f = absurd (f refl)
+run-table t b m (suc n) e f = first-before (tableRefusals t) _ n (sym e)
+
+-- And in every call.
 pub by-table : (t : Table) (x : Tree) (c : Call) (n : ℕ) → n ≡ tableNumber t → (n ≡ 0 → ⊥) → numberOf t x c ≡ n
-unfolding numberOf handNumber runNumber handRefusals runRefusals tableNumber
-by-table t x c zero e f = absurd (f refl)
+unfolding numberOf handNumber handRefusals tableNumber
+by-table t x (byHand bs k) zero e f = absurd (f refl)
 by-table t x (byHand bs k) (suc n) e f = first-before (tableRefusals t) _ n (sym e)
-by-table t x (byRun m) (suc n) e f = first-before (tableRefusals t) _ n (sym e)
+by-table t x (byRun m) n e f = run-table t (bad t x) m n e f
 
 -- A hand refinement on an accepted table: then 16.
 pub hand-sixteen : (t : Table) (x : Tree) (bs : List ℕ) (k : Kind) → Accepted t → bad t x ≡ true → numberOf t x (byHand bs k) ≡ 16
 unfolding numberOf handNumber handRefusals tableNumber tableRefusals wayRefusals
 hand-sixteen t x bs k ok b = first-after (tableRefusals t) _ (none-applies (tableRefusals t) refl ok) ∙ first-here (refusal 16 (bad t x)) _ b
 
--- A run: then 14 and 15.
-pub by-limits : (t : Table) (x : Tree) (m : Limits) (n : ℕ) → Accepted t → n ≡ first (limitRefusals m) → (n ≡ 0 → ⊥) → numberOf t x (byRun m) ≡ n
-unfolding numberOf runNumber runRefusals tableNumber tableRefusals wayRefusals
-by-limits t x m zero ok e f = absurd (f refl)
-by-limits t x m (suc n) ok e f = first-after (tableRefusals t) _ (none-applies (tableRefusals t) refl ok) ∙ first-before (limitRefusals m) _ n (sym e)
+-- A run: 9 to 15 come before 16.
+pub before-sixteen : (t : Table) (x : Tree) (m : Limits) (n : ℕ) → n ≡ runNumber t false m → (n ≡ 0 → ⊥) → numberOf t x (byRun m) ≡ n
+unfolding numberOf runNumber runRefusals first
+before-sixteen t x m zero e f = absurd (f refl)
+before-sixteen t x m (suc n) e f =
+    let ahead = tableRefusals t ++ limitRefusals m in
+    let split : (b : Bool) → tableRefusals t ++ (limitRefusals m ++ refusal 16 b ∷ []) ≡ ahead ++ refusal 16 b ∷ [] =
+    λ b. sym (append-assoc (tableRefusals t) (limitRefusals m) (refusal 16 b ∷ [])) in
+    let found : first ahead ≡ suc n = sym (ap first (split false) ∙ first-end ahead (refusal 16 false ∷ []) refl) ∙ sym e in
+    ap first (split (bad t x)) ∙ first-before ahead (refusal 16 (bad t x) ∷ []) n found
 
--- And 16.
-pub run-sixteen : (t : Table) (x : Tree) (m : Limits) → Accepted t → first (limitRefusals m) ≡ 0 → bad t x ≡ true → numberOf t x (byRun m) ≡ 16
+-- Where none of them applies the table is accepted.
+pub run-accepted : (t : Table) (m : Limits) → runNumber t false m ≡ 0 → Accepted t
+unfolding runNumber runRefusals tableNumber
+run-accepted t m z = front-free (tableRefusals t) _ z
+
+-- And 16 decides.
+pub run-sixteen : (t : Table) (x : Tree) (m : Limits) → runNumber t false m ≡ 0 → bad t x ≡ true → numberOf t x (byRun m) ≡ 16
 unfolding numberOf runNumber runRefusals tableNumber tableRefusals wayRefusals limitRefusals
-run-sixteen t x m ok l b =
-    first-after (tableRefusals t) _ (none-applies (tableRefusals t) refl ok) ∙ first-after (limitRefusals m) _ (none-applies (limitRefusals m) refl l)
+run-sixteen t x m z b =
+    let ok = run-accepted t m z in
+    first-after (tableRefusals t) _ (none-applies (tableRefusals t) refl ok)
+    ∙ first-after (limitRefusals m) _ (none-applies (limitRefusals m) refl (sym (run-number t ok m) ∙ z))
     ∙ first-here (refusal 16 (bad t x)) [] b
 
 -- ---- what the test of 16 tells

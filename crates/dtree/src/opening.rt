@@ -3,7 +3,7 @@
 ghost use mathlib.Core.Path.{_≡_};
 ghost use mathlib.Core.List.{[]};
 ghost use Rattle.rules.specs.Refusals.{Accepted};
-ghost use Rattle.records.specs.Records.{recordAt};
+ghost use Rattle.records.specs.Records.{noNodes, recordAt};
 ghost use Rattle.store.specs.Lent.{treeOf};
 ghost use Rattle.dtree.specs.Promises.{Opening, oneRecord};
 use checks::table::table_number;
@@ -25,11 +25,11 @@ pub fn root_leaf(weights: &[u32], present: &[u64], absent: &[u64]) -> Node
     leaf_record(weights, present, absent, staying_rows(present, absent), 0)
 }
 
-/// Makes it a tree with one record in use.
+/// Makes a tree without nodes one with a single record in use.
 pub fn put_alone(tree: &mut Words, x: Node)
+    requires { ⌜ treeOf (now tree) ≡ noNodes ⌝ }
     ensures { λ _. ⌜ treeOf (now (tree .exit)) ≡ oneRecord x ⌝ }
 {
-    clear(tree);
     put_record(tree, 0, x);
     put_used(tree, 1);
 }
@@ -38,9 +38,9 @@ pub fn put_alone(tree: &mut Words, x: Node)
 pub fn open(weights: &[u32], present: &[u64], absent: &[u64], tree: &mut Words) -> Answer
     ensures { λ r. ⌜ Opening (record { weights = now (weights .entry); present = now (present .entry); absent = now (absent .entry) }) (treeOf (now (tree .exit))) r ⌝ }
 {
+    clear(tree);
     let number = table_number(weights, present, absent);
     if number != 0 {
-        clear(tree);
         return Answer::Refused(number);
     }
     let root = root_leaf(weights, present, absent);

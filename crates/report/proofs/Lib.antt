@@ -1,7 +1,5 @@
 -- Whole.antt is where to look first: the bytes appended for a sheet are its whole text. Printed.antt: a cue's line is the one that the rules define.
--- Fresh.antt: what a run on a table just opened comes to. Head.antt: what reading's answer says of the bytes.
--- Appending.antt: bytes appended to a text. Digits.antt: a number's digits as a loop finds them.
-mod Fresh
+-- Head.antt: what reading's answer says of the bytes. Appending.antt: bytes appended to a text. Digits.antt: a number's digits as a loop finds them.
 mod Printed
 mod Head
 mod Appending

@@ -1,5 +1,5 @@
 //! The line of a cue: the cue at a position of the sheet, and what one run on its table answers.
-//! Rests on `sheet` and on the module `figures`; for an accepted sheet the line's text is that of the rules (`rules`, Text).
+//! Rests on `sheet` and `dtree`; for an accepted sheet the line's text is that of the rules (`rules`, Text).
 ghost use mathlib.Core.Path.{_≡_};
 ghost use mathlib.Core.Bool.{false};
 ghost use Prim.Native.Nat.{_<_};
@@ -9,7 +9,7 @@ ghost use Rattle.rules.specs.Calls.{runAnswer};
 ghost use Rattle.rules.specs.Sheet.{Cue, readNumber, cuesIn, limitsIn, decode};
 ghost use Rattle.rules.specs.Text.{line};
 ghost use Rattle.report.specs.Lines.{tableIn, lineText};
-use super::figures::cue_answer;
+use dtree::afresh::run_afresh;
 use rules::Entry;
 use rules::Limits;
 use rules::RunAnswer;
@@ -32,7 +32,7 @@ fn entry_answer(s: &[u8], e: Entry, limits: Limits) -> RunAnswer
     let absent = t.absent;
     let faults = t.faults;
     let ways = t.ways;
-    cue_answer(
+    run_afresh(
         &weights[..faults],
         &present[..ways],
         &absent[..ways],

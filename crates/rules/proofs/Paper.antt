@@ -156,25 +156,43 @@ run = byRun (limits 0 255)
 abbrev byHandAtRoot : Kind → Call
 byHandAtRoot k = byHand [] k
 
--- A1, A4, A10: a way that names more, the longer one last, first, and beside an empty way. A2, A7: of equal ways the lowest numbered. A3: one fault in
--- both senses. A5: at a child. A6: a way left out at the root does not come back in a child. A8: ways may fall apart for want of what was left out.
--- A9: a fault that only a left-out way names does not occur.
+-- Each table with a call, and what is stated of them.
 abbrev redundancies : List (Shown × Shown)
 redundancies =
+    -- A1: a way that names more than another.
     (shown (table (500000000 ∷ 500000000 ∷ []) (1 ∷ 3 ∷ []) (0 ∷ 0 ∷ [])) run, closedRoot (0 ∷ []) 500000000)
+    -- A2: equal ways, of which the lowest numbered stays.
     ∷ (shown (table (250000000 ∷ 500000000 ∷ []) (0 ∷ 0 ∷ []) (1 ∷ 1 ∷ [])) run, closedRoot (0 ∷ []) 750000000)
+    -- A3: one fault in both senses.
     ∷ (shown (table (250000000 ∷ 500000000 ∷ []) (0 ∷ 1 ∷ []) (1 ∷ 0 ∷ [])) run, openRoot (0 ∷ 1 ∷ []) 750000000 (ran (ended Met S S 1)))
+    -- A4: the shorter way comes later.
     ∷ (shown (table (500000000 ∷ 300000000 ∷ []) (3 ∷ 1 ∷ []) (0 ∷ 0 ∷ [])) run, closedRoot (1 ∷ []) 500000000)
-    ∷ (shown (table (200000000 ∷ 500000000 ∷ 250000000 ∷ []) (0 ∷ 2 ∷ 1 ∷ []) (2 ∷ 4 ∷ 4 ∷ [])) run,
-    openRoot (0 ∷ 1 ∷ 2 ∷ []) 575000000 (ran (ended Met 875000000 875000000 1)))
-    ∷ (shown (table (500000000 ∷ 750000000 ∷ 250000000 ∷ []) (2 ∷ 5 ∷ 1 ∷ 4 ∷ 1 ∷ []) (0 ∷ 0 ∷ 4 ∷ 0 ∷ 2 ∷ [])) run,
-    openRoot (0 ∷ 2 ∷ 3 ∷ 4 ∷ []) 843750000 (ran (ended Met 906250000 906250000 4)))
-    ∷ (shown (table (750000000 ∷ 500000000 ∷ 200000000 ∷ []) (0 ∷ 2 ∷ 1 ∷ 0 ∷ 4 ∷ []) (1 ∷ 0 ∷ 0 ∷ 1 ∷ 0 ∷ [])) run,
-    openRoot (0 ∷ 1 ∷ 2 ∷ 4 ∷ []) 700000000 (ran (ended Met S S 2)))
-    ∷ (shown (table (500000000 ∷ 500000000 ∷ []) (3 ∷ 1 ∷ 2 ∷ []) (0 ∷ 0 ∷ 0 ∷ [])) (byHandAtRoot IndependentOr),
-    openRoot (1 ∷ 2 ∷ []) 750000000 (handed (at 750000000 750000000 1)))
-    ∷ (shown (table (500000000 ∷ 500000000 ∷ 500000000 ∷ []) (1 ∷ 2 ∷ 5 ∷ []) (0 ∷ 0 ∷ 0 ∷ [])) (byHandAtRoot (Shannon 2)),
-    openRoot (0 ∷ 1 ∷ []) 750000000 (handed (Answer.Refused 20)))
+    -- A5: once fault 1 is fixed present, the third way says nothing new.
+    ∷ (
+      shown (table (200000000 ∷ 500000000 ∷ 250000000 ∷ []) (0 ∷ 2 ∷ 1 ∷ []) (2 ∷ 4 ∷ 4 ∷ [])) run,
+      openRoot (0 ∷ 1 ∷ 2 ∷ []) 575000000 (ran (ended Met 875000000 875000000 1)),
+    )
+    -- A6: the second way, left out at the root, does not come back as the lower numbered of two equals once fault 0 is fixed.
+    ∷ (
+      shown (table (500000000 ∷ 750000000 ∷ 250000000 ∷ []) (2 ∷ 5 ∷ 1 ∷ 4 ∷ 1 ∷ []) (0 ∷ 0 ∷ 4 ∷ 0 ∷ 2 ∷ [])) run,
+      openRoot (0 ∷ 2 ∷ 3 ∷ 4 ∷ []) 843750000 (ran (ended Met 906250000 906250000 4)),
+    )
+    -- A7: of equal ways, the lowest numbered stays; the other would take a refinement more.
+    ∷ (
+      shown (table (750000000 ∷ 500000000 ∷ 200000000 ∷ []) (0 ∷ 2 ∷ 1 ∷ 0 ∷ 4 ∷ []) (1 ∷ 0 ∷ 0 ∷ 1 ∷ 0 ∷ [])) run,
+      openRoot (0 ∷ 1 ∷ 2 ∷ 4 ∷ []) 700000000 (ran (ended Met S S 2)),
+    )
+    -- A8: the ways fall apart for want of the one left out.
+    ∷ (
+      shown (table (500000000 ∷ 500000000 ∷ []) (3 ∷ 1 ∷ 2 ∷ []) (0 ∷ 0 ∷ 0 ∷ [])) (byHandAtRoot IndependentOr),
+      openRoot (1 ∷ 2 ∷ []) 750000000 (handed (at 750000000 750000000 1)),
+    )
+    -- A9: a fault that only the way left out names does not occur.
+    ∷ (
+      shown (table (500000000 ∷ 500000000 ∷ 500000000 ∷ []) (1 ∷ 2 ∷ 5 ∷ []) (0 ∷ 0 ∷ 0 ∷ [])) (byHandAtRoot (Shannon 2)),
+      openRoot (0 ∷ 1 ∷ []) 750000000 (handed (Answer.Refused 20)),
+    )
+    -- A10: an empty way stays alone.
     ∷ (shown (table (500000000 ∷ 500000000 ∷ []) (1 ∷ 0 ∷ []) (0 ∷ 0 ∷ [])) run, closedRoot (1 ∷ []) S)
     ∷ []
 

@@ -56,12 +56,12 @@ fn table_number(table: &Table) -> u64 {
 }
 
 pub fn open(tree: &mut Tree, table: &Table) -> Answer {
+    tree.clear();
     let number = table_number(table);
     if number != 0 {
-        *tree = Tree::new();
         return refused(number);
     }
-    tree.open(table);
+    tree.put_root(table);
     Answer {
         number: 0,
         low: tree.nodes[0].low,
@@ -79,20 +79,23 @@ fn choose(table: &Table, ways: &Clauses) -> Kind {
     Kind::Shannon(most_named(table, ways))
 }
 
-pub fn run(tree: &mut Tree, table: &Table, allowance: u32, budget: u16) -> Answer {
+/// 9 to 15, or 0.
+fn run_number(table: &Table, allowance: u32, budget: u16) -> u64 {
     let number = table_number(table);
     if number != 0 {
-        return refused(number);
+        return number;
     }
     if u64::from(allowance) > S {
-        return refused(14);
+        return 14;
     }
     if budget > 255 {
-        return refused(15);
+        return 15;
     }
-    if !tree.is_good(table) {
-        return refused(16);
-    }
+    0
+}
+
+/// The run itself, on a good tree where none of 9 to 15 applies.
+fn run_good(tree: &mut Tree, table: &Table, allowance: u32, budget: u16) -> Answer {
     let mut count = 0;
     let verdict = loop {
         let root = &tree.nodes[0];
@@ -120,4 +123,26 @@ pub fn run(tree: &mut Tree, table: &Table, allowance: u32, budget: u16) -> Answe
         count,
         verdict,
     }
+}
+
+pub fn run(tree: &mut Tree, table: &Table, allowance: u32, budget: u16) -> Answer {
+    let number = run_number(table, allowance, budget);
+    if number != 0 {
+        return refused(number);
+    }
+    if !tree.is_good(table) {
+        return refused(16);
+    }
+    run_good(tree, table, allowance, budget)
+}
+
+/// What one run answers on the root leaf of a table, on a tree of its own.
+pub fn run_afresh(table: &Table, allowance: u32, budget: u16) -> Answer {
+    let number = run_number(table, allowance, budget);
+    if number != 0 {
+        return refused(number);
+    }
+    let mut tree = Tree::new();
+    tree.put_root(table);
+    run_good(&mut tree, table, allowance, budget)
 }

@@ -1,8 +1,7 @@
 //! A sheet's bytes read, and the text of its report written into lent space. No heap.
 
 use crate::formula::*;
-use crate::run::{open, run, Answer, DONE, FULL, MET};
-use crate::tree::Tree;
+use crate::run::{run_afresh, Answer, DONE, FULL, MET};
 
 const HEAD: usize = 12;
 const MOST_CUES: usize = 24;
@@ -186,13 +185,13 @@ pub fn report(bytes: &[u8], space: &mut [u8]) -> usize {
         }
     };
     text.put(b"cue low high steps verdict\n");
-    let mut weights = [0u32; MOST_FAULTS];
-    for (i, weight) in weights[..sheet.faults].iter_mut().enumerate() {
-        *weight = u32_at(bytes, sheet.weights() + 4 * i);
-    }
-    let mut tree = Tree::new();
     for i in 0..sheet.cues {
         let ways = sheet.ways(i);
+        // A cue's table is read whole, as the library hands it over: its weights too.
+        let mut weights = [0u32; MOST_FAULTS];
+        for (fault, weight) in weights[..sheet.faults].iter_mut().enumerate() {
+            *weight = u32_at(bytes, sheet.weights() + 4 * fault);
+        }
         let mut present = [0u64; MOST_WAYS];
         let mut absent = [0u64; MOST_WAYS];
         for way in 0..ways {
@@ -204,8 +203,7 @@ pub fn report(bytes: &[u8], space: &mut [u8]) -> usize {
             present: &present[..ways],
             absent: &absent[..ways],
         };
-        open(&mut tree, &table);
-        let answer = run(&mut tree, &table, sheet.allowance(), sheet.budget());
+        let answer = run_afresh(&table, sheet.allowance(), sheet.budget());
         text.line(sheet.cue(i), &answer);
     }
     text.len

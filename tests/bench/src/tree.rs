@@ -55,6 +55,12 @@ const NO_NODE: Node = Node {
     own_high: 0,
 };
 
+/// A constant, so that a tree made of it is cleared where it lies: a tree put together by a function is filled first and copied then.
+const NO_NODES: Tree = Tree {
+    nodes: [NO_NODE; MOST_NODES],
+    used: 0,
+};
+
 fn leaf(table: &Table, ways: &Clauses, parent: usize) -> Node {
     let low = leaf_low(table, ways);
     let high = leaf_high(table, ways);
@@ -74,24 +80,19 @@ fn leaf(table: &Table, ways: &Clauses, parent: usize) -> Node {
     }
 }
 
-/// Kept out of line, so that `open` is short enough to be put in line: then a tree that is made and opened is cleared once.
-#[inline(never)]
-fn root_leaf(table: &Table) -> Node {
-    leaf(table, &table.staying(), 0)
-}
-
 impl Tree {
     pub const fn new() -> Tree {
-        Tree {
-            nodes: [NO_NODE; MOST_NODES],
-            used: 0,
-        }
+        NO_NODES
     }
 
-    pub fn open(&mut self, table: &Table) {
-        let root = root_leaf(table);
+    pub fn clear(&mut self) {
         self.nodes.fill(NO_NODE);
-        self.nodes[0] = root;
+        self.used = 0;
+    }
+
+    /// Makes a tree without nodes the root leaf alone.
+    pub fn put_root(&mut self, table: &Table) {
+        self.nodes[0] = leaf(table, &table.staying(), 0);
         self.used = 1;
     }
 
@@ -206,7 +207,7 @@ impl Tree {
             return false;
         }
         let mut fresh = Tree::new();
-        fresh.open(table);
+        fresh.put_root(table);
         for _ in 0..self.used / 2 {
             let next = fresh.used;
             if next >= MOST_NODES {

@@ -1,10 +1,10 @@
 //! Ways that say nothing new: tables A1 to A10 with figures typed by hand, each of which some wrong reading gets wrong, and
-//! the sheet that has them as its cues. Trees of such tables, drawn at random.
+//! the sheet that has them as its cues; records with the number of a way that is left out; trees of such tables, drawn at random.
 
 use crate::figures::Figures;
 use crate::paper::{H, Q};
 use crate::random::Random;
-use crate::scripts::{any_call, lined, mostly_open, Call, Line, Script};
+use crate::scripts::{any_call, lined, mostly_open, Call, Damage, Line, Script};
 use crate::sheet::Sheet;
 use crate::tree::open;
 use crate::vectors::make;
@@ -149,6 +149,47 @@ pub fn sheet() -> Sheet {
         sheet.weights.extend(table.weights);
     }
     sheet
+}
+
+/// A record with the number of a way that is left out, where every figure is the same with that way and without it: the table,
+/// whether the root is refined by fault 1 first, the record, its own set of ways and the wrong one.
+pub type Stored = (Table, bool, u64, u64, u64);
+
+/// Beside an empty way; of equal ways the other one; and in a child a way whose chance is 0.
+pub fn stored() -> [Stored; 3] {
+    let child = Table::of(&[0, H, Q], &[&[!1], &[1, !2], &[0, !2]]);
+    [
+        (Table::of(&[H, H], &[&[0], &[]]), false, 0, 0b10, 0b11),
+        (Table::of(&[Q, H], &[&[!0], &[!0]]), false, 0, 0b01, 0b10),
+        (child, true, 1, 0b010, 0b110),
+    ]
+}
+
+/// The field of a record that has the numbers below 64 of its ways.
+pub const WAYS_BELOW_64: u64 = 5;
+
+/// Calls on such a tree, which 16 refuses, and on the tree as it was.
+pub fn left_out_stored() -> Vec<Script> {
+    let script = |(table, refined, record, own, wrong): Stored| {
+        let damage = |by| Damage {
+            record,
+            field: WAYS_BELOW_64,
+            by,
+        };
+        let first = Call::Hand(vec![], Act::Fault(1));
+        let mut lines = if refined {
+            vec![Line::Call(first)]
+        } else {
+            vec![]
+        };
+        for by in [wrong - own, 0] {
+            lines.push(Line::Damaged(damage(by), Call::Run(0, 0)));
+            lines.push(Line::Damaged(damage(by), Call::Hand(vec![], Act::Fault(0))));
+        }
+        lines.push(Line::Show);
+        lined(table, lines)
+    };
+    stored().into_iter().map(script).collect()
 }
 
 /// Calls on random tables of which many ways say nothing new, every place shown at the end.

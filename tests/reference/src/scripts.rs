@@ -78,6 +78,7 @@ pub fn scripts() -> Vec<Script> {
     scripts.extend(figures());
     scripts.extend(damages());
     scripts.extend(orders_of_refinement());
+    scripts.extend(redundant::left_out_stored());
     scripts.extend(redundant::drawn());
     scripts
 }

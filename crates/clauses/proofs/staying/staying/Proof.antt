@@ -1,10 +1,9 @@
 -- `staying` meets its contract. The loop's invariant: of the ways that did not name the fault, those are kept that no way so far subsumes.
 -- Rests on Leaving.antt, Loops.antt and the contracts of `restrict`, `taken`, `subsumes`, `subsumed` and `minus`.
 use mathlib.Core.Path.{sym, _∙_}
-use Prim.Native.Nat.{ℕ}
 use borrow.Author.Needs.{needs}
 use lib.ListN.{length}
-use Rattle.clauses.specs.Leaves.{waysOf, Covers}
+use Rattle.clauses.specs.Leaves.{waysOf}
 use Rattle.clauses.proofs.Leaving.{Leaving, none-left-out, skips, leaves, none-left-over, left-out}
 use Rattle.clauses.proofs.Loops.{fewer}
 use Rattle.clauses.proofs.staying.staying.Statement.{statement}

@@ -1,7 +1,7 @@
 -- `subsumes` meets its contract, sense by sense: what the first way names beyond the second is nothing.
 -- Rests on Words.antt.
-use mathlib.Core.Path.{_≡_, refl, sym, ap, _∙_}
-use mathlib.Core.Bool.{true, false}
+use mathlib.Core.Path.{_≡_, sym}
+use mathlib.Core.Bool.{false}
 use Prim.Native.Nat.{ℕ}
 use borrow.Author.Needs.{needs}
 use borrow.Author.Tests.{eq-eqb, ne-eqb}

@@ -1,5 +1,5 @@
 -- `put_alone` meets its contract: of the blank records the first is written, and one is in use.
--- Rests on the contracts of `clear`, `put_record` and `put_used`.
+-- Rests on the contracts of `put_record` and `put_used`.
 use mathlib.Core.Path.{_≡_}
 use borrow.Author.Needs.{needs}
 use Rattle.records.specs.Records.{noNodes}
@@ -10,12 +10,10 @@ use Rattle.dtree.specs.Promises.{oneRecord}
 use Rattle.dtree.proofs.opening.put_alone.Statement.{statement}
 use Rattle.dtree.proofs.opening.put_alone.Tie as tie
 
+-- A tree without nodes in which the first record is written, and then the count, is a tree of that record alone.
 first-only : (a b c : Tree) (x : Node) → a ≡ noNodes → b ≡ withRecord a 0 x → c ≡ withUsed b 1 → c ≡ oneRecord x
 unfolding oneRecord
 first-only a b c x e f g = rw (g, f, e)
-
-clear-requires : tie.Need-clear-requires
-clear-requires c κs = search needs
 
 put-record-requires : tie.Need-put-record-requires
 put-record-requires c κs = search needs
@@ -26,7 +24,7 @@ put-used-requires c κs = search needs
 returns : tie.Need-returns
 returns c =
     let r = c .before .before in
-    first-only _ _ _ _ (r .before .before .clear .ensures) (r .put-record .ensures) (c .put-used .ensures)
+    first-only _ _ _ _ (r .before .before .pre) (r .put-record .ensures) (c .put-used .ensures)
 
 pub put-alone-spec : {M : Type 1} → statement M
-put-alone-spec = tie.close (tie.spec clear-requires put-record-requires put-used-requires returns)
+put-alone-spec = tie.close (tie.spec put-record-requires put-used-requires returns)

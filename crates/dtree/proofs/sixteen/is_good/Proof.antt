@@ -1,11 +1,12 @@
 -- `is_good` meets its contract. The loop's invariant: what is still to be built on y answers for the tree.
--- Rests on Again.antt and on the contracts of `root_leaf`, `put_alone`, `remake` and `same_nodes`.
+-- Rests on Again.antt, on `store`, Lent, and on the contracts of `root_leaf`, `put_alone`, `remake` and `same_nodes`.
 use mathlib.Core.Path.{sym, ap, _∙_}
 use mathlib.Core.Bool.{true≢false}
 use native.Mathlib.Omega.{arith}
 use borrow.Author.Needs.{needs}
 use borrow.Author.Tests.{not-true, not-false}
 use Rattle.store.specs.Lent.{treeOf}
+use Rattle.store.proofs.Lent.{cleared}
 use Rattle.dtree.specs.Promises.{oneRecord}
 use Rattle.dtree.proofs.Again.{Answers, even, begun, compared, stops, goes}
 use Rattle.dtree.proofs.sixteen.is_good.Statement.{statement}
@@ -29,7 +30,7 @@ root-leaf-requires : tie.Need-root-leaf-requires Inv-loop μ-loop
 root-leaf-requires c κs = c .before .before .before .before .before .before .pre
 
 put-alone-requires : tie.Need-put-alone-requires Inv-loop μ-loop
-put-alone-requires c κs = search needs
+put-alone-requires c κs = cleared
 
 loop-holds : tie.Need-loop-holds Inv-loop μ-loop
 loop-holds c =

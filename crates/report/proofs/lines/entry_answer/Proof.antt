@@ -1,5 +1,5 @@
 -- `entry_answer` meets its contract.
--- Rests on the contracts of `table` and `cue_answer`; the parts of the arrays are `sheet`'s partsOf.
+-- Rests on the contracts of `table` and `run_afresh`; the parts of the arrays are `sheet`'s partsOf.
 use mathlib.Core.Path.{_≡_, ap, _∙_}
 use mathlib.Core.Bool.{false}
 use lib.ListN.{length-take}
@@ -24,28 +24,28 @@ table-requires c κs = search needs
 array-share-prefix-weights : tie.Need-array-share-prefix-weights
 array-share-prefix-weights c = search needs
 
-slice-aggregate-cue-answer : tie.Need-slice-aggregate-cue-answer
-slice-aggregate-cue-answer c = simp length-take (omega arith)
+slice-aggregate-run-afresh : tie.Need-slice-aggregate-run-afresh
+slice-aggregate-run-afresh c = simp length-take (omega arith)
 
 array-share-prefix-present : tie.Need-array-share-prefix-present
 array-share-prefix-present c = search needs
 
-slice-aggregate-cue-answer-2 : tie.Need-slice-aggregate-cue-answer-2
-slice-aggregate-cue-answer-2 c = simp length-take (omega arith)
+slice-aggregate-run-afresh-2 : tie.Need-slice-aggregate-run-afresh-2
+slice-aggregate-run-afresh-2 c = simp length-take (omega arith)
 
 array-share-prefix-absent : tie.Need-array-share-prefix-absent
 array-share-prefix-absent c = search needs
 
-slice-aggregate-cue-answer-3 : tie.Need-slice-aggregate-cue-answer-3
-slice-aggregate-cue-answer-3 c = simp length-take (omega arith)
+slice-aggregate-run-afresh-3 : tie.Need-slice-aggregate-run-afresh-3
+slice-aggregate-run-afresh-3 c = simp length-take (omega arith)
 
-cue-answer-requires : tie.Need-cue-answer-requires
-cue-answer-requires c κs = search needs
+run-afresh-requires : tie.Need-run-afresh-requires
+run-afresh-requires c κs = search needs
 
 returns : tie.Need-returns
 returns c =
     let read = c .before .before .before .before .before .before .before in
-    carried (read .before .before .args .limits) (read .table .ensures .table) (c .cue-answer .ensures)
+    carried (read .before .before .args .limits) (read .table .ensures .table) (c .run-afresh .ensures)
 
 pub entry-answer-spec : {M : Type 1} → statement M
 entry-answer-spec =
@@ -53,10 +53,10 @@ entry-answer-spec =
     (tie.spec
     table-requires
     array-share-prefix-weights
-    slice-aggregate-cue-answer
+    slice-aggregate-run-afresh
     array-share-prefix-present
-    slice-aggregate-cue-answer-2
+    slice-aggregate-run-afresh-2
     array-share-prefix-absent
-    slice-aggregate-cue-answer-3
-    cue-answer-requires
+    slice-aggregate-run-afresh-3
+    run-afresh-requires
     returns)
