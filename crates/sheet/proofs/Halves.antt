@@ -17,6 +17,26 @@ field-byte zero (b ∷ bs) = omega arith
 field-byte (suc i) [] = refl
 field-byte (suc i) (b ∷ bs) = field-byte i bs
 
+-- Four bytes at the front.
+field-four : (bs : List ℕ) → getD bs 0 0 + 256 * getD bs 1 0 + 65536 * getD bs 2 0 + 16777216 * getD bs 3 0 ≡ field 4 0 bs
+unfolding field value
+field-four [] = refl
+field-four (a ∷ []) = omega arith
+field-four (a ∷ b ∷ []) = omega arith
+field-four (a ∷ b ∷ c ∷ []) = omega arith
+field-four (a ∷ b ∷ c ∷ d ∷ bs) = omega arith
+
+-- So four numbers of one byte each are one of four.
+pub four-bytes : (bs : List ℕ) (a b c d : ℕ) → a ≡ field 1 0 bs → b ≡ field 1 1 bs → c ≡ field 1 2 bs → d ≡ field 1 3 bs
+    → a + 256 * b + 65536 * c + 16777216 * d ≡ field 4 0 bs
+four-bytes bs a b c d e f g h =
+    omega (arith, e, f, g, h, field-byte 0 bs, field-byte 1 bs, field-byte 2 bs, field-byte 3 bs, field-four bs)
+
+-- Bytes at the front of those from i on are bytes at i.
+pub field-front : (n i : ℕ) (bs : List ℕ) {t : List ℕ} → t ≡ drop i bs → field n 0 t ≡ field n i bs
+unfolding field
+field-front n i bs e = rw e refl
+
 -- The first m bytes, and the n behind them.
 value-halves : (m n : ℕ) (bs : List ℕ) → value (take (m + n) bs) ≡ value (take m bs) + 256 ^ m * value (take n (drop m bs))
 unfolding value

@@ -29,11 +29,25 @@ pub fn u16_at(s: &[u8], i: usize) -> u16
     byte_at(t, 0) as u16 + 256 * (byte_at(t, 1) as u16)
 }
 
+/// The number in the first four bytes, byte by byte.
+fn first_u32(t: &[u8]) -> u32
+    ensures { λ r. ⌜ r ≡ field 4 0 (now (t .entry)) ⌝ }
+{
+    byte_at(t, 0) as u32
+        + 256 * (byte_at(t, 1) as u32)
+        + 65536 * (byte_at(t, 2) as u32)
+        + 16777216 * (byte_at(t, 3) as u32)
+}
+
 /// The number in the four bytes at i.
 pub fn u32_at(s: &[u8], i: usize) -> u32
     ensures { λ r. ⌜ r ≡ field 4 i (now (s .entry)) ⌝ }
 {
     let t = rest(s, i);
+    // Apart, so that of four bytes that are all there none is asked for its place: they are read at once.
+    if 4 <= t.len() {
+        return first_u32(t);
+    }
     u16_at(t, 0) as u32 + 65536 * (u16_at(t, 2) as u32)
 }
 
