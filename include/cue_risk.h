@@ -59,7 +59,7 @@ extern "C" {
 #define CUE_NODES 511           /* records in a tree */
 #define CUE_TEXT 939            /* a space that cue_sheet_report never refuses */
 #define CUE_SHEET 49612         /* the longest sheet */
-#define CUE_STACK 262144        /* the stack that a call may need; the most seen is 0.12 million bytes, in cue_sheet_report */
+#define CUE_STACK 262144        /* the stack that a call may need; the most seen is 67 KiB, in cue_sheet_report */
 
 /* CueAnswer.verdict: why a run stopped, the first of these that applied. Every other call has none. */
 enum { CUE_NONE = 0, CUE_MET = 1, CUE_DONE = 2, CUE_FULL = 3, CUE_SPENT = 4 };

@@ -46,8 +46,10 @@ joined-first u r v h =
 -- So does the second.
 joined-second : (r v : Way) → subsumes v (joined r v) ≡ true
 joined-second r v =
-    inside-subsumes v (joined r v)
-    (λ i b. bit-or i (r .present) (v .present) ∙ or-second (bit i (r .present)) _ b, λ i b. bit-or i (r .absent) (v .absent) ∙ or-second (bit i (r .absent)) _ b)
+    inside-subsumes v (joined r v) (
+      λ i b. bit-or i (r .present) (v .present) ∙ or-second (bit i (r .present)) _ b,
+      λ i b. bit-or i (r .absent) (v .absent) ∙ or-second (bit i (r .absent)) _ b,
+    )
 
 module _ (ps qs : List ℕ) (c : Clauses) where
   -- In the midst of the loop: each way is still left, or subsumes what was joined so far.
@@ -79,7 +81,8 @@ module _ (ps qs : List ℕ) (c : Clauses) where
         by : (i : ℕ) (e : Bool) → eqb i (t .way .number) ≡ e → (o b : Bool) → subsumes (wayAt ps qs c i) r ≡ b → (e || o) || b ≡ true
             → o || subsumes (wayAt ps qs c i) (joined r (t .way)) ≡ true
         by i e z true b q k = refl
-        by i true z false b q k = ap (λ (w : Way). subsumes w (joined r (t .way))) (ap (wayAt ps qs c) (eqb-true i (t .way .number) z) ∙ it) ∙ joined-second r (t .way)
+        by i true z false b q k = ap (λ (w : Way). subsumes w (joined r (t .way))) (ap (wayAt ps qs c) (eqb-true i (t .way .number) z) ∙ it)
+            ∙ joined-second r (t .way)
         by i false z false true q k = joined-first (wayAt ps qs c i) r (t .way) q
         by i false z false false q k = absurd (true≢false (sym k))
 
@@ -114,7 +117,8 @@ divides ps qs c m n o r w u e x y k l p q v =
       named-present = x;
       named-absent = y;
       others-within = less-within ps qs c n o w l;
-      others-numbers = λ i. l i ∙ ap (λ (b : Bool). inWords (c .low) (c .high) i && not b) (named i) ∙ off (inWords (c .low) (c .high) i) (touches m (wayAt ps qs c i));
+      others-numbers = λ i. l i ∙ ap (λ (b : Bool). inWords (c .low) (c .high) i && not b) (named i)
+          ∙ off (inWords (c .low) (c .high) i) (touches m (wayAt ps qs c i));
       others-present = p;
       others-absent = q;
       covered = v;
@@ -221,7 +225,8 @@ module _ (ps qs : List ℕ) (others shorter : Clauses) where
         → k .present ≡ kept .present → k .absent ≡ kept .absent → Leaving k (t .others)
     leaves out k o l x y =
         record {
-          numbers = λ i. ap (λ (b : Bool). b && not (some-subsume (t .others) i)) (l i ∙ ap (λ (b : Bool). inWords (kept .low) (kept .high) i && not b) (subsumed i))
+          numbers = λ i. ap (λ (b : Bool). b && not (some-subsume (t .others) i))
+              (l i ∙ ap (λ (b : Bool). inWords (kept .low) (kept .high) i && not b) (subsumed i))
               ∙ by (inWords (kept .low) (kept .high) i) (subsumes (t .way) (wayAt ps qs others i)) (some-subsume (t .others) i) ∙ before i;
           inside = λ i e. s .inside i (and-left (inWords (kept .low) (kept .high) i) _ (sym (l i) ∙ e));
           kept-present = x ∙ s .kept-present;
@@ -255,7 +260,8 @@ module _ (ps qs : List ℕ) (others shorter : Clauses) where
 
 -- Those that lost the fault and those of the others that are kept: what stays of the leaf's ways with the fault fixed.
 module _ (ps qs : List ℕ) (c : Clauses) (p q : ℕ) (d : ByFault) (divided : Divided ps qs c (bitOr p q) d) (one : OneFault p q) (lean : Lean (waysOf ps qs c))
-    (shorter : Clauses) (ways-are : waysOf ps qs shorter ≡ remaining p q (waysOf ps qs (d .named))) (present-is : shorter .present ≡ bitOr (d .named .present) p)
+    (shorter : Clauses) (ways-are : waysOf ps qs shorter ≡ remaining p q (waysOf ps qs (d .named)))
+    (present-is : shorter .present ≡ bitOr (d .named .present) p)
     (absent-is : shorter .absent ≡ bitOr (d .named .absent) q) (lost : Keeps ps qs (λ v. not (contradicted p q v)) (d .named) shorter)
     (kept : Clauses) (rest : Keeps ps qs (λ v. not (any (λ u. subsumes u v) (waysOf ps qs shorter))) (d .others) kept) where
   -- Both together.
@@ -265,7 +271,8 @@ module _ (ps qs : List ℕ) (c : Clauses) (p q : ℕ) (d : ByFault) (divided : D
   pub left-out : (waysOf ps qs both ≡ minimal (remaining p q (waysOf ps qs c))) × Within ps qs both
       × (shorter .present ≡ bitOr (c .present) p) × (shorter .absent ≡ bitOr (c .absent) q)
   left-out =
-      let e = kept-ways ps qs (stays p q (waysOf ps qs shorter)) c (divided .whole) both _ (ap₂ bitOr present-c absent-c) numbers (dropped (bitOr p q)) (fixed-more c p q) in
+      let e = kept-ways ps qs (stays p q (waysOf ps qs shorter)) c (divided .whole) both _ (ap₂ bitOr present-c absent-c) numbers
+      (dropped (bitOr p q)) (fixed-more c p q) in
       (e .0 ∙ staying-is p q one (waysOf ps qs c) lean (waysOf ps qs shorter) (ways-are ∙ ap (remaining p q) (divided .named-ways)), e .1, present-c, absent-c)
     where
       present-c : shorter .present ≡ bitOr (c .present) p

@@ -11,13 +11,14 @@ use Rattle.rules.specs.declared.Way.{Way}
 use Rattle.rules.specs.Table.{rows}
 use Rattle.rules.specs.Leaf.{select, hasNumber, dropped}
 use Rattle.rules.proofs.Booleans.{and-true, and-false}
+use Rattle.rules.proofs.Sets.{select-none}
 use Rattle.records.specs.Records.{lowWord, highWord, inWords}
 use Rattle.records.proofs.Words.{words-number, low-fits}
 use Rattle.clauses.specs.declared.Clauses.{Clauses}
 use Rattle.clauses.specs.declared.Taken.{Taken}
 use Rattle.clauses.specs.Leaves.{fixedOf, waysOf, Within, Takes}
 use Rattle.clauses.proofs.Pairs.{in-none, same-low, same-high}
-use Rattle.clauses.proofs.Selected.{rows-number, select-number, dropped-number, select-none, select-few}
+use Rattle.clauses.proofs.Selected.{rows-number, select-number, dropped-number, select-few}
 
 module _ (ps qs : List ℕ) (c : Clauses) where
   -- The test that selects the ways.

@@ -84,12 +84,6 @@ unfolding select
 select-all [] = refl
 select-all (v ∷ vs) = ap (λ (r : List Way). v ∷ r) (select-all vs)
 
--- One that no number passes selects nothing.
-pub select-none : (P : ℕ → Bool) → ((j : ℕ) → P j ≡ false) → (vs : List Way) → select P vs ≡ []
-unfolding select
-select-none P h [] = refl
-select-none P h (v ∷ vs) = rw (select, h (v .number)) (select-none P h vs)
-
 -- No more ways are selected than the table has.
 pub select-few : (P : ℕ → Bool) (i : ℕ) (ps qs : List ℕ) → length qs ≡ length ps → length (select P (rows i ps qs)) ≤ length ps
 unfolding select rows absentRows

@@ -1,8 +1,8 @@
 -- What a record tells of its place: whether an open leaf is there, the leaf's remaining ways and its width; and that the ways of a record are lean.
--- Rests on Words.antt.
+-- Rests on Words.antt and InPlace.antt, and on `rules`, HandedDown.
 use mathlib.Core.Path.{_≡_, refl, sym, ap, ap₂, _∙_, subst}
 use mathlib.Core.Bool.{Bool, true, false}
-use mathlib.Core.List.{List, [], _∷_}
+use mathlib.Core.List.{List, []}
 use mathlib.Core.Option.{Option, none, some}
 use Prim.Native.Nat.{ℕ, _-_, _<_}
 use native.Mathlib.Decide.{decLt}
@@ -12,10 +12,11 @@ use lib.Dec.{eqb}
 use Rattle.rules.specs.Rounding.{down, up}
 use Rattle.rules.specs.Table.{Table, ways}
 use Rattle.rules.specs.declared.Way.{Way}
-use Rattle.rules.specs.Leaf.{select, hasNumber, remaining, sift, minimal, Lean, leafWidth, isOpen}
+use Rattle.rules.specs.Leaf.{hasNumber, remaining, sift, minimal, Lean, leafWidth, isOpen}
 use Rattle.rules.specs.Tree.{rootWays, Place, DTree, end, Refinement, tree, kindAt, leafWays, Subtree, descend, root, subtree, series}
 use Rattle.rules.specs.declared.Kind.{Kind}
 use Rattle.rules.proofs.HandedDown.{handed-lean}
+use Rattle.rules.proofs.Sets.{select-none}
 use Rattle.rules.proofs.Places.{has-subtree, undone-leaf, done-no-leaf}
 use Rattle.records.specs.Records.{blank, places, lowWord, highWord, inWords, liveCode, recordWays, recordIn, subtreeOr, recordAt, recordsOf, layout, Good}
 use Rattle.records.specs.Growing.{recordWidth}
@@ -52,16 +53,10 @@ holds t ns h p i = by (has-subtree p (root t) (tree ns) (held-has t ns h p i)) (
 
 -- ---- the ways of a record are lean
 
--- Of no number there is no way.
-none-chosen : (P : ℕ → Bool) → ((i : ℕ) → P i ≡ false) → (vs : List Way) → select P vs ≡ []
-unfolding select
-none-chosen P h [] = refl
-none-chosen P h (v ∷ vs) = rw (select, h (v .number)) (none-chosen P h vs)
-
 -- A blank record has no ways.
 blank-ways : (t : Table) → recordWays t blank ≡ []
 unfolding recordWays lowWord highWord hasNumber remaining
-blank-ways t = ap (remaining 0 0) (none-chosen (inWords 0 0) (λ i. words-number [] i) (ways t))
+blank-ways t = ap (remaining 0 0) (select-none (inWords 0 0) (λ i. words-number [] i) (ways t))
 
 -- None at all are lean.
 lean-none : Lean []

@@ -42,7 +42,8 @@ pub record AtPlace (t : Table) (p : Place) (x : Subtree) : Type 0 where
   -- Its remaining ways are what stays of those of its set that no fixed fault contradicts, with the fixed faults dropped.
   pub ways-remaining : Handed (ways t) (x .node)
   -- (02, a) "an interval still encloses the exact sum over all ways that remained before any was left out"
-  pub over-all : Encloses (t .weights) (remaining (x .node .present) (x .node .absent) (ofSet (x .node .set) (ways t))) (interval (t .weights) x .low) (interval (t .weights) x .high)
+  pub over-all : Encloses (t .weights) (remaining (x .node .present) (x .node .absent) (ofSet (x .node .set) (ways t)))
+      (interval (t .weights) x .low) (interval (t .weights) x .high)
   -- (02, a) "This comes first at every leaf": of what a place has, nothing can be left out.
   pub nothing-new : Lean (x .node .ways)
   -- They stand in number order.
@@ -58,7 +59,8 @@ at-place t ok ns h p x e =
       ways-remaining = handed-down t ns h p x e;
       over-all =
           before-leaving-out (t .weights) (remaining (x .node .present) (x .node .absent) (ofSet (x .node .set) (ways t))) _ _
-          (subst (λ (vs : List Way). Encloses (t .weights) vs (interval (t .weights) x .low) (interval (t .weights) x .high)) (handed-down t ns h p x e) (enclosure t ok ns h p x e .encloses));
+          (subst (λ (vs : List Way). Encloses (t .weights) vs (interval (t .weights) x .low) (interval (t .weights) x .high))
+          (handed-down t ns h p x e) (enclosure t ok ns h p x e .encloses));
       nothing-new = handed-lean t ns h p x e;
       in-order = handed-rising t ns h p x e;
       level = levels t ok ns h p (subtree-has p (root t) (tree ns) x e);

@@ -121,7 +121,10 @@ module _ (f P A : ℕ) (only : bitOr P A ≡ 2 ^ f) where
   back : (u v : Way) → Follows u v → subsumes (dropped m u) (dropped m v) ≡ true → subsumes u v ≡ true
   back u v c h =
       let k = subsumes-inside (dropped m u) (dropped m v) h in
-      inside-subsumes u v (undrop m (u .present) (v .present) (at (u .present) (v .present) (c .0)) (k .0), undrop m (u .absent) (v .absent) (at (u .absent) (v .absent) (c .1)) (k .1))
+      inside-subsumes u v (
+        undrop m (u .present) (v .present) (at (u .present) (v .present) (c .0)) (k .0),
+        undrop m (u .absent) (v .absent) (at (u .absent) (v .absent) (c .1)) (k .1),
+      )
     where
       at : (x y : ℕ) → (bit f x ≡ true → bit f y ≡ true) → (i : ℕ) → bit i m ≡ true → bit i x ≡ true → bit i y ≡ true
       at x y g i b = rw (only-bit i b) g
@@ -181,7 +184,8 @@ module _ (f P A : ℕ) (only : bitOr P A ≡ 2 ^ f) where
       where
         strictly : (x y : Way) → In x vs → In y vs → subsumes x y ≡ true → subsumes y x ≡ false → ⊥
         strictly x y k l h n =
-            true≢false (sym (and-both (subsumes x y) (not (subsumes y x) || ltb (x .number) (y .number)) h (or-first (not (subsumes y x)) (ltb (x .number) (y .number)) (ap not n))) ∙ not-outdone x y k l)
+            true≢false (sym (and-both (subsumes x y) (not (subsumes y x) || ltb (x .number) (y .number)) h
+            (or-first (not (subsumes y x)) (ltb (x .number) (y .number)) (ap not n))) ∙ not-outdone x y k l)
 
         by : (a : Bool) → touches m u ≡ a → (b : Bool) → touches m v ≡ b → outdoes (dropped m u) (dropped m v) ≡ not b && (a && subsumes (dropped m u) v)
         by true e true g = same-outdoes u v (both-follow u v cu cv g) (both-follow v u cv cu e) ∙ not-outdone u v i j

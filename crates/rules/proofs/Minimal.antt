@@ -215,7 +215,8 @@ minimal-happens vs a = happens-any (minimal vs) a ∙ same-test (any f (minimal 
         let r = some-passes f vs h in
         let k = least (suc (size (r .0))) (suc (r .0 .number)) vs (r .0) (r .1) (omega arith) (omega arith) in
         is-true (any f (minimal vs))
-        (λ e. true≢false (sym (subsumed-satisfies (k .one) (r .0) a (k .below) (r .2)) ∙ none-passes f (minimal vs) (k .one) e (sift-in _ vs (k .one) (k .is-in) (ap not (k .stays)))))
+        (λ e. true≢false (sym (subsumed-satisfies (k .one) (r .0) a (k .below) (r .2))
+        ∙ none-passes f (minimal vs) (k .one) e (sift-in _ vs (k .one) (k .is-in) (ap not (k .stays)))))
 
 -- The same exact sum.
 pub minimal-exact : (ws : List ℕ) (vs : List Way) → exact ws (minimal vs) ≡ exact ws vs

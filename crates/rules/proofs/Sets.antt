@@ -78,6 +78,12 @@ select-same i (v ∷ vs) P Q k h =
     by false true e ih = absurd (true≢false (sym e))
     by false false e ih = ih
 
+-- A test that no number passes selects nothing.
+pub select-none : (P : ℕ → Bool) → ((j : ℕ) → P j ≡ false) → (vs : List Way) → select P vs ≡ []
+unfolding select
+select-none P h [] = refl
+select-none P h (v ∷ vs) = rw (select, h (v .number)) (select-none P h vs)
+
 -- The ways with the numbers of a list, where its first number is that of the first way, and no later way has it.
 first-selected : (u v : Way) (us vs : List Way) → u .number ≡ v .number → Rising (suc (v .number)) vs → ofSet (u ∷ us) (v ∷ vs) ≡ v ∷ ofSet us vs
 unfolding select hasNumber

@@ -56,8 +56,13 @@ returns : tie.Need-returns Inv-loop μ-loop
 returns c =
     let l = c .before .before .loop in
     let a = c .before .before .before .before .before .args in
-    let e = ended _ _ _ _ _ _ _ (l .inv) (search needs) (c .if1 .left) (λ v. v) (λ v. refl) in
-    (e .0 ∙ passing-part (a .touched) (a .m) (waysOf (a .present .now) (a .absent .now) (a .c)), e .1, l .inv .kept-present, l .inv .kept-absent, all-kept _ _ _ _ _ _ _ (l .inv) (search needs) (c .if1 .left))
+    let e = ended _ _ _ _ _ _ _ (l .inv) (search needs) (c .if1 .left) (λ v. v) (λ v. refl) in (
+      e .0 ∙ passing-part (a .touched) (a .m) (waysOf (a .present .now) (a .absent .now) (a .c)),
+      e .1,
+      l .inv .kept-present,
+      l .inv .kept-absent,
+      all-kept _ _ _ _ _ _ _ (l .inv) (search needs) (c .if1 .left),
+    )
 
 pub part-spec : {M : Type 1} → statement M
 part-spec =

@@ -52,8 +52,11 @@ loop-again c =
     let o = c .before in
     let i = o .before .before .before in
     let l = i .before in
-    let s = l .before .before .before in
-    (l .loop .inv .0, omega (arith, i .loop-test .taken), none-more (s .args .present .now) (s .args .absent .now) (s .args .v) (l .loop .j) (l .loop .inv .2) (sym (o .outdoes .ensures) ∙ c .if1 .left))
+    let s = l .before .before .before in (
+      l .loop .inv .0,
+      omega (arith, i .loop-test .taken),
+      none-more (s .args .present .now) (s .args .absent .now) (s .args .v) (l .loop .j) (l .loop .inv .2) (sym (o .outdoes .ensures) ∙ c .if1 .left),
+    )
 
 returns-2 : tie.Need-returns-2 Inv-loop μ-loop
 returns-2 c =

@@ -40,7 +40,8 @@ loop-again : tie.Need-loop-again Inv-loop μ-loop
 loop-again c =
     let t = c .before .before .before .before .before .before in
     let m = c .minus .ensures in
-    leaves _ _ _ _ _ _ (t .before .before .before .loop .inv) _ (t .taken .ensures) (c .before .subsumed .result) _ (c .before .subsumed .ensures) (m .0) (m .1) (m .2)
+    leaves _ _ _ _ _ _ (t .before .before .before .loop .inv) _ (t .taken .ensures)
+    (c .before .subsumed .result) _ (c .before .subsumed .ensures) (m .0) (m .1) (m .2)
 
 loop-less-2 : tie.Need-loop-less-2 Inv-loop μ-loop
 loop-less-2 c = fewer _ _ _ _ (c .before .before .before .before .taken .ensures)
@@ -59,7 +60,8 @@ returns c =
     let r = l .before .before .before in
     let s = r .before .before .before in
     let k = r .restrict .ensures in
-    left-out _ _ (s .args .c) (s .args .p) (s .args .q) (s .args .d) (s .pre .1 .0) (s .pre .1 .1) (s .pre .0) (r .restrict .result) (k .0) (k .2) (k .3) (k .4) (l .loop .kept)
+    left-out _ _ (s .args .c) (s .args .p) (s .args .q) (s .args .d) (s .pre .1 .0) (s .pre .1 .1) (s .pre .0)
+    (r .restrict .result) (k .0) (k .2) (k .3) (k .4) (l .loop .kept)
     (none-left-over _ _ _ _ _ _ (l .loop .inv) (e .if1 .left))
 
 pub staying-spec : {M : Type 1} → statement M

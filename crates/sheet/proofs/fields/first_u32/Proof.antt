@@ -49,7 +49,8 @@ add-result-3 c = search needs
 
 returns : tie.Need-returns
 returns c =
-    four-bytes _ _ _ _ _ (c .before .before .before .byte-at .ensures) (c .before .before .byte-at2 .ensures) (c .before .byte-at3 .ensures) (c .byte-at4 .ensures)
+    four-bytes _ _ _ _ _ (c .before .before .before .byte-at .ensures) (c .before .before .byte-at2 .ensures)
+    (c .before .byte-at3 .ensures) (c .byte-at4 .ensures)
 
 pub first-u32-spec : {M : Type 1} → statement M
 first-u32-spec =
