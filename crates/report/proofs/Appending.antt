@@ -6,7 +6,7 @@ use Prim.Native.Nat.{ℕ, _+_, _≤_, _<_}
 use native.Mathlib.Omega.{arith}
 use native.Mathlib.Numerals.{add-one}
 use borrow.Author.Tests.{lt-ltb, le-ltb}
-use lib.ListN.{length, drop, set, getD, length-append, length-set, drop-of-length-le}
+use lib.ListN.{length, drop, set, getD, length-append, drop-of-length-le}
 use lib.Seq.{drop-cons, append-snoc}
 use Rattle.sheet.proofs.Sized.{sized-next}
 use Rattle.report.specs.declared.text.Report.{Report}
@@ -54,7 +54,6 @@ then-two r xs ys zs e f = said r (append-assoc xs ys zs) (then r xs (ys ++ zs) e
 
 -- What is left to append to u gives what the whole list gives appended to r.
 pub record Left (r : Report) (bs : List ℕ) (u : Report) (i : ℕ) : Type 0 where
-  pub long : length (u .text) ≡ 939
   pub rest : appended u (drop i bs) ≡ appended r bs
 
 module _ {r : Report} {bs : List ℕ} {u : Report} {i : ℕ} (l : Left r bs u i) where
@@ -73,10 +72,7 @@ module _ {r : Report} {bs : List ℕ} {u : Report} {i : ℕ} (l : Left r bs u i)
   left-next h room =
       let b : ℕ = getD bs i 0 in
       let next : drop i bs ≡ b ∷ drop (i + 1) bs = rw add-one (drop-cons bs i 0 h) in
-      record {
-        long = length-set (u .text) (u .length) b ∙ l .long;
-        rest = ap (λ (x : Report). appended x (drop (i + 1) bs)) (sym (byte-put u b room)) ∙ ap (appended u) (sym next) ∙ l .rest;
-      }
+      record { rest = ap (λ (x : Report). appended x (drop (i + 1) bs)) (sym (byte-put u b room)) ∙ ap (appended u) (sym next) ∙ l .rest }
 
 -- ---- the whole text
 

@@ -5,7 +5,7 @@ use mathlib.Core.List.{List, [], _∷_, _++_}
 use Prim.Native.Nat.{ℕ, zero, suc, _+_, _≤_, _<_}
 use native.Mathlib.Numerals.{add-one}
 use native.Mathlib.Omega.{arith}
-use lib.ListN.{length, getD, drop, drop-of-length-le}
+use lib.ListN.{length, getD, drop, replicate, drop-of-length-le}
 use lib.Seq.{drop-cons}
 use Rattle.rules.specs.Sheet.{Cue, Sheet, sheetOf, limitsIn, listsIn, decode, readNumber, headIn, readAnswerBy, readAnswer, AllBelow}
 use Rattle.rules.specs.Text.{bytes, line, lines, sheetText, textBy, text}
@@ -13,9 +13,9 @@ use Rattle.rules.specs.declared.Head.{Head}
 use Rattle.rules.specs.declared.Limits.{Limits}
 use Rattle.rules.specs.declared.ReadAnswer.{ReadAnswer}
 use Rattle.rules.proofs.TextLength.{text-length}
-use Rattle.sheet.proofs.Sized.{length-sized, part}
+use Rattle.sheet.proofs.Sized.{length-sized, sized-none, part}
 use Rattle.report.specs.declared.text.Report.{Report}
-use Rattle.report.specs.Appended.{held, appended}
+use Rattle.report.specs.Appended.{held, textOf, appended}
 use Rattle.report.specs.Lines.{refusedText}
 use Rattle.report.specs.Reported.{Reported}
 use Rattle.report.proofs.Appending.{said, then, held-both}
@@ -79,16 +79,25 @@ text-refused bs e = refused-by (readNumber bs) (headIn bs) (decode bs) e
 
 -- ---- what the code does
 
-module _ (bs : List ℕ) (h : (i : ℕ) → getD bs i 0 < 256) {b : Report} (e : b ≡ held []) where
+-- The text that an array of zeros is, before anything is appended.
+abbrev blank : Report
+blank = textOf (replicate 939 0) 0
+
+-- It holds no bytes.
+blank-held : blank ≡ held []
+unfolding held
+blank-held = λ j. record { text = sized-none 939 j; length = 0 }
+
+module _ (bs : List ℕ) (h : (i : ℕ) → getD bs i 0 < 256) where
   -- The bytes of the text, appended to none.
-  report-of : {xs : List ℕ} {r : Report} → text bs ≡ xs → r ≡ appended b xs → Reported bs r
-  report-of {xs} q f = reported bs (each-below 256 bs h) (said (held []) q (f ∙ ap (λ (x : Report). appended x xs) e))
+  report-of : {xs : List ℕ} {r : Report} → text bs ≡ xs → r ≡ appended blank xs → Reported bs r
+  report-of {xs} q f = reported bs (each-below 256 bs h) (said (held []) q (f ∙ ap (λ (x : Report). appended x xs) blank-held))
 
   -- An accepted sheet: the heading, and the lines behind it.
   pub report-accepted : (m : Limits) {u r : Report} → readNumber bs ≡ 0 → m ≡ limitsIn bs
-      → u ≡ appended b heading → r ≡ appended u (lines m (decode bs .weights) (decode bs .cues)) → Reported bs r
-  report-accepted m a l f g = report-of (text-accepted bs m a l) (then b heading (lines m (decode bs .weights) (decode bs .cues)) f g)
+      → u ≡ appended blank heading → r ≡ appended u (lines m (decode bs .weights) (decode bs .cues)) → Reported bs r
+  report-accepted m a l f g = report-of (text-accepted bs m a l) (then blank heading (lines m (decode bs .weights) (decode bs .cues)) f g)
 
   -- A refused one.
-  pub report-refused : {n : ℕ} {r : Report} → ReadAnswer.Refused n ≡ readAnswer bs → r ≡ appended b (refusedText n) → Reported bs r
+  pub report-refused : {n : ℕ} {r : Report} → ReadAnswer.Refused n ≡ readAnswer bs → r ≡ appended blank (refusedText n) → Reported bs r
   report-refused q f = report-of (text-refused bs q) f

@@ -12,6 +12,10 @@ use Rattle.report.specs.declared.text.Report.{Report}
 unfoldable pub held : List ℕ → Report
 held bs = record { text = sized 939 bs; length = length bs }
 
+-- The text that is the first bytes of an array.
+abbrev pub textOf : List ℕ → ℕ → Report
+textOf bs n = record { text = bs; length = n }
+
 -- One byte more; a full text stays as it is.
 unfoldable pub appendedByte : Report → ℕ → Report
 appendedByte r b =

@@ -1,18 +1,23 @@
 -- The table that is taken from the arrays of an entry, and the text of a line.
 -- Rests on `rules`, Text, for numbers and words as text, and on `sheet`, Handed, for the arrays.
 use mathlib.Core.List.{List, _++_}
-use Prim.Native.Nat.{ℕ}
+use Prim.Native.Nat.{ℕ, min}
 use lib.ListN.{take}
+use Rattle.rules.specs.Sheet.{faultsIn, weightsIn}
 use Rattle.rules.specs.Table.{Table}
 use Rattle.rules.specs.Text.{bytes, decimal, word}
 use Rattle.rules.specs.declared.Entry.{Entry}
 use Rattle.rules.specs.declared.Figures.{Figures}
 use Rattle.rules.specs.declared.RunAnswer.{RunAnswer}
 use Rattle.rules.specs.declared.Verdict.{Verdict}
-use Rattle.sheet.specs.Handed.{tableAt}
+use Rattle.sheet.specs.Handed.{sized, tableAt}
 use Rattle.report.specs.declared.lines.Line.{Line}
 
--- The parts of the arrays that are in use.
+-- The weights of the sheet: the part of the array that is in use.
+unfoldable pub weightsOf : List ℕ → List ℕ
+weightsOf bs = take (min (faultsIn bs) 64) (sized 64 (weightsIn bs))
+
+-- The table of an entry: the parts of the arrays that are in use.
 abbrev pub tableIn : List ℕ → Entry → Table
 tableIn bs e =
     record {

@@ -8,13 +8,14 @@ ghost use Rattle.rules.specs.Tree.{leaf};
 ghost use Rattle.rules.specs.Calls.{runAnswer};
 ghost use Rattle.rules.specs.Sheet.{Cue, readNumber, cuesIn, limitsIn, decode};
 ghost use Rattle.rules.specs.Text.{line};
-ghost use Rattle.report.specs.Lines.{tableIn, lineText};
+ghost use Rattle.report.specs.Lines.{weightsOf, tableIn, lineText};
 use dtree::afresh::run_afresh;
 use rules::Entry;
 use rules::Limits;
 use rules::RunAnswer;
+use sheet::arrays::at_most;
+use sheet::arrays::words;
 use sheet::reader::entry_at;
-use sheet::table::table;
 
 /// A cue's number, and what the run on its table answered.
 pub struct Line {
@@ -22,32 +23,28 @@ pub struct Line {
     pub answer: RunAnswer,
 }
 
-/// What a run with the limits answers on the table of an entry.
-fn entry_answer(s: &[u8], e: Entry, limits: Limits) -> RunAnswer
+/// What a run with the limits answers on the table of an entry; the weights, which are the same for all, are handed over.
+fn entry_answer(weights: &[u32], s: &[u8], e: Entry, limits: Limits) -> RunAnswer
+    requires { ⌜ now weights ≡ weightsOf (now s) ⌝ }
     ensures { λ r. ⌜ r ≡ runAnswer (tableIn (now (s .entry)) e) false leaf limits ⌝ }
 {
-    let t = table(s, e);
-    let weights = t.weights;
-    let present = t.present;
-    let absent = t.absent;
-    let faults = t.faults;
-    let ways = t.ways;
-    run_afresh(
-        &weights[..faults],
-        &present[..ways],
-        &absent[..ways],
-        limits,
-    )
+    let start = e.start as usize;
+    let rows = e.ways as usize;
+    let present = words(s, start, rows);
+    let absent = words(s, start + 8, rows);
+    let ways = at_most(rows, 128);
+    run_afresh(weights, &present[..ways], &absent[..ways], limits)
 }
 
-/// The line of the cue at position i of an accepted sheet, whose limits are handed over with it.
-pub fn line_at(s: &[u8], i: usize, limits: Limits) -> Line
+/// The line of the cue at position i of an accepted sheet, whose weights and limits are handed over with it.
+pub fn line_at(weights: &[u32], s: &[u8], i: usize, limits: Limits) -> Line
+    requires { ⌜ now weights ≡ weightsOf (now s) ⌝ }
     requires { ⌜ readNumber (now s) ≡ 0 ⌝ }
     requires { ⌜ i < cuesIn (now s) ⌝ }
     requires { ⌜ limits ≡ limitsIn (now s) ⌝ }
     ensures { λ r. ⌜ ((d : Cue) → lineText r ≡ line limits (decode (now (s .entry)) .weights) (getD (decode (now (s .entry)) .cues) i d)) ⌝ }
 {
     let e = entry_at(s, i);
-    let answer = entry_answer(s, e, limits);
+    let answer = entry_answer(weights, s, e, limits);
     Line { cue: e.cue, answer }
 }

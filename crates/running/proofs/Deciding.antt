@@ -51,11 +51,11 @@ module _ (t : Table) (ns : List Refinement) (m : Limits) (x : Tree) (made : ℕ)
       wide-root Nothing q = stopped t ns m x made w Done (is-done t x (w .good) a refl wide p q)
       wide-root (At j v) q = leaf-found j v q (ℕ-discrete (x .used) 511) (ℕ-discrete made (m .budget))
 
-    pub means : {r : Step} → r ≡ decided a root f (x .used) made (m .budget) → Outcome r
-    unfolding decided
-    means {r} e = subst Outcome (sym e) (by (narrow a (root .low) (root .high)) refl)
-      where
-        by : (b : Bool) → narrow a (root .low) (root .high) ≡ b
-            → Outcome (elim b as (λ b. Step) [ true ↦ Stop Met | false ↦ whenWide f (x .used) made (m .budget) ])
-        by true h = stopped t ns m x made w Met (is-met t x (w .good) a refl h)
-        by false h = wide-root h f refl
+  pub means : {r : Step} → r ≡ decided a x made (m .budget) → Outcome r
+  unfolding decided
+  means {r} e = subst Outcome (sym e) (by (narrow a (root .low) (root .high)) refl)
+    where
+      by : (b : Bool) → narrow a (root .low) (root .high) ≡ b
+          → Outcome (elim b as (λ b. Step) [ true ↦ Stop Met | false ↦ whenWide (pickOf (x .nodes)) (x .used) made (m .budget) ])
+      by true h = stopped t ns m x made w Met (is-met t x (w .good) a refl h)
+      by false h = wide-root (pickOf (x .nodes)) refl h (pickOf (x .nodes)) refl

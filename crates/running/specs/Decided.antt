@@ -1,4 +1,4 @@
--- What a turn decides on the root's record and on what the search found, and the tree that it leaves.
+-- What a turn decides on a tree, and the tree that it leaves.
 -- Rests on `rules`, Run, on `pick`, Picks, and on `records`, Growing.
 use mathlib.Core.Path.{_≡_}
 use mathlib.Core.Bool.{true, false}
@@ -9,9 +9,9 @@ use Rattle.rules.specs.Run.{narrow, choice}
 use Rattle.rules.specs.declared.Verdict.the-variants.{Met, Done, Full, Spent}
 use Rattle.records.specs.Records.{recordIn, recordWays}
 use Rattle.records.specs.Growing.{grownAt}
-use Rattle.records.specs.declared.Node.{Node}
 use Rattle.records.specs.declared.Tree.{Tree}
 use Rattle.store.specs.Safe.{Safe}
+use Rattle.pick.specs.Picks.{pickOf}
 use Rattle.pick.specs.declared.Found.{Found}
 use Rattle.pick.specs.declared.Found.the-variants.{At, Nothing}
 use Rattle.running.specs.declared.Step.{Step}
@@ -27,10 +27,11 @@ unfoldable pub whenWide : Found → ℕ → ℕ → ℕ → Step
 whenWide Nothing used made budget = Stop Done
 whenWide (At j w) used made budget = withLeaf j used made budget
 
--- Met first.
-unfoldable pub decided : ℕ → Node → Found → ℕ → ℕ → ℕ → Step
-decided allowance root found used made budget =
-    elim (narrow allowance (root .low) (root .high)) as (λ b. Step) [ true ↦ Stop Met | false ↦ whenWide found used made budget ]
+-- Met first, by the root's record; otherwise by what the search finds.
+unfoldable pub decided : ℕ → Tree → ℕ → ℕ → Step
+decided allowance x made budget =
+    elim (narrow allowance (recordIn (x .nodes) 0 .low) (recordIn (x .nodes) 0 .high)) as (λ b. Step)
+    [ true ↦ Stop Met | false ↦ whenWide (pickOf (x .nodes)) (x .used) made budget ]
 
 -- The tree y is the tree x with the leaf in record j refined as the rule says, and code may follow its records.
 pub record ByRule (t : Table) (x : Tree) (j : ℕ) (y : Tree) : Type 0 where

@@ -9,11 +9,8 @@ use super::Ended;
 use super::Step;
 use super::turn::decide;
 use super::turn::refine_by_rule;
-use pick::widest;
 use rules::Limits;
 use store::Words;
-use store::record_at;
-use store::used_in;
 
 /// A run on a tree that this table and some series gave.
 pub fn run_on(
@@ -32,15 +29,7 @@ pub fn run_on(
     let budget = limits.budget as u64;
     let mut made: u64 = 0;
     loop {
-        let found = widest(tree);
-        match decide(
-            record_at(tree, 0),
-            found,
-            used_in(tree),
-            allowance,
-            made,
-            budget,
-        ) {
+        match decide(tree, allowance, made, budget) {
             Step::Stop(verdict) => return Ended {
                 verdict,
                 count: made,

@@ -11,6 +11,7 @@ ghost use Rattle.rules.specs.Refusals.{Accepted};
 ghost use Rattle.records.specs.Records.{recordIn, recordWays};
 ghost use Rattle.store.specs.Lent.{treeOf};
 ghost use Rattle.store.specs.Safe.{Safe};
+ghost use Rattle.pick.specs.Picks.{Linked};
 ghost use Rattle.clauses.specs.Leaves.{waysOf, Within};
 ghost use Rattle.formula.specs.Leaves.{FaultFits};
 ghost use Rattle.running.specs.Decided.{decided, ByRule};
@@ -21,11 +22,13 @@ use formula::group::falls_apart;
 use grow::refine::grow;
 use grow::refine::ways_of;
 use pick::Found;
+use pick::widest;
 use records::Node;
 use rules::Kind;
 use rules::Verdict;
 use store::Words;
 use store::record_at;
+use store::used_in;
 
 /// What a run does at a leaf with these ways, where the table has n faults.
 fn choose(n: usize, present: &[u64], absent: &[u64], c: Clauses) -> Kind
@@ -49,16 +52,20 @@ fn narrow(n: Node, allowance: u64) -> bool
     n.high - n.low <= allowance
 }
 
-/// Met, done, full and spent, in this order; otherwise the leaf that the search found.
-pub fn decide(root: Node, found: Found, used: usize, allowance: u64, made: u64, budget: u64) -> Step
-    ensures { λ r. ⌜ r ≡ decided allowance root found used made budget ⌝ }
+/// Met, done, full and spent, in this order; otherwise the leaf that the search finds. Where the run is met, nothing is searched.
+pub fn decide(tree: &Words, allowance: u64, made: u64, budget: u64) -> Step
+    requires { ⌜ Linked (treeOf (now tree) .nodes) (treeOf (now tree) .used) ⌝ }
+    requires { ⌜ Safe (treeOf (now tree) .nodes) ⌝ }
+    ensures { λ r. ⌜ r ≡ decided allowance (treeOf (now (tree .entry))) made budget ⌝ }
 {
-    if narrow(root, allowance) {
+    if narrow(record_at(tree, 0), allowance) {
         return Step::Stop(Verdict::Met);
     }
+    let found = widest(tree);
     match found {
         Found::Nothing => Step::Stop(Verdict::Done),
         Found::At(j, _) => {
+            let used = used_in(tree);
             if used == 511 {
                 return Step::Stop(Verdict::Full);
             }

@@ -185,13 +185,12 @@ pub fn report(bytes: &[u8], space: &mut [u8]) -> usize {
         }
     };
     text.put(b"cue low high steps verdict\n");
+    let mut weights = [0u32; MOST_FAULTS];
+    for (fault, weight) in weights[..sheet.faults].iter_mut().enumerate() {
+        *weight = u32_at(bytes, sheet.weights() + 4 * fault);
+    }
     for i in 0..sheet.cues {
         let ways = sheet.ways(i);
-        // A cue's table is read whole, as the library hands it over: its weights too.
-        let mut weights = [0u32; MOST_FAULTS];
-        for (fault, weight) in weights[..sheet.faults].iter_mut().enumerate() {
-            *weight = u32_at(bytes, sheet.weights() + 4 * fault);
-        }
         let mut present = [0u64; MOST_WAYS];
         let mut absent = [0u64; MOST_WAYS];
         for way in 0..ways {

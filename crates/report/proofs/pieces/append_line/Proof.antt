@@ -22,16 +22,16 @@ append-refused-requires c κs = search needs
 returns : tie.Need-returns
 unfolding answerText
 returns c =
-    let k = c .before .before in
+    let k = c .before .before .before in
     let a = k .before .before .args in
-    said (a .r) (ap (answerText (a .l .cue)) (k .a .given .1)) (c .append-ended .ensures)
+    said _ (ap (answerText (a .l .cue)) (k .a .given .1)) (c .append-ended .ensures)
 
 returns-2 : tie.Need-returns-2
 unfolding answerText
 returns-2 c =
-    let k = c .before .before in
+    let k = c .before .before .before in
     let a = k .before .before .args in
-    said (a .r) (ap (answerText (a .l .cue)) (k .a2 .given .1)) (c .append-refused .ensures)
+    said _ (ap (answerText (a .l .cue)) (k .a2 .given .1)) (c .append-refused .ensures)
 
 pub append-line-spec : {M : Type 1} → statement M
 append-line-spec =

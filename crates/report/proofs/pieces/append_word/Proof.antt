@@ -1,11 +1,18 @@
 -- `append_word` meets its contract, variant by variant.
 -- Rests on the contract of `append`.
 use mathlib.Core.Path.{ap}
+use mathlib.Core.List.{List, _++_}
+use Prim.Native.Nat.{ℕ}
 use borrow.Author.Needs.{needs}
 use Rattle.rules.specs.Text.{bytes, word}
+use Rattle.rules.specs.declared.Verdict.{Verdict}
 use Rattle.report.proofs.Appending.{said}
 use Rattle.report.proofs.pieces.append_word.Statement.{statement}
 use Rattle.report.proofs.pieces.append_word.Tie as tie
+
+-- The last field of a line, with the line feed.
+abbrev line-end : Verdict → List ℕ
+line-end v = word v ++ bytes "\n"
 
 enum-told : tie.Need-enum-told
 enum-told c = search needs
@@ -45,19 +52,19 @@ append-requires-4 c κs = search needs
 
 returns : tie.Need-returns
 unfolding word bytes
-returns c = said (c .before .before .before .before .args .r) (ap word (c .before .before .enum-told .given .1)) (c .append .ensures)
+returns c = said _ (ap line-end (c .before .before .before .enum-told .given .1)) (c .append .ensures)
 
 returns-2 : tie.Need-returns-2
 unfolding word bytes
-returns-2 c = said (c .before .before .before .before .args .r) (ap word (c .before .before .enum-told2 .given .1)) (c .append2 .ensures)
+returns-2 c = said _ (ap line-end (c .before .before .before .enum-told2 .given .1)) (c .append2 .ensures)
 
 returns-3 : tie.Need-returns-3
 unfolding word bytes
-returns-3 c = said (c .before .before .before .before .args .r) (ap word (c .before .before .enum-told3 .given .1)) (c .append3 .ensures)
+returns-3 c = said _ (ap line-end (c .before .before .before .enum-told3 .given .1)) (c .append3 .ensures)
 
 returns-4 : tie.Need-returns-4
 unfolding word bytes
-returns-4 c = said (c .before .before .before .before .args .r) (ap word (c .before .before .enum-told4 .given .1)) (c .append4 .ensures)
+returns-4 c = said _ (ap line-end (c .before .before .before .enum-told4 .given .1)) (c .append4 .ensures)
 
 pub append-word-spec : {M : Type 1} → statement M
 append-word-spec =

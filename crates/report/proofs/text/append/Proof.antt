@@ -4,30 +4,31 @@ use Prim.Native.Nat.{_-_}
 use mathlib.Core.Path.{refl}
 use borrow.Author.Needs.{needs}
 use lib.ListN.{length}
+use Rattle.report.specs.Appended.{textOf}
 use Rattle.report.proofs.Appending.{Left, left-full, left-none, left-next}
 use Rattle.report.proofs.text.append.Statement.{statement}
 use Rattle.report.proofs.text.append.Tie as tie
 
 abbrev Inv-loop : tie.InvT-loop
-Inv-loop piece u₀ i₀ u i = Left u₀ piece u i
+Inv-loop text₀ before piece at₀ i₀ text at i = Left (textOf text₀ before) piece (textOf text at) i
 
 abbrev μ-loop : tie.MeasureT-loop
-μ-loop piece u₀ i₀ u i = length piece - i
+μ-loop text₀ before piece at₀ i₀ text at i = length piece - i
 
 loop-holds : tie.Need-loop-holds Inv-loop μ-loop
-loop-holds c = record { long = search needs; rest = refl }
+loop-holds c = record { rest = refl }
 
 returns : tie.Need-returns Inv-loop μ-loop
 returns c = left-full (c .before .before .loop .inv) (c .if1 .taken)
 
-shared-slice-read-u : tie.Need-shared-slice-read-u Inv-loop μ-loop
-shared-slice-read-u c = search needs
+shared-slice-read-text : tie.Need-shared-slice-read-text Inv-loop μ-loop
+shared-slice-read-text c = search needs
 
-element-write-u : tie.Need-element-write-u Inv-loop μ-loop
-element-write-u c = search needs
+element-write-text : tie.Need-element-write-text Inv-loop μ-loop
+element-write-text c = search needs
 
-add-u : tie.Need-add-u Inv-loop μ-loop
-add-u c = search needs
+add-at : tie.Need-add-at Inv-loop μ-loop
+add-at c = search needs
 
 add-i : tie.Need-add-i Inv-loop μ-loop
 add-i c = search needs
@@ -51,9 +52,9 @@ append-spec =
     μ-loop
     loop-holds
     returns
-    shared-slice-read-u
-    element-write-u
-    add-u
+    shared-slice-read-text
+    element-write-text
+    add-at
     add-i
     loop-less
     loop-again

@@ -1,4 +1,4 @@
--- `append_decimal` meets its contract. The loop's invariant: the last digits are found, those of the rest are still to be found.
+-- `append_decimal` meets its contract. The loop's invariant: the last digits are found, the byte behind them, those of the rest are still to be found.
 -- Rests on Digits.antt and the contract of `append`.
 use mathlib.Core.Path.{ap, _∙_}
 use native.Mathlib.Omega.{arith}
@@ -9,13 +9,13 @@ use Rattle.report.proofs.text.append_decimal.Statement.{statement}
 use Rattle.report.proofs.text.append_decimal.Tie as tie
 
 abbrev Inv-loop : tie.InvT-loop
-Inv-loop r n digits₀ at₀ rest₀ digits at rest = Found n digits at rest
+Inv-loop text before n end digits₀ at₀ rest₀ digits at rest = Found n end digits at rest
 
 abbrev μ-loop : tie.MeasureT-loop
-μ-loop r n digits₀ at₀ rest₀ digits at rest = at
+μ-loop text before n end digits₀ at₀ rest₀ digits at rest = at
 
 loop-holds : tie.Need-loop-holds Inv-loop μ-loop
-loop-holds c = found-none (c .args .n) 48 (omega arith)
+loop-holds c = found-none (c .args .n) (c .args .end) (omega arith)
 
 cast-digits : tie.Need-cast-digits Inv-loop μ-loop
 cast-digits c = search needs
@@ -51,14 +51,14 @@ part-append-start : tie.Need-part-append-start Inv-loop μ-loop
 part-append-start c = search needs
 
 part-append-end : tie.Need-part-append-end Inv-loop μ-loop
-part-append-end c = search (needs, c .before .before .loop .inv .long)
+part-append-end c = search (needs, c .before .before .before .loop .inv .long)
 
 append-requires : tie.Need-append-requires Inv-loop μ-loop
 append-requires c κs = search needs
 
 returns : tie.Need-returns Inv-loop μ-loop
 returns c =
-    let l = c .before .before .before in
+    let l = c .before .before .before .before in
     c .append .ensures ∙ ap (appended _) (found-all (l .before .loop .inv) (l .loop-test .left))
 
 pub append-decimal-spec : {M : Type 1} → statement M

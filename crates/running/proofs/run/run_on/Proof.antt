@@ -1,20 +1,17 @@
 -- `run_on` meets its contract. The loop: what was made, with what the rules make of the rest of the budget, is the whole run.
--- Rests on Deciding.antt and Going.antt and on the contracts of `widest`, `decide` and `refine_by_rule`.
+-- Rests on Deciding.antt and Going.antt and on the contracts of `decide` and `refine_by_rule`.
 use mathlib.Core.Path.{_≡_, subst}
 use mathlib.Core.List.{List}
-use Prim.Native.Nat.{ℕ, _-_}
+use Prim.Native.Nat.{_-_}
 use native.Mathlib.Omega.{arith}
 use borrow.Author.Needs.{needs}
 use Rattle.rules.specs.Table.{Table}
 use Rattle.rules.specs.Tree.{Refinement}
-use Rattle.records.specs.Records.{recordIn, history}
-use Rattle.records.specs.declared.Node.{Node}
+use Rattle.records.specs.Records.{history}
 use Rattle.records.specs.declared.Tree.{Tree}
 use Rattle.records.proofs.Live.{lean-at}
 use Rattle.store.specs.Lent.{treeOf}
-use Rattle.pick.specs.declared.Found.{Found}
 use Rattle.running.specs.declared.Step.{Step}
-use Rattle.running.specs.Decided.{decided}
 use Rattle.running.proofs.Turns.{Goes, linked}
 use Rattle.running.proofs.Going.{Going, start, room, goes-on}
 use Rattle.running.proofs.Deciding.{Outcome, means}
@@ -46,14 +43,9 @@ abbrev now-tree : tie.At-loop Inv-loop μ-loop → Tree
 now-tree l = treeOf (l .loop .tree)
 
 abbrev turn-of : tie.After-decide Inv-loop μ-loop → tie.At-loop Inv-loop μ-loop
-turn-of c = c .before .before .before .before .before .before .before
+turn-of c = c .before .before
 
 -- ---- what is decided
-
--- What was read from the tree is the tree's.
-decided-there : (a : ℕ) (x : Tree) (n : Node) (f : Found) (u made b : ℕ) {r : Step} → n ≡ recordIn (x .nodes) 0 → u ≡ x .used → r ≡ decided a n f u made b
-    → r ≡ decided a (recordIn (x .nodes) 0) f (x .used) made b
-decided-there a x n f u made b e g h = rw (e, g) at h
 
 abbrev outcome : tie.At-loop Inv-loop μ-loop → Step → Type 0
 outcome l = Outcome (table (call l)) (given (call l)) (call l .args .limits) (now-tree l) (l .loop .made) (l .loop .inv)
@@ -61,10 +53,7 @@ outcome l = Outcome (table (call l)) (given (call l)) (call l .args .limits) (no
 decides : (c : tie.After-decide Inv-loop μ-loop) → outcome (turn-of c) (c .decide .result)
 decides c =
     let l = turn-of c in
-    let m = call l .args .limits in
-    let w = c .before .before .before .before .before .widest in
-    means (table (call l)) (given (call l)) m (now-tree l) (l .loop .made) (l .loop .inv) (w .result) (w .ensures)
-    (decided-there (m .allowance) (now-tree l) _ (w .result) _ (l .loop .made) (m .budget) (c .before .before .before .record-at .ensures) (c .before .used-in .ensures) (c .decide .ensures))
+    means (table (call l)) (given (call l)) (call l .args .limits) (now-tree l) (l .loop .made) (l .loop .inv) (c .decide .ensures)
 
 -- The rules refine the leaf in record j, and the budget is not spent.
 goes-there : (c : tie.After-j Inv-loop μ-loop)
@@ -83,19 +72,10 @@ loop-holds c =
     let s = c .before .before .before .before .before in
     start (table s) _ _ (treeOf (s .args .tree .now)) (s .pre .1 .0) (s .pre .1 .1)
 
-widest-requires : tie.Need-widest-requires Inv-loop μ-loop
-widest-requires c κs =
+decide-requires : tie.Need-decide-requires Inv-loop μ-loop
+decide-requires c κs =
     let l = c .before in
     (linked (table (call l)) (now-tree l) (l .loop .inv .good), l .loop .inv .safe)
-
-record-at-requires : tie.Need-record-at-requires Inv-loop μ-loop
-record-at-requires c κs = search needs
-
-used-in-requires : tie.Need-used-in-requires Inv-loop μ-loop
-used-in-requires c κs = search needs
-
-decide-requires : tie.Need-decide-requires Inv-loop μ-loop
-decide-requires c κs = search needs
 
 enum-known-verdict : tie.Need-enum-known-verdict Inv-loop μ-loop
 enum-known-verdict c = search needs
@@ -149,9 +129,6 @@ run-on-spec =
     cast-allowance
     cast-budget
     loop-holds
-    widest-requires
-    record-at-requires
-    used-in-requires
     decide-requires
     enum-known-verdict
     returns
