@@ -35,7 +35,13 @@ module _ {m : Limits} {ws : List ℕ} {cs : List Cue} {r u : Report} {i : ℕ} (
   lines-next t h e f =
       let others : List ℕ = lines m ws (drop (i + 1) cs) in
       let next : drop i cs ≡ getD cs i noCue ∷ drop (i + 1) cs = rw add-one (drop-cons cs i noCue h) in
-      record { rest = then u t others f refl ∙ ap (λ (x : List ℕ). appended u (x ++ others)) (e noCue) ∙ ap (λ (x : List Cue). appended u (lines m ws x)) (sym next) ∙ l .rest }
+      record {
+        rest =
+            then u t others f refl
+            ∙ ap (λ (x : List ℕ). appended u (x ++ others)) (e noCue)
+            ∙ ap (λ (x : List Cue). appended u (lines m ws x)) (sym next)
+            ∙ l .rest;
+      }
 
   -- No line is left.
   pub lines-none : length cs ≤ i → u ≡ appended r (lines m ws cs)

@@ -74,7 +74,8 @@ loop-again : tie.Need-loop-again Inv-loop μ-loop
 loop-again c =
     let a = c .before in
     let l = a .before .before .before .before in
-    lines-next (l .loop .inv) (lineText (a .line-at .result)) (omega (arith, counted (l .before .before .before .before))) (a .line-at .ensures) (c .append-line .ensures)
+    lines-next (l .loop .inv) (lineText (a .line-at .result)) (omega (arith, counted (l .before .before .before .before)))
+    (a .line-at .ensures) (c .append-line .ensures)
 
 returns : tie.Need-returns Inv-loop μ-loop
 returns c = lines-none (c .before .loop .inv) (omega (arith, counted (c .before .before .before .before .before)))

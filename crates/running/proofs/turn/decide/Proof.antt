@@ -20,16 +20,16 @@ use Rattle.running.proofs.turn.decide.Tie as tie
 
 -- ---- one lemma for each way out
 
-module _ (a : ℕ) (x : Tree) (m b : ℕ) where
-  -- The root of the tree is as narrow as is asked.
-  abbrev root-narrow : Bool
-  root-narrow = narrow a (recordIn (x .nodes) 0 .low) (recordIn (x .nodes) 0 .high)
+-- The root of the tree is as narrow as is asked.
+abbrev root-narrow : ℕ → Tree → Bool
+root-narrow a x = narrow a (recordIn (x .nodes) 0 .low) (recordIn (x .nodes) 0 .high)
 
-  met : root-narrow ≡ true → Stop Met ≡ decided a x m b
+module _ (a : ℕ) (x : Tree) (m b : ℕ) where
+  met : root-narrow a x ≡ true → Stop Met ≡ decided a x m b
   unfolding decided
   met h = rw (h, decided)
 
-  module _ (h : root-narrow ≡ false) where
+  module _ (h : root-narrow a x ≡ false) where
     done : pickOf (x .nodes) ≡ Nothing → Stop Done ≡ decided a x m b
     unfolding decided whenWide
     done e = rw (h, decided, e)
@@ -56,7 +56,7 @@ abbrev asked : tie.After-narrow → ℕ
 asked n = n .before .before .args .allowance
 
 -- What was tested is the root's record.
-tested : (n : tie.After-narrow) {s : Bool} → n .narrow .result ≡ s → narrow (asked n) (recordIn (tree-of n .nodes) 0 .low) (recordIn (tree-of n .nodes) 0 .high) ≡ s
+tested : (n : tie.After-narrow) {s : Bool} → n .narrow .result ≡ s → root-narrow (asked n) (tree-of n) ≡ s
 tested n g = sym (ap (λ (k : Node). narrow (asked n) (k .low) (k .high)) (n .before .record-at .ensures)) ∙ sym (n .narrow .ensures) ∙ g
 
 record-at-requires : tie.Need-record-at-requires
