@@ -4,6 +4,7 @@ ghost use Rattle.store.specs.Lent.{treeOf};
 ghost use Rattle.writer.specs.Given.{given};
 ghost use Rattle.plain.specs.Numbers.{kindAsked};
 ghost use Rattle.plain.specs.Told.{OpeningTold, RefiningTold, RunningTold, SearchTold, ReadingTold, EntryTold, WritingTold, ReportingTold};
+ghost use Rattle.rules.specs.Table.{table};
 use plain::FlatAnswer;
 use plain::FlatEntry;
 use plain::FlatHead;
@@ -19,7 +20,7 @@ pub extern "C" fn cue_open(
     present: &[u64],
     absent: &[u64],
 ) -> FlatAnswer
-    ensures { λ r. ⌜ OpeningTold (record { weights = now (weights .entry); present = now (present .entry); absent = now (absent .entry) }) (treeOf (now (tree .exit))) r ⌝ }
+    ensures { λ r. ⌜ OpeningTold (table (now (weights .entry)) (now (present .entry)) (now (absent .entry))) (treeOf (now (tree .exit))) r ⌝ }
 {
     plain::trees::open(tree, weights, present, absent)
 }
@@ -36,7 +37,7 @@ pub extern "C" fn cue_refine(
     what: u8,
     fault: u32,
 ) -> FlatAnswer
-    ensures { λ r. ⌜ RefiningTold (record { weights = now (weights .entry); present = now (present .entry); absent = now (absent .entry) }) (treeOf (now (tree .entry))) (now (place .entry)) (kindAsked what fault) (treeOf (now (tree .exit))) r ⌝ }
+    ensures { λ r. ⌜ RefiningTold (table (now (weights .entry)) (now (present .entry)) (now (absent .entry))) (treeOf (now (tree .entry))) (now (place .entry)) (kindAsked what fault) (treeOf (now (tree .exit))) r ⌝ }
 {
     plain::trees::refine(tree, weights, present, absent, place, what, fault)
 }
@@ -51,7 +52,7 @@ pub extern "C" fn cue_run(
     allowance: u32,
     budget: u16,
 ) -> FlatAnswer
-    ensures { λ r. ⌜ RunningTold (record { weights = now (weights .entry); present = now (present .entry); absent = now (absent .entry) }) (treeOf (now (tree .entry))) (record { allowance = allowance; budget = budget }) (treeOf (now (tree .exit))) r ⌝ }
+    ensures { λ r. ⌜ RunningTold (table (now (weights .entry)) (now (present .entry)) (now (absent .entry))) (treeOf (now (tree .entry))) (record { allowance = allowance; budget = budget }) (treeOf (now (tree .exit))) r ⌝ }
 {
     plain::trees::run(tree, weights, present, absent, allowance, budget)
 }

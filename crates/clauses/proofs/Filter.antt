@@ -18,7 +18,7 @@ use Rattle.rules.proofs.Remaining.{dropped-twice, or-regroup}
 use Rattle.records.specs.Records.{inWords}
 use Rattle.clauses.specs.declared.Clauses.{Clauses}
 use Rattle.clauses.specs.declared.Taken.{Taken}
-use Rattle.clauses.specs.Leaves.{fixedOf, row, wayAt, waysOf, Within, Takes, Keeps}
+use Rattle.clauses.specs.Leaves.{fixedOf, row, wayAt, waysOf, InTable, Takes, Keeps}
 use Rattle.clauses.proofs.Pairs.{in-none}
 use Rattle.clauses.proofs.Selected.{each-row, passing, select-passing}
 
@@ -53,7 +53,7 @@ one-over true false k o g h = refl
 one-over false false k o g h = refl
 
 -- A way that is taken has one of the leaf's numbers, so it is below 128.
-pub numbered : (ps qs : List ℕ) (c : Clauses) (t : Taken) → Within ps qs c → Takes ps qs c t → t .way .number < 128
+pub numbered : (ps qs : List ℕ) (c : Clauses) (t : Taken) → InTable ps qs c → Takes ps qs c t → t .way .number < 128
 numbered ps qs c t w h =
     let n = t .way .number in
     let i : n < length ps = w .inside n (h .numbers n ∙ or-first (eqb n n) _ (eq-eqb n n refl)) in
@@ -67,8 +67,8 @@ module _ (ps qs : List ℕ) (f : Way → Bool) (c : Clauses) where
   passes i = f (wayAt ps qs c i)
 
   -- Where numbers are those of the leaf whose ways pass, their ways are the leaf's ways that pass, with what else is fixed dropped (h).
-  pub kept-ways : Within ps qs c → (kept : Clauses) (M : ℕ) → fixedOf kept ≡ M → Keeps ps qs f c kept → (h : Way → Way)
-      → ((v : Way) → h (dropped (fixedOf c) v) ≡ dropped M v) → (waysOf ps qs kept ≡ passing f h (waysOf ps qs c)) × Within ps qs kept
+  pub kept-ways : InTable ps qs c → (kept : Clauses) (M : ℕ) → fixedOf kept ≡ M → Keeps ps qs f c kept → (h : Way → Way)
+      → ((v : Way) → h (dropped (fixedOf c) v) ≡ dropped M v) → (waysOf ps qs kept ≡ passing f h (waysOf ps qs c)) × InTable ps qs kept
   unfolding waysOf
   kept-ways w kept M e all h more = (
     ap (λ (m : ℕ). map (dropped m) (select (inWords (kept .low) (kept .high)) (rows 0 ps qs))) e
@@ -89,10 +89,10 @@ module _ (ps qs : List ℕ) (f : Way → Bool) (c : Clauses) where
     pub kept-absent : kept .absent ≡ kept₀ .absent
     pub left-present : left .present ≡ c .present
     pub left-absent : left .absent ≡ c .absent
-    pub within : Within ps qs left
+    pub within : InTable ps qs left
 
   -- At first nothing is kept.
-  pub begun : (P A : ℕ) → Within ps qs c
+  pub begun : (P A : ℕ) → InTable ps qs c
       → Sifting (record { low = 0; high = 0; present = P; absent = A }) (record { low = 0; high = 0; present = P; absent = A }) c
   begun P A w =
       record {
@@ -132,7 +132,7 @@ module _ (ps qs : List ℕ) (f : Way → Bool) (c : Clauses) where
             ∙ sym (ap (λ (x : Bool). inWords (kept .low) (kept .high) i || (x && passes i)) (h .numbers i))
             ∙ s .numbers i
 
-    module _ (w : Within ps qs c) (z : bitOr (left .low) (left .high) ≡ 0) where
+    module _ (w : InTable ps qs c) (z : bitOr (left .low) (left .high) ≡ 0) where
       -- At the end the kept numbers are those of the leaf that pass.
       pub all-kept : Keeps ps qs f c kept
       all-kept i =
@@ -146,7 +146,7 @@ module _ (ps qs : List ℕ) (f : Way → Bool) (c : Clauses) where
 
       -- So the kept ways are the leaf's ways that pass, with what else is fixed dropped (h).
       pub ended : (h : Way → Way) → ((v : Way) → h (dropped (fixedOf c) v) ≡ dropped (fixedOf kept₀) v)
-          → (waysOf ps qs kept ≡ passing f h (waysOf ps qs c)) × Within ps qs kept
+          → (waysOf ps qs kept ≡ passing f h (waysOf ps qs c)) × InTable ps qs kept
       ended h more = kept-ways w kept (fixedOf kept₀) (ap₂ bitOr (s .kept-present) (s .kept-absent)) all-kept h more
 
 -- ---- the words that are fixed

@@ -13,14 +13,14 @@ use Rattle.rules.specs.Leaf.{any, contradicted, dropped, remaining, sift, subsu
 use Rattle.rules.specs.Group.{touches, part}
 use Rattle.rules.proofs.Booleans.{and-left, or-first, or-second, is-false}
 use Rattle.rules.proofs.Bits.{bit-or}
-use Rattle.rules.proofs.Groups.{In}
+use Rattle.rules.proofs.Members.{In}
 use Rattle.rules.proofs.Minimal.{subsumes-inside, inside-subsumes, subsumes-through}
 use Rattle.rules.proofs.FixedLean.{redundant-fixed, unnamed-free}
 use Rattle.records.specs.Records.{inWords}
 use Rattle.clauses.specs.declared.ByFault.{ByFault}
 use Rattle.clauses.specs.declared.Clauses.{Clauses}
 use Rattle.clauses.specs.declared.Taken.{Taken}
-use Rattle.clauses.specs.Leaves.{OneFault, row, wayAt, waysOf, Within, Takes, Keeps, Covers, Divided}
+use Rattle.clauses.specs.Leaves.{OneFault, row, wayAt, waysOf, InTable, Takes, Keeps, Covers, Divided}
 use Rattle.clauses.proofs.Pairs.{in-none, both-numbers}
 use Rattle.clauses.proofs.Selected.{passing}
 use Rattle.clauses.proofs.Filter.{kept-ways, fixed-more}
@@ -57,10 +57,10 @@ module _ (ps qs : List ℕ) (c : Clauses) where
     pub covers : (i : ℕ) → inWords (c .low) (c .high) i ≡ true → inWords (left .low) (left .high) i || subsumes (wayAt ps qs c i) r ≡ true
     pub left-present : left .present ≡ c .present
     pub left-absent : left .absent ≡ c .absent
-    pub within : Within ps qs left
+    pub within : InTable ps qs left
 
   -- At first all are left.
-  pub none-joined : (r : Way) → Within ps qs c → Covering r c
+  pub none-joined : (r : Way) → InTable ps qs c → Covering r c
   none-joined r w = record { covers = λ i h. or-first _ _ h; left-present = refl; left-absent = refl; within = w }
 
   module _ (r : Way) (left : Clauses) (s : Covering r left) where
@@ -98,13 +98,13 @@ off true b = refl
 off false b = refl
 
 -- Fewer numbers are those of ways of the table too.
-pub less-within : (ps qs : List ℕ) (c n o : Clauses) → Within ps qs c
-    → ((i : ℕ) → inWords (o .low) (o .high) i ≡ inWords (c .low) (c .high) i && not (inWords (n .low) (n .high) i)) → Within ps qs o
+pub less-within : (ps qs : List ℕ) (c n o : Clauses) → InTable ps qs c
+    → ((i : ℕ) → inWords (o .low) (o .high) i ≡ inWords (c .low) (c .high) i && not (inWords (n .low) (n .high) i)) → InTable ps qs o
 less-within ps qs c n o w h =
     record { short = w .short; paired = w .paired; inside = λ i e. w .inside i (and-left (inWords (c .low) (c .high) i) _ (sym (h i) ∙ e)) }
 
 -- The parts of a leaf, as the code makes them.
-pub divides : (ps qs : List ℕ) (c : Clauses) (m : ℕ) (n o : Clauses) (r : Way) → Within ps qs c → Within ps qs n
+pub divides : (ps qs : List ℕ) (c : Clauses) (m : ℕ) (n o : Clauses) (r : Way) → InTable ps qs c → InTable ps qs n
     → waysOf ps qs n ≡ part true m (waysOf ps qs c) → n .present ≡ c .present → n .absent ≡ c .absent → Keeps ps qs (λ v. Bool·beq true (touches m v)) c n
     → ((i : ℕ) → inWords (o .low) (o .high) i ≡ inWords (c .low) (c .high) i && not (inWords (n .low) (n .high) i))
     → o .present ≡ c .present → o .absent ≡ c .absent → Covers ps qs o r → Divided ps qs c m (record { named = n; others = o; cover = r })
@@ -185,11 +185,11 @@ module _ (ps qs : List ℕ) (others shorter : Clauses) where
     pub inside : (i : ℕ) → inWords (kept .low) (kept .high) i ≡ true → inWords (others .low) (others .high) i ≡ true
     pub kept-present : kept .present ≡ others .present
     pub kept-absent : kept .absent ≡ others .absent
-    pub kept-within : Within ps qs kept
-    pub left-within : Within ps qs left
+    pub kept-within : InTable ps qs kept
+    pub left-within : InTable ps qs left
 
   -- At first nothing is left out.
-  pub none-left-out : Within ps qs others → Within ps qs shorter → Leaving others shorter
+  pub none-left-out : InTable ps qs others → InTable ps qs shorter → Leaving others shorter
   none-left-out v w =
       record { numbers = λ i. refl; inside = λ i h. h; kept-present = refl; kept-absent = refl; kept-within = v; left-within = w }
 
@@ -268,7 +268,7 @@ module _ (ps qs : List ℕ) (c : Clauses) (p q : ℕ) (d : ByFault) (divided : D
   abbrev both : Clauses
   both = record { low = bitOr (shorter .low) (kept .low); high = bitOr (shorter .high) (kept .high); present = shorter .present; absent = shorter .absent }
 
-  pub left-out : (waysOf ps qs both ≡ minimal (remaining p q (waysOf ps qs c))) × Within ps qs both
+  pub left-out : (waysOf ps qs both ≡ minimal (remaining p q (waysOf ps qs c))) × InTable ps qs both
       × (shorter .present ≡ bitOr (c .present) p) × (shorter .absent ≡ bitOr (c .absent) q)
   left-out =
       let e = kept-ways ps qs (stays p q (waysOf ps qs shorter)) c (divided .whole) both _ (ap₂ bitOr present-c absent-c) numbers

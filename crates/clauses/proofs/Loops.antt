@@ -16,7 +16,7 @@ use Rattle.records.specs.Records.{lowWord, highWord, inWords}
 use Rattle.records.proofs.Words.{words-number, low-fits}
 use Rattle.clauses.specs.declared.Clauses.{Clauses}
 use Rattle.clauses.specs.declared.Taken.{Taken}
-use Rattle.clauses.specs.Leaves.{fixedOf, waysOf, Within, Takes}
+use Rattle.clauses.specs.Leaves.{fixedOf, waysOf, InTable, Takes}
 use Rattle.clauses.proofs.Pairs.{in-none, same-low, same-high}
 use Rattle.clauses.proofs.Selected.{rows-number, select-number, dropped-number, select-few}
 
@@ -31,7 +31,7 @@ module _ (ps qs : List ℕ) (c : Clauses) where
   none-left h = ap (map (dropped (fixedOf c))) (select-none chosen (in-none (c .low) (c .high) h) (rows 0 ps qs))
 
   -- There are at most 128 ways.
-  pub few : Within ps qs c → length (waysOf ps qs c) ≤ 128
+  pub few : InTable ps qs c → length (waysOf ps qs c) ≤ 128
   unfolding waysOf
   few w =
       omega (arith, length-map (select chosen (rows 0 ps qs)) (dropped (fixedOf c)), select-few chosen 0 ps qs (w .paired), w .short)
@@ -52,7 +52,7 @@ module _ (ps qs : List ℕ) (c : Clauses) where
   -- ---- the words of the ways' numbers
 
   -- The ways' own words have the numbers that the ways were taken by.
-  same-numbers : Within ps qs c → (i : ℕ) → inWords (lowWord (waysOf ps qs c)) (highWord (waysOf ps qs c)) i ≡ chosen i
+  same-numbers : InTable ps qs c → (i : ℕ) → inWords (lowWord (waysOf ps qs c)) (highWord (waysOf ps qs c)) i ≡ chosen i
   unfolding waysOf
   same-numbers w i =
       words-number (waysOf ps qs c) i ∙ dropped-number (fixedOf c) (select chosen (rows 0 ps qs)) i ∙ select-number chosen (rows 0 ps qs) i ∙ by (chosen i) refl
@@ -62,9 +62,9 @@ module _ (ps qs : List ℕ) (c : Clauses) where
       by false e = and-false (hasNumber (rows 0 ps qs) i)
 
   -- So the low word is the same.
-  pub low-back : Within ps qs c → c .low < 2 ^ 64 → lowWord (waysOf ps qs c) ≡ c .low
+  pub low-back : InTable ps qs c → c .low < 2 ^ 64 → lowWord (waysOf ps qs c) ≡ c .low
   low-back w h = same-low (lowWord (waysOf ps qs c)) (highWord (waysOf ps qs c)) (c .low) (c .high) (same-numbers w) (low-fits (waysOf ps qs c)) h
 
   -- And so is the high one.
-  pub high-back : Within ps qs c → c .high < 2 ^ 64 → highWord (waysOf ps qs c) ≡ c .high
+  pub high-back : InTable ps qs c → c .high < 2 ^ 64 → highWord (waysOf ps qs c) ≡ c .high
   high-back w h = same-high (lowWord (waysOf ps qs c)) (highWord (waysOf ps qs c)) (c .low) (c .high) (same-numbers w)

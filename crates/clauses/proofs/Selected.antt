@@ -15,7 +15,7 @@ use Rattle.rules.specs.Table.{rows, absentRows}
 use Rattle.rules.specs.Leaf.{select, hasNumber, without, dropped}
 use Rattle.rules.proofs.Booleans.{and-true, and-false, and-right, or-first, or-second}
 use Rattle.records.specs.Records.{inWords}
-use Rattle.clauses.specs.Leaves.{row, waysOf, Within}
+use Rattle.clauses.specs.Leaves.{row, waysOf, InTable}
 use Rattle.clauses.proofs.First.{First, is-one, none-before, same-beyond}
 
 -- ---- the numbers of ways
@@ -164,7 +164,7 @@ module _ (ps qs : List ℕ) (short : length ps ≤ 128) (paired : length qs ≡ 
   -- Words cut to the numbers of the table select as the words that were cut.
   pub cut-selects : (P : ℕ → Bool) (x y : ℕ) → ((j : ℕ) → inWords x y j ≡ P j && ltb j (length ps))
       → (waysOf ps qs (record { low = x; high = y; present = 0; absent = 0 }) ≡ select P (rows 0 ps qs))
-      × Within ps qs (record { low = x; high = y; present = 0; absent = 0 })
+      × InTable ps qs (record { low = x; high = y; present = 0; absent = 0 })
   unfolding waysOf
   cut-selects P x y cut = (
     dropped-none (select (inWords x y) (rows 0 ps qs)) ∙ rows-same (inWords x y) P same,

@@ -37,7 +37,7 @@ unfoldable pub waysOf : List ℕ → List ℕ → Clauses → List Way
 waysOf ps qs c = map (dropped (fixedOf c)) (select (inWords (c .low) (c .high)) (rows 0 ps qs))
 
 -- The table has at most 128 ways, two words for each, and every number is that of one of them.
-pub record Within (ps qs : List ℕ) (c : Clauses) : Type 0 where
+pub record InTable (ps qs : List ℕ) (c : Clauses) : Type 0 where
   pub short : length ps ≤ 128
   pub paired : length qs ≡ length ps
   pub inside : (i : ℕ) → inWords (c .low) (c .high) i ≡ true → i < length ps
@@ -49,7 +49,7 @@ pub record Takes (ps qs : List ℕ) (c : Clauses) (t : Taken) : Type 0 where
   pub numbers : (i : ℕ) → inWords (c .low) (c .high) i ≡ (eqb i (t .way .number) || inWords (t .others .low) (t .others .high) i)
   pub same-present : t .others .present ≡ c .present
   pub same-absent : t .others .absent ≡ c .absent
-  pub within : Within ps qs (t .others)
+  pub within : InTable ps qs (t .others)
 
 -- Of a leaf's numbers, those whose ways pass a test.
 abbrev pub Keeps : List ℕ → List ℕ → (Way → Bool) → Clauses → Clauses → Type 0
@@ -61,13 +61,13 @@ Covers ps qs c r = (i : ℕ) → inWords (c .low) (c .high) i ≡ true → subsu
 
 -- The ways of a leaf by a fault, whose word is m: those that name it, the others, and what covers the others.
 pub record Divided (ps qs : List ℕ) (c : Clauses) (m : ℕ) (d : ByFault) : Type 0 where
-  pub whole : Within ps qs c
-  pub named-within : Within ps qs (d .named)
+  pub whole : InTable ps qs c
+  pub named-within : InTable ps qs (d .named)
   pub named-ways : waysOf ps qs (d .named) ≡ part true m (waysOf ps qs c)
   pub named-numbers : Keeps ps qs (λ v. touches m v) c (d .named)
   pub named-present : d .named .present ≡ c .present
   pub named-absent : d .named .absent ≡ c .absent
-  pub others-within : Within ps qs (d .others)
+  pub others-within : InTable ps qs (d .others)
   pub others-numbers : Keeps ps qs (λ v. not (touches m v)) c (d .others)
   pub others-present : d .others .present ≡ c .present
   pub others-absent : d .others .absent ≡ c .absent

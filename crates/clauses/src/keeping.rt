@@ -10,7 +10,7 @@ ghost use Rattle.rules.specs.Leaf;
 ghost use Rattle.rules.specs.Leaf.{remaining};
 ghost use Rattle.rules.specs.Group;
 ghost use Rattle.records.specs.Records.{inWords};
-ghost use Rattle.clauses.specs.Leaves.{waysOf, Within, Keeps};
+ghost use Rattle.clauses.specs.Leaves.{waysOf, InTable, Keeps};
 use super::Clauses;
 use super::sets::select;
 use super::sets::with_number;
@@ -27,9 +27,9 @@ fn contradicted(present: u64, absent: u64, v: Way) -> bool
 
 /// What remains of the ways with more faults fixed, present (p) and absent (q).
 pub fn restrict(present: &[u64], absent: &[u64], c: Clauses, p: u64, q: u64) -> Clauses
-    requires { ⌜ Within (now present) (now absent) c ⌝ }
+    requires { ⌜ InTable (now present) (now absent) c ⌝ }
     ensures { λ r. ⌜ (waysOf (now (present .entry)) (now (absent .entry)) r ≡ remaining p q (waysOf (now (present .entry)) (now (absent .entry)) c))
-        × Within (now (present .entry)) (now (absent .entry)) r × (r .present ≡ bitOr (c .present) p) × (r .absent ≡ bitOr (c .absent) q)
+        × InTable (now (present .entry)) (now (absent .entry)) r × (r .present ≡ bitOr (c .present) p) × (r .absent ≡ bitOr (c .absent) q)
         × Keeps (now (present .entry)) (now (absent .entry)) (λ v. not (Leaf.contradicted p q v)) c r ⌝ }
 {
     let mut kept = Clauses {
@@ -55,7 +55,7 @@ pub fn remaining_of(present: &[u64], absent: &[u64], a: u64, b: u64, p: u64, q: 
     requires { ⌜ length (now present) ≤ 128 ⌝ }
     requires { ⌜ length (now absent) ≡ length (now present) ⌝ }
     ensures { λ r. ⌜ (waysOf (now (present .entry)) (now (absent .entry)) r ≡ remaining p q (Leaf.select (inWords a b) (rows 0 (now (present .entry)) (now (absent .entry)))))
-        × Within (now (present .entry)) (now (absent .entry)) r × (r .present ≡ p) × (r .absent ≡ q) ⌝ }
+        × InTable (now (present .entry)) (now (absent .entry)) r × (r .present ≡ p) × (r .absent ≡ q) ⌝ }
 {
     restrict(present, absent, select(present, absent, a, b), p, q)
 }
@@ -69,9 +69,9 @@ pub fn touches(m: u64, v: Way) -> bool
 
 /// The ways that the word touches, or those that it does not.
 pub fn part(present: &[u64], absent: &[u64], c: Clauses, m: u64, touched: bool) -> Clauses
-    requires { ⌜ Within (now present) (now absent) c ⌝ }
+    requires { ⌜ InTable (now present) (now absent) c ⌝ }
     ensures { λ r. ⌜ (waysOf (now (present .entry)) (now (absent .entry)) r ≡ Group.part touched m (waysOf (now (present .entry)) (now (absent .entry)) c))
-        × Within (now (present .entry)) (now (absent .entry)) r × (r .present ≡ c .present) × (r .absent ≡ c .absent)
+        × InTable (now (present .entry)) (now (absent .entry)) r × (r .present ≡ c .present) × (r .absent ≡ c .absent)
         × Keeps (now (present .entry)) (now (absent .entry)) (λ v. Bool·beq touched (Group.touches m v)) c r ⌝ }
 {
     let mut kept = Clauses {

@@ -8,7 +8,7 @@ ghost use lib.ListN.{length};
 ghost use Rattle.rules.specs.Table.{rows};
 ghost use Rattle.rules.specs.Leaf;
 ghost use Rattle.rules.specs.Leaf.{remaining, minimal, Lean};
-ghost use Rattle.clauses.specs.Leaves.{OneFault, waysOf, Within, Keeps, Covers, Divided};
+ghost use Rattle.clauses.specs.Leaves.{OneFault, waysOf, InTable, Keeps, Covers, Divided};
 use super::ByFault;
 use super::Clauses;
 use super::keeping::part;
@@ -68,7 +68,7 @@ pub fn staying_rows(present: &[u64], absent: &[u64]) -> Clauses
     requires { ⌜ length (now present) ≤ 128 ⌝ }
     requires { ⌜ length (now absent) ≡ length (now present) ⌝ }
     ensures { λ r. ⌜ (waysOf (now (present .entry)) (now (absent .entry)) r ≡ minimal (rows 0 (now (present .entry)) (now (absent .entry))))
-        × Within (now (present .entry)) (now (absent .entry)) r × (r .present ≡ 0) × (r .absent ≡ 0) ⌝ }
+        × InTable (now (present .entry)) (now (absent .entry)) r × (r .present ≡ 0) × (r .absent ≡ 0) ⌝ }
 {
     let mut kept = Clauses {
         low: 0,
@@ -90,7 +90,7 @@ pub fn staying_rows(present: &[u64], absent: &[u64]) -> Clauses
 
 /// The ways that this one subsumes.
 fn subsumed(present: &[u64], absent: &[u64], c: Clauses, u: Way) -> Clauses
-    requires { ⌜ Within (now present) (now absent) c ⌝ }
+    requires { ⌜ InTable (now present) (now absent) c ⌝ }
     ensures { λ r. ⌜ Keeps (now (present .entry)) (now (absent .entry)) (λ v. Leaf.subsumes u v) c r ⌝ }
 {
     let mut kept = Clauses {
@@ -113,7 +113,7 @@ fn subsumed(present: &[u64], absent: &[u64], c: Clauses, u: Way) -> Clauses
 
 /// A way that each of the ways subsumes: it names what any of them names.
 fn cover(present: &[u64], absent: &[u64], c: Clauses) -> Way
-    requires { ⌜ Within (now present) (now absent) c ⌝ }
+    requires { ⌜ InTable (now present) (now absent) c ⌝ }
     ensures { λ r. ⌜ Covers (now (present .entry)) (now (absent .entry)) c r ⌝ }
 {
     let mut r = Way {
@@ -134,7 +134,7 @@ fn cover(present: &[u64], absent: &[u64], c: Clauses) -> Way
 
 /// The ways of a leaf by a fault, whose word is m.
 pub fn by_fault(present: &[u64], absent: &[u64], c: Clauses, m: u64) -> ByFault
-    requires { ⌜ Within (now present) (now absent) c ⌝ }
+    requires { ⌜ InTable (now present) (now absent) c ⌝ }
     ensures { λ r. ⌜ Divided (now (present .entry)) (now (absent .entry)) c m r ⌝ }
 {
     let named = part(present, absent, c, m, true);
@@ -153,7 +153,7 @@ pub fn staying(present: &[u64], absent: &[u64], c: Clauses, d: ByFault, p: u64, 
     requires { ⌜ Divided (now present) (now absent) c (bitOr p q) d ⌝ }
     requires { ⌜ OneFault p q ⌝ }
     ensures { λ r. ⌜ (waysOf (now (present .entry)) (now (absent .entry)) r ≡ minimal (remaining p q (waysOf (now (present .entry)) (now (absent .entry)) c)))
-        × Within (now (present .entry)) (now (absent .entry)) r × (r .present ≡ bitOr (c .present) p) × (r .absent ≡ bitOr (c .absent) q) ⌝ }
+        × InTable (now (present .entry)) (now (absent .entry)) r × (r .present ≡ bitOr (c .present) p) × (r .absent ≡ bitOr (c .absent) q) ⌝ }
 {
     let shorter = restrict(present, absent, d.named, p, q);
     let all = d.cover;

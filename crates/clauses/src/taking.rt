@@ -6,7 +6,7 @@ ghost use lib.Bits.{bitOr};
 ghost use lib.ListN.{length};
 ghost use Rattle.rules.specs.Table;
 ghost use Rattle.rules.specs.Leaf;
-ghost use Rattle.clauses.specs.Leaves.{fixedOf, row, Within, Takes};
+ghost use Rattle.clauses.specs.Leaves.{fixedOf, row, InTable, Takes};
 use super::Clauses;
 use super::Taken;
 use rules::Way;
@@ -44,7 +44,7 @@ fn way_at(present: &[u64], absent: &[u64], c: Clauses, i: usize) -> Way
 
 /// Takes the first way off.
 pub fn taken(present: &[u64], absent: &[u64], c: Clauses) -> Taken
-    requires { ⌜ Within (now present) (now absent) c ⌝ }
+    requires { ⌜ InTable (now present) (now absent) c ⌝ }
     requires { ⌜ (bitOr (c .low) (c .high) ≡ 0 → ⊥) ⌝ }
     ensures { λ r. ⌜ Takes (now (present .entry)) (now (absent .entry)) c r ⌝ }
 {

@@ -5,7 +5,7 @@ ghost use mathlib.Core.Bool.{true};
 ghost use Rattle.rules.specs.Tree.{possible};
 ghost use Rattle.records.specs.Records.{kindOf, sameNodes};
 ghost use Rattle.store.specs.Lent.{treeOf};
-ghost use Rattle.clauses.specs.Leaves.{waysOf, Within};
+ghost use Rattle.clauses.specs.Leaves.{waysOf, InTable};
 ghost use Rattle.formula.specs.Leaves.{FaultFits};
 use clauses::Clauses;
 use formula::child::occurs;
@@ -15,7 +15,7 @@ use store::Words;
 
 /// What a record says was done is possible with these ways. A fault that has no bit in a word occurs in none.
 pub fn possible_told(n: Node, present: &[u64], absent: &[u64], c: Clauses) -> bool
-    requires { ⌜ Within (now present) (now absent) c ⌝ }
+    requires { ⌜ InTable (now present) (now absent) c ⌝ }
     ensures { λ r. ⌜ (r ≡ possible (kindOf n) (waysOf (now (present .entry)) (now (absent .entry)) c)) × (r ≡ true → FaultFits (kindOf n)) ⌝ }
 {
     if n.kind == 2 {

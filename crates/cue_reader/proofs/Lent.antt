@@ -34,10 +34,10 @@ use denote.Triple.Clauses.{ensured, lasts}
 use denote.Triple.Spec.{tripleOf}
 use denote.Triple.Statement.{Contract, Triple}
 use Rattle.rules.specs.Answers.{placeAfter}
-use Rattle.rules.specs.Sheet.{cueAnswer}
-use Rattle.rules.specs.declared.CueAnswer.{CueAnswer}
-use Rattle.rules.proofs.CueAnswer as N
-use Rattle.cue_reader.specs.Promises.{Called}
+use Rattle.rules.specs.Sheet.{entryAnswer}
+use Rattle.rules.specs.declared.EntryAnswer.{EntryAnswer}
+use Rattle.rules.proofs.EntryAnswer as N
+use Rattle.cue_reader.specs.Promises.{ReaderCalled}
 use Rattle.cue_reader.specs.declared.Reader.{Reader}
 use Rattle.cue_reader.proofs.Reader as T
 use Rattle.cue_reader.proofs.Reader.Laws as T′
@@ -45,8 +45,8 @@ use Rattle.cue_reader.proofs.next as next
 use Rattle.cue_reader.proofs.next.Symbol.{name as #cue-reader·next}
 
 -- what a call hands over, and the reader after it
-abbrev pub answerOf : Reader → CueAnswer
-answerOf d = cueAnswer (now (d .sheet)) (d .at)
+abbrev pub answerOf : Reader → EntryAnswer
+answerOf d = entryAnswer (now (d .sheet)) (d .at)
 
 abbrev pub after : Reader → Reader
 after d = record { sheet = d .sheet; at = placeAfter (d .at) (answerOf d) }
@@ -114,9 +114,9 @@ module _ {M : Type 1} (𝓤 : URA M) (H : Heap 𝓤) (A : Atoms 𝓤) (W : Given
       move ! (2 ∷ 4 ∷ 0 ∷ []) $ use3 W (raw (Next 𝓤 H A at-mem run .pre (to-next a γ d))) (asked a γ d) $ at-once ! $ show ! (Loan d) (a, γ) $ done !))
 
   -- of what `next` ensures: its answer, and the reader that was lent at its last value
-  told : (a : ℕ) (γ : GName) (d : Reader) (r : CueAnswer) → ent 𝓤 (ensured 𝓤 H A next.ended (next.clauses 𝓤 H A at-mem run) (a ∷ κ, (κ, tt)) (lent γ d, tt) tt r) (guard 𝓤 (r ≡ answerOf d) (A .res γ (R .coded .code (after d))))
+  told : (a : ℕ) (γ : GName) (d : Reader) (r : EntryAnswer) → ent 𝓤 (ensured 𝓤 H A next.ended (next.clauses 𝓤 H A at-mem run) (a ∷ κ, (κ, tt)) (lent γ d, tt) tt r) (guard 𝓤 (r ≡ answerOf d) (A .res γ (R .coded .code (after d))))
   told a γ d r = exE 𝓤 _ (λ ws.
-      let Said : Type 0 = Called d r (ws .0) in
+      let Said : Type 0 = ReaderCalled d r (ws .0) in
       qed W (‵ (lasts next.ended (a ∷ κ, (κ, tt)) (lent γ d, tt) ws) ∷ raw (fact 𝓤 Said) ∷ []) ∵ move ! (1 ∷ []) $ heard ! Said (λ e. fsplit ! $
       rewrite ! 0 (λ (z : Reader). ‵ (fres γ (R .coded .code z))) (λ i. record { sheet = e .sheet-is i; at = (e .place-is ∙ ap (placeAfter (d .at)) (e .answer-is)) i }) refl $ keep ! (0 ∷ []) $ check ! (e .answer-is) $ done !))
 
@@ -139,12 +139,12 @@ module _ {M : Type 1} (𝓤 : URA M) (H : Heap 𝓤) (A : Atoms 𝓤) (W : Given
   module _ {K : Type 0} {Γ : List (Item 𝓤)} {E : Env 𝓤 H} {C : Calls 𝓤 H} {Λ : Loops 𝓤 H} {post : Post 𝓤 H} {xs : List Operand} {dest : Place} {rest : Code} where
     pub calls-next : K → FmC 𝓤 H (W .laws) C → Triple 𝓤 (C #cue-reader·next) (Next 𝓤 H A at-mem run) → (d : Reader)
         → ((i j : Item 𝓤) → Opds K W (i ∷ j ∷ Γ) E xs (vptr l 0 ∷ []))
-        → ((u : Val) (r : CueAnswer) → r ≡ answerOf d → Is N.the-row r (u ∷ []) → Seq K W (‵ (cell l (after d)) ∷ ‵ (Owned κ (after d)) ∷ ‵ (flft κ q) ∷ Γ) (lands C Λ E dest u rest post))
+        → ((u : Val) (r : EntryAnswer) → r ≡ answerOf d → Is N.the-row r (u ∷ []) → Seq K W (‵ (cell l (after d)) ∷ ‵ (Owned κ (after d)) ∷ ‵ (flft κ q) ∷ Γ) (lands C Λ E dest u rest post))
         → Seq K W (‵ (cell l d) ∷ ‵ (Owned κ d) ∷ ‵ (flft κ q) ∷ Γ) (runs C Λ E (seq (call #cue-reader·next xs dest) rest) post)
     calls-next t fm known d reads goes-on =
         use3 W (later (some (λ (p : ℕ × GName). raw (Next 𝓤 H A at-mem run .pre (to-next (p .0) (p .1) d)) ⊛ Kept (p .0) (p .1)))) (lends d) $ await t tt $ pick t (λ p. split t $
         calls-at t fm (Next 𝓤 H A at-mem run) known (to-next (p .0) (p .1) d) (reads _ _) (λ u.
-        use1 W (later (some (λ (r : CueAnswer). (toks (p .0) ⊛ ‵ (N.the-row .own r (u ∷ []))) ⊛ raw (ensured 𝓤 H A next.ended (next.clauses 𝓤 H A at-mem run) (p .0 ∷ κ, (κ, tt)) (lent (p .1) d, tt) tt r)))) (id⊢ 𝓤 _) $ await t tt $ pick t (λ r.
+        use1 W (later (some (λ (r : EntryAnswer). (toks (p .0) ⊛ ‵ (N.the-row .own r (u ∷ []))) ⊛ raw (ensured 𝓤 H A next.ended (next.clauses 𝓤 H A at-mem run) (p .0 ∷ κ, (κ, tt)) (lent (p .1) d, tt) tt r)))) (id⊢ 𝓤 _) $ await t tt $ pick t (λ r.
         split t $ move t (1 ∷ []) $ use1 W (given (r ≡ answerOf d) (‵ (fres (p .1) (R .coded .code (after d))))) (told (p .0) (p .1) d r) $ learn t (λ e.
         move t (1 ∷ []) $ split t $ move t (1 ∷ []) $ facts t N.the-row (Is N.the-row) (shows 𝓤 H A N.the-row) r (u ∷ []) (λ is.
         -- [the tokens; the reader's last value; what is kept]

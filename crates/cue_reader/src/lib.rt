@@ -2,10 +2,10 @@
 //! The work is `call_at`'s, on a slice and a number. Whatever takes or makes a `Reader`, which holds a reference, is proved by hand.
 ghost use mathlib.Core.Path.{_≡_};
 ghost use Rattle.rules.specs.Answers.{placeAfter};
-ghost use Rattle.rules.specs.Sheet.{cueAnswer};
+ghost use Rattle.rules.specs.Sheet.{entryAnswer};
 ghost use Rattle.cue_reader.specs.Driven.{callAnswer};
-ghost use Rattle.cue_reader.specs.Promises.{Called};
-use rules::CueAnswer;
+ghost use Rattle.cue_reader.specs.Promises.{ReaderCalled};
+use rules::EntryAnswer;
 use sheet::reader::cue_at;
 
 /// The sheet, and the position in its contents of the cue that the next call hands over.
@@ -16,24 +16,24 @@ pub struct Reader<'a> {
 
 /// What a call gives: its answer, and the reader's place after it.
 pub struct Call {
-    pub answer: CueAnswer,
+    pub answer: EntryAnswer,
     pub at: usize,
 }
 
 /// How far an answer moves the reader: one place for a cue, else not at all.
-fn step(a: CueAnswer) -> usize
+fn step(a: EntryAnswer) -> usize
     ensures { λ r. ⌜ r ≡ placeAfter 0 a ⌝ }
 {
     match a {
-        CueAnswer::Cue(e) => 1,
-        CueAnswer::Past => 0,
-        CueAnswer::Refused(n) => 0,
+        EntryAnswer::Cue(e) => 1,
+        EntryAnswer::Past => 0,
+        EntryAnswer::Refused(n) => 0,
     }
 }
 
 /// A reader's call, on the slice and the place that the reader holds.
 pub fn call_at(s: &[u8], at: usize) -> Call
-    ensures { λ r. ⌜ (r .answer ≡ cueAnswer (now (s .entry)) at) × (r .at ≡ placeAfter at (cueAnswer (now (s .entry)) at)) ⌝ }
+    ensures { λ r. ⌜ (r .answer ≡ entryAnswer (now (s .entry)) at) × (r .at ≡ placeAfter at (entryAnswer (now (s .entry)) at)) ⌝ }
 {
     let answer = cue_at(s, at);
     let after = at + step(answer);
@@ -48,8 +48,8 @@ pub fn open_reader<'a>(sheet: &'a [u8]) -> Reader<'a>
 }
 
 /// The next cue. Past the last the answer says so, and on a refused sheet it is the number; both keep the place.
-pub fn next<'s, 'a>(r: &'s mut Reader<'a>) -> CueAnswer
-    ensures { λ a. ⌜ Called (now (r .entry)) a (now (r .exit)) ⌝ }
+pub fn next<'s, 'a>(r: &'s mut Reader<'a>) -> EntryAnswer
+    ensures { λ a. ⌜ ReaderCalled (now (r .entry)) a (now (r .exit)) ⌝ }
 {
     let call = call_at(r.sheet, r.at);
     r.at = call.at;
@@ -57,7 +57,7 @@ pub fn next<'s, 'a>(r: &'s mut Reader<'a>) -> CueAnswer
 }
 
 /// The answer of the call that follows so many calls of a reader opened on the sheet.
-pub fn call_after(s: &[u8], calls: usize) -> CueAnswer
+pub fn call_after(s: &[u8], calls: usize) -> EntryAnswer
     ensures { λ a. ⌜ a ≡ callAnswer (now (s .entry)) calls ⌝ }
 {
     let mut r = open_reader(s);

@@ -4,6 +4,7 @@ ghost use mathlib.Core.Path.{_≡_};
 ghost use mathlib.Core.Bool.{false};
 ghost use Rattle.rules.specs.Tree.{leaf};
 ghost use Rattle.rules.specs.Calls.{runAnswer};
+ghost use Rattle.rules.specs.Table.{table};
 use super::opening::put_alone;
 use super::opening::root_leaf;
 use super::runs::run_good;
@@ -13,7 +14,7 @@ use rules::RunAnswer;
 
 /// What one run with the limits answers on the root leaf of a table.
 pub fn run_afresh(weights: &[u32], present: &[u64], absent: &[u64], limits: Limits) -> RunAnswer
-    ensures { λ r. ⌜ r ≡ runAnswer (record { weights = now (weights .entry); present = now (present .entry); absent = now (absent .entry) })
+    ensures { λ r. ⌜ r ≡ runAnswer (table (now (weights .entry)) (now (present .entry)) (now (absent .entry)))
         false leaf limits ⌝ }
 {
     let number = run_number(weights, present, absent, limits);

@@ -3,6 +3,7 @@
 ghost use mathlib.Core.Path.{_≡_};
 ghost use mathlib.Core.List.{[]};
 ghost use Rattle.rules.specs.Refusals.{Accepted};
+ghost use Rattle.rules.specs.Table.{table};
 ghost use Rattle.records.specs.Records.{noNodes, recordAt};
 ghost use Rattle.store.specs.Lent.{treeOf};
 ghost use Rattle.dtree.specs.Promises.{Opening, oneRecord};
@@ -19,8 +20,8 @@ use store::put_used;
 
 /// The record of the root leaf of an accepted table.
 pub fn root_leaf(weights: &[u32], present: &[u64], absent: &[u64]) -> Node
-    requires { ⌜ Accepted (record { weights = now weights; present = now present; absent = now absent }) ⌝ }
-    ensures { λ r. ⌜ r ≡ recordAt (record { weights = now (weights .entry); present = now (present .entry); absent = now (absent .entry) }) [] [] ⌝ }
+    requires { ⌜ Accepted (table (now weights) (now present) (now absent)) ⌝ }
+    ensures { λ r. ⌜ r ≡ recordAt (table (now (weights .entry)) (now (present .entry)) (now (absent .entry))) [] [] ⌝ }
 {
     leaf_record(weights, present, absent, staying_rows(present, absent), 0)
 }
@@ -36,7 +37,7 @@ pub fn put_alone(tree: &mut Words, x: Node)
 
 /// Opens a table. What the tree held before does not matter.
 pub fn open(weights: &[u32], present: &[u64], absent: &[u64], tree: &mut Words) -> Answer
-    ensures { λ r. ⌜ Opening (record { weights = now (weights .entry); present = now (present .entry); absent = now (absent .entry) }) (treeOf (now (tree .exit))) r ⌝ }
+    ensures { λ r. ⌜ Opening (table (now (weights .entry)) (now (present .entry)) (now (absent .entry))) (treeOf (now (tree .exit))) r ⌝ }
 {
     clear(tree);
     let number = table_number(weights, present, absent);

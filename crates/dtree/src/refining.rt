@@ -2,6 +2,7 @@
 //! Rests on `checks` for 9 to 13, on the module `sixteen` for 16, on `find` for 17 to 20 and on `grow` for the refinement.
 ghost use Rattle.store.specs.Lent.{treeOf};
 ghost use Rattle.dtree.specs.Promises.{Refining};
+ghost use Rattle.rules.specs.Table.{table};
 use super::sixteen::is_good;
 use checks::table::table_number;
 use find::Named;
@@ -23,7 +24,7 @@ pub fn refine(
     place: &[u8],
     kind: Kind,
 ) -> Answer
-    ensures { λ r. ⌜ Refining (record { weights = now (weights .entry); present = now (present .entry); absent = now (absent .entry) }) (treeOf (now (tree .entry))) (now (place .entry)) kind (treeOf (now (tree .exit))) r ⌝ }
+    ensures { λ r. ⌜ Refining (table (now (weights .entry)) (now (present .entry)) (now (absent .entry))) (treeOf (now (tree .entry))) (now (place .entry)) kind (treeOf (now (tree .exit))) r ⌝ }
 {
     let number = table_number(weights, present, absent);
     if number != 0 {

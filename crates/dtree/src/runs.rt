@@ -7,6 +7,7 @@ ghost use Rattle.records.specs.Records.{Good};
 ghost use Rattle.store.specs.Lent.{treeOf};
 ghost use Rattle.store.specs.Safe.{Safe};
 ghost use Rattle.dtree.specs.Promises.{Running};
+ghost use Rattle.rules.specs.Table.{table};
 use super::sixteen::is_good;
 use checks::limits::limit_number;
 use checks::table::table_number;
@@ -19,7 +20,7 @@ use store::record_at;
 
 /// The first of 9 to 15 that applies to a run, or 0.
 pub fn run_number(weights: &[u32], present: &[u64], absent: &[u64], limits: Limits) -> u8
-    ensures { λ r. ⌜ r ≡ runNumber (record { weights = now (weights .entry); present = now (present .entry); absent = now (absent .entry) }) false limits ⌝ }
+    ensures { λ r. ⌜ r ≡ runNumber (table (now (weights .entry)) (now (present .entry)) (now (absent .entry))) false limits ⌝ }
 {
     let table = table_number(weights, present, absent);
     if table != 0 {
@@ -36,10 +37,10 @@ pub fn run_good(
     tree: &mut Words,
     limits: Limits,
 ) -> RunAnswer
-    requires { ⌜ runNumber (record { weights = now weights; present = now present; absent = now absent }) false limits ≡ 0 ⌝ }
-    requires { ⌜ Good (record { weights = now weights; present = now present; absent = now absent }) (treeOf (now tree)) ⌝ }
+    requires { ⌜ runNumber (table (now weights) (now present) (now absent)) false limits ≡ 0 ⌝ }
+    requires { ⌜ Good (table (now weights) (now present) (now absent)) (treeOf (now tree)) ⌝ }
     requires { ⌜ Safe (treeOf (now tree) .nodes) ⌝ }
-    ensures { λ r. ⌜ Running (record { weights = now (weights .entry); present = now (present .entry); absent = now (absent .entry) })
+    ensures { λ r. ⌜ Running (table (now (weights .entry)) (now (present .entry)) (now (absent .entry)))
         (treeOf (now (tree .entry))) limits (treeOf (now (tree .exit))) r ⌝ }
 {
     let e = run_on(weights, present, absent, tree, limits);
@@ -62,7 +63,7 @@ pub fn run(
     tree: &mut Words,
     limits: Limits,
 ) -> RunAnswer
-    ensures { λ r. ⌜ Running (record { weights = now (weights .entry); present = now (present .entry); absent = now (absent .entry) }) (treeOf (now (tree .entry))) limits (treeOf (now (tree .exit))) r ⌝ }
+    ensures { λ r. ⌜ Running (table (now (weights .entry)) (now (present .entry)) (now (absent .entry))) (treeOf (now (tree .entry))) limits (treeOf (now (tree .exit))) r ⌝ }
 {
     let number = run_number(weights, present, absent, limits);
     if number != 0 {

@@ -8,6 +8,7 @@ ghost use Prim.Native.Nat.{ℕ, _%_};
 ghost use lib.Dec.{eqb};
 ghost use Rattle.rules.specs.Tree.{possible};
 ghost use Rattle.rules.specs.Refusals.{Accepted};
+ghost use Rattle.rules.specs.Table.{table};
 ghost use Rattle.records.specs.Records.{recordWays, kindOf, isGood, Good};
 ghost use Rattle.store.specs.Lent.{treeOf};
 ghost use Rattle.store.specs.Safe.{Safe};
@@ -30,7 +31,7 @@ use store::used_in;
 /// The leaf of record y, with the ways c, is open and may be refined as record n says.
 fn may(present: &[u64], absent: &[u64], y: Node, c: Clauses, n: Node) -> bool
     requires { ⌜ LeafWays (now present) (now absent) y c ⌝ }
-    ensures { λ r. ⌜ ((ws : List ℕ) → r ≡ eqb (y .live) 1 && possible (kindOf n) (recordWays (record { weights = ws; present = now (present .entry); absent = now (absent .entry) }) y))
+    ensures { λ r. ⌜ ((ws : List ℕ) → r ≡ eqb (y .live) 1 && possible (kindOf n) (recordWays (table ws (now (present .entry)) (now (absent .entry))) y))
         × (r ≡ true → FaultFits (kindOf n)) ⌝ }
 {
     if y.live != 1 {
@@ -42,11 +43,11 @@ fn may(present: &[u64], absent: &[u64], y: Node, c: Clauses, n: Node) -> bool
 /// Makes the next refinement that the tree x tells on the tree y, and says whether it could. Its place is the parent of the next left child,
 /// its kind what that parent says was done.
 fn remake(weights: &[u32], present: &[u64], absent: &[u64], x: &Words, y: &mut Words) -> bool
-    requires { ⌜ Accepted (record { weights = now weights; present = now present; absent = now absent }) ⌝ }
+    requires { ⌜ Accepted (table (now weights) (now present) (now absent)) ⌝ }
     requires { ⌜ Safe (treeOf (now y) .nodes) ⌝ }
     requires { ⌜ treeOf (now y) .used % 2 ≡ 1 ⌝ }
-    requires { ⌜ Good (record { weights = now weights; present = now present; absent = now absent }) (treeOf (now y)) ⌝ }
-    ensures { λ r. ⌜ Remade (record { weights = now (weights .entry); present = now (present .entry); absent = now (absent .entry) })
+    requires { ⌜ Good (table (now weights) (now present) (now absent)) (treeOf (now y)) ⌝ }
+    ensures { λ r. ⌜ Remade (table (now (weights .entry)) (now (present .entry)) (now (absent .entry)))
         (treeOf (now (x .entry))) (treeOf (now (y .entry))) (treeOf (now (y .exit))) r ⌝ }
 {
     let next = used_in(y);
@@ -70,8 +71,8 @@ fn remake(weights: &[u32], present: &[u64], absent: &[u64], x: &Words, y: &mut W
 
 /// The tree is good.
 pub fn is_good(weights: &[u32], present: &[u64], absent: &[u64], tree: &Words) -> bool
-    requires { ⌜ Accepted (record { weights = now weights; present = now present; absent = now absent }) ⌝ }
-    ensures { λ r. ⌜ (r ≡ isGood (record { weights = now (weights .entry); present = now (present .entry); absent = now (absent .entry) }) (treeOf (now (tree .entry))))
+    requires { ⌜ Accepted (table (now weights) (now present) (now absent)) ⌝ }
+    ensures { λ r. ⌜ (r ≡ isGood (table (now (weights .entry)) (now (present .entry)) (now (absent .entry))) (treeOf (now (tree .entry))))
         × (r ≡ true → Safe (treeOf (now (tree .entry)) .nodes)) ⌝ }
 {
     let used = used_in(tree);

@@ -22,10 +22,10 @@ use Rattle.records.specs.declared.Node.{Node}
 use Rattle.records.specs.declared.Tree.{Tree}
 use Rattle.store.specs.Safe.{Safe}
 use Rattle.formula.specs.Leaves.{FaultFits}
-use Rattle.find.specs.declared.Spot.{Spot}
-use Rattle.find.specs.declared.Spot.the-variants.{At, Nowhere}
+use Rattle.find.specs.declared.Reached.{Reached}
+use Rattle.find.specs.declared.Reached.the-variants.{At, Nowhere}
 use Rattle.find.specs.declared.Named.the-variants.{Leaf, Refused}
-use Rattle.find.specs.Finds.{led, found, spotOf, wordTable, recordRefusals, recordNumber, numberAt, leafNumber, Tells}
+use Rattle.find.specs.Finds.{led, found, reachedOf, wordTable, recordRefusals, recordNumber, numberAt, leafNumber, Tells}
 
 -- ---- the number of a record
 
@@ -90,15 +90,15 @@ module _ (t : Table) (used : ℕ) (k : Kind) (n : Node) where
 -- ---- where a place leads
 
 -- The code's answer, as an option.
-abbrev back : Spot → Option ℕ
+abbrev back : Reached → Option ℕ
 back Nowhere = none
 back (At j) = some j
 
 -- What the code found is what the links lead to.
-leads-to : (o : Option ℕ) (s : Spot) → s ≡ spotOf o → o ≡ back s
+leads-to : (o : Option ℕ) (s : Reached) → s ≡ reachedOf o → o ≡ back s
 leads-to o s e = sym (same o) ∙ ap back (sym e)
   where
-    same : (o : Option ℕ) → back (spotOf o) ≡ o
+    same : (o : Option ℕ) → back (reachedOf o) ≡ o
     same none = refl
     same (some j) = refl
 
@@ -121,7 +121,7 @@ unfolding led
 led-inside xs w none j e = absurd (Option·none-ne-some _ e)
 led-inside xs w (some p) j e = walk-inside xs w p 0 j (omega arith) e
 
-pub spot-inside : (xs : List Node) → Safe xs → (bs : List ℕ) (j : ℕ) → At j ≡ spotOf (found xs bs) → j < 511
+pub spot-inside : (xs : List Node) → Safe xs → (bs : List ℕ) (j : ℕ) → At j ≡ reachedOf (found xs bs) → j < 511
 spot-inside xs w bs j e = led-inside xs w (placeOf bs) j (leads-to (found xs bs) (At j) e)
 
 -- ---- what the answers of `leaf_at` tell
@@ -136,12 +136,12 @@ module _ (t : Table) (x : Tree) (bs : List ℕ) (k : Kind) where
     unfolding leafNumber
     number-there o e = rw (le-ltb 64 (length bs) short, leafNumber) (ap (numberAt t x k) e)
 
-    pub nowhere : Nowhere ≡ spotOf (found (x .nodes) bs) → Tells t x bs k (Refused 17)
+    pub nowhere : Nowhere ≡ reachedOf (found (x .nodes) bs) → Tells t x bs k (Refused 17)
     unfolding Tells numberAt
     nowhere e = (number-there none (leads-to (found (x .nodes) bs) Nowhere e), λ z. omega (arith, z))
 
     -- The place leads to record j. The code read it as n, and that u records are in use, and so came to the number m.
-    module _ (j : ℕ) (e : At j ≡ spotOf (found (x .nodes) bs)) {n : Node} (r : n ≡ recordIn (x .nodes) j) {u : ℕ} (v : u ≡ x .used) (m : ℕ) (f : m ≡ recordNumber t u k n) where
+    module _ (j : ℕ) (e : At j ≡ reachedOf (found (x .nodes) bs)) {n : Node} (r : n ≡ recordIn (x .nodes) j) {u : ℕ} (v : u ≡ x .used) (m : ℕ) (f : m ≡ recordNumber t u k n) where
       leads : found (x .nodes) bs ≡ some j
       leads = leads-to (found (x .nodes) bs) (At j) e
 

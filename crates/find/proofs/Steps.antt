@@ -14,8 +14,8 @@ use Rattle.rules.specs.Calls.{stepTo, placeOf}
 use Rattle.records.specs.Records.{blank, recordIn, childRecord, walk}
 use Rattle.records.specs.declared.Node.{Node}
 use Rattle.store.specs.Safe.{Safe}
-use Rattle.find.specs.declared.Spot.the-variants.{At, Nowhere}
-use Rattle.find.specs.Finds.{led, found, spotOf}
+use Rattle.find.specs.declared.Reached.the-variants.{At, Nowhere}
+use Rattle.find.specs.Finds.{led, found, reachedOf}
 
 -- A byte above 1 names no place.
 place-none : (b : ℕ) (bs : List ℕ) → 1 < b → placeOf (b ∷ bs) ≡ none
@@ -65,25 +65,25 @@ start xs bs = record { inside = omega arith; rest = refl }
 
 module _ {xs : List Node} {bs : List ℕ} {j i : ℕ} (w : Walk xs bs j i) where
   -- With no byte left the walk is there.
-  pub there : length bs ≤ i → At j ≡ spotOf (found xs bs)
+  pub there : length bs ≤ i → At j ≡ reachedOf (found xs bs)
   unfolding led placeOf walk
-  there h = ap spotOf (ap (λ (cs : List ℕ). led xs j (placeOf cs)) (sym (drop-of-length-le bs h)) ∙ w .rest)
+  there h = ap reachedOf (ap (λ (cs : List ℕ). led xs j (placeOf cs)) (sym (drop-of-length-le bs h)) ∙ w .rest)
 
   module _ (h : i < length bs) where
     next : led xs j (placeOf (getD bs i 0 ∷ drop (suc i) bs)) ≡ found xs bs
     next = ap (λ (cs : List ℕ). led xs j (placeOf cs)) (sym (drop-cons bs i 0 h)) ∙ w .rest
 
     -- With a byte left it ends at a byte that is no step, and at a record n without children.
-    pub no-step : 1 < getD bs i 0 → Nowhere ≡ spotOf (found xs bs)
+    pub no-step : 1 < getD bs i 0 → Nowhere ≡ reachedOf (found xs bs)
     unfolding led
-    no-step g = ap spotOf (sym (ap (led xs j) (place-none (getD bs i 0) (drop (suc i) bs) g)) ∙ next)
+    no-step g = ap reachedOf (sym (ap (led xs j) (place-none (getD bs i 0) (drop (suc i) bs) g)) ∙ next)
 
     module _ (n : Node) (e : n ≡ recordIn xs j) where
       link : n .left ≡ recordIn xs j .left
       link = ap (λ (x : Node). x .left) e
 
-      pub at-leaf : n .left ≡ 0 → Nowhere ≡ spotOf (found xs bs)
-      at-leaf z = ap spotOf (sym (byte-none xs j (getD bs i 0) (drop (suc i) bs) (sym link ∙ z)) ∙ next)
+      pub at-leaf : n .left ≡ 0 → Nowhere ≡ reachedOf (found xs bs)
+      at-leaf z = ap reachedOf (sym (byte-none xs j (getD bs i 0) (drop (suc i) bs) (sym link ∙ z)) ∙ next)
 
       -- Else it goes on to the child.
       pub turn : Safe xs → (n .left ≡ 0 → ⊥) → getD bs i 0 ≤ 1 → Walk xs bs (n .left + getD bs i 0) (i + 1)

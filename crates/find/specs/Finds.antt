@@ -16,8 +16,8 @@ use Rattle.records.specs.Records.{recordIn, recordWays, walk}
 use Rattle.records.specs.declared.Node.{Node}
 use Rattle.records.specs.declared.Tree.{Tree}
 use Rattle.formula.specs.Leaves.{FaultFits}
-use Rattle.find.specs.declared.Spot.{Spot}
-use Rattle.find.specs.declared.Spot.the-variants.{At, Nowhere}
+use Rattle.find.specs.declared.Reached.{Reached}
+use Rattle.find.specs.declared.Reached.the-variants.{At, Nowhere}
 use Rattle.find.specs.declared.Named.{Named}
 use Rattle.find.specs.declared.Named.the-variants.{Leaf, Refused}
 
@@ -31,9 +31,9 @@ abbrev pub found : List Node → List ℕ → Option ℕ
 found xs bs = led xs 0 (placeOf bs)
 
 -- As the code says it.
-abbrev pub spotOf : Option ℕ → Spot
-spotOf none = Nowhere
-spotOf (some j) = At j
+abbrev pub reachedOf : Option ℕ → Reached
+reachedOf none = Nowhere
+reachedOf (some j) = At j
 
 -- A table of which only the ways count: nothing here reads a weight.
 abbrev pub wordTable : List ℕ → List ℕ → Table

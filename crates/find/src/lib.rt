@@ -6,7 +6,7 @@ ghost use lib.ListN.{length};
 ghost use Rattle.store.specs.Lent.{treeOf};
 ghost use Rattle.store.specs.Safe.{Safe};
 ghost use Rattle.formula.specs.Leaves.{FaultFits};
-ghost use Rattle.find.specs.Finds.{found, spotOf, wordTable, recordNumber, Tells};
+ghost use Rattle.find.specs.Finds.{found, reachedOf, wordTable, recordNumber, Tells};
 use clauses::keeping::remaining_of;
 use formula::child::possible;
 use records::Node;
@@ -19,7 +19,7 @@ use store::used_in;
 const LONGEST: usize = 64;
 
 /// Where a place leads: to a record, or to none.
-enum Spot {
+enum Reached {
     At(usize),
     Nowhere,
 }
@@ -31,9 +31,9 @@ pub enum Named {
 }
 
 /// The record of the place that the bytes name, going down from the root's record by the left links.
-fn find(tree: &Words, place: &[u8]) -> Spot
+fn find(tree: &Words, place: &[u8]) -> Reached
     requires { ⌜ Safe (treeOf (now tree) .nodes) ⌝ }
-    ensures { λ r. ⌜ r ≡ spotOf (found (treeOf (now (tree .entry)) .nodes) (now (place .entry))) ⌝ }
+    ensures { λ r. ⌜ r ≡ reachedOf (found (treeOf (now (tree .entry)) .nodes) (now (place .entry))) ⌝ }
 {
     let mut at: usize = 0;
     let mut i: usize = 0;
@@ -41,17 +41,17 @@ fn find(tree: &Words, place: &[u8]) -> Spot
         let n = record_at(tree, at);
         let left = n.left;
         if left == 0 {
-            return Spot::Nowhere;
+            return Reached::Nowhere;
         }
         let side = place[i];
         if 1 < side {
-            return Spot::Nowhere;
+            return Reached::Nowhere;
         }
         // The right child's record follows the left one's.
         at = left + side as usize;
         i += 1;
     }
-    Spot::At(at)
+    Reached::At(at)
 }
 
 /// Which of 17 to 20 refuses a refinement of the node in this record, 0 if none does.
@@ -88,8 +88,8 @@ pub fn leaf_at(present: &[u64], absent: &[u64], tree: &Words, place: &[u8], k: K
         return Named::Refused(17);
     }
     match find(tree, place) {
-        Spot::Nowhere => Named::Refused(17),
-        Spot::At(j) => {
+        Reached::Nowhere => Named::Refused(17),
+        Reached::At(j) => {
             let n = record_at(tree, j);
             let number = refusal(present, absent, n, used_in(tree), k);
             if number == 0 {

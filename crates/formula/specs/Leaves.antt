@@ -10,7 +10,7 @@ use Rattle.rules.specs.declared.Way.{Way}
 use Rattle.rules.specs.declared.Kind.{Kind}
 use Rattle.rules.specs.declared.Kind.the-variants.{IndependentOr, Shannon}
 use Rattle.clauses.specs.declared.Clauses.{Clauses}
-use Rattle.clauses.specs.Leaves.{waysOf, Within}
+use Rattle.clauses.specs.Leaves.{waysOf, InTable}
 use Rattle.formula.specs.declared.Ends.{Ends}
 use Rattle.formula.specs.declared.Children.{Children}
 
@@ -28,7 +28,7 @@ pub record Part (ps qs : List ℕ) (c : Clauses) (k : Kind) (b : Side) (d : Clau
   pub ways-are : waysOf ps qs d ≡ child k b (waysOf ps qs c)
   pub present-is : d .present ≡ childFixed left k b (c .present)
   pub absent-is : d .absent ≡ childFixed right k b (c .absent)
-  pub within : Within ps qs d
+  pub within : InTable ps qs d
 
 -- And of both children.
 pub record Parts (ps qs : List ℕ) (c : Clauses) (k : Kind) (r : Children) : Type 0 where

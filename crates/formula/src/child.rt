@@ -7,7 +7,7 @@ ghost use Rattle.rules.specs.Table;
 ghost use Rattle.rules.specs.Table.{bit};
 ghost use Rattle.rules.specs.Leaf.{Lean};
 ghost use Rattle.rules.specs.Tree;
-ghost use Rattle.clauses.specs.Leaves.{waysOf, Within};
+ghost use Rattle.clauses.specs.Leaves.{waysOf, InTable};
 ghost use Rattle.formula.specs.Leaves.{FaultFits, Parts};
 use super::Children;
 use super::group::falls_apart;
@@ -26,7 +26,7 @@ use rules::Way;
 /// The ways of both children. Under a fault the left child has it present, the right absent.
 pub fn children(present: &[u64], absent: &[u64], c: Clauses, k: Kind) -> Children
     requires { ⌜ FaultFits k ⌝ }
-    requires { ⌜ Within (now present) (now absent) c ⌝ }
+    requires { ⌜ InTable (now present) (now absent) c ⌝ }
     requires { ⌜ Lean (waysOf (now present) (now absent) c) ⌝ }
     ensures { λ r. ⌜ Parts (now (present .entry)) (now (absent .entry)) c k r ⌝ }
 {
@@ -57,7 +57,7 @@ fn names(f: usize, v: Way) -> bool
 
 /// The fault occurs in one of the ways.
 pub fn occurs(f: usize, present: &[u64], absent: &[u64], c: Clauses) -> bool
-    requires { ⌜ Within (now present) (now absent) c ⌝ }
+    requires { ⌜ InTable (now present) (now absent) c ⌝ }
     ensures { λ r. ⌜ (r ≡ Tree.occurs f (waysOf (now (present .entry)) (now (absent .entry)) c)) × (r ≡ true → f < 64) ⌝ }
 {
     let mut left = c;
@@ -74,7 +74,7 @@ pub fn occurs(f: usize, present: &[u64], absent: &[u64], c: Clauses) -> bool
 
 /// A refinement of this kind can be made: the ways fall apart, or the fault occurs in them. Then `children` takes the kind.
 pub fn possible(k: Kind, present: &[u64], absent: &[u64], c: Clauses) -> bool
-    requires { ⌜ Within (now present) (now absent) c ⌝ }
+    requires { ⌜ InTable (now present) (now absent) c ⌝ }
     ensures { λ r. ⌜ (r ≡ Tree.possible k (waysOf (now (present .entry)) (now (absent .entry)) c)) × (r ≡ true → FaultFits k) ⌝ }
 {
     match k {

@@ -4,14 +4,14 @@ ghost use mathlib.Core.Path.{_≡_};
 ghost use Prim.Native.Nat.{ℕ, _<_, _≤_};
 ghost use lib.ListN.{getD};
 ghost use Rattle.rules.specs.Run.{named, mostNamed};
-ghost use Rattle.clauses.specs.Leaves.{waysOf, Within};
+ghost use Rattle.clauses.specs.Leaves.{waysOf, InTable};
 use clauses::Clauses;
 use clauses::taking::faults;
 use clauses::taking::taken;
 
 /// In how many of the ways each fault is named: every way adds one to the count of each fault that it names.
 fn counts(present: &[u64], absent: &[u64], c: Clauses) -> [u64; 64]
-    requires { ⌜ Within (now present) (now absent) c ⌝ }
+    requires { ⌜ InTable (now present) (now absent) c ⌝ }
     ensures { λ r. ⌜ ((f : ℕ) → f < 64 → getD r f 0 ≡ named f (waysOf (now (present .entry)) (now (absent .entry)) c)) ⌝ }
 {
     let mut n = [0u64; 64];
@@ -33,7 +33,7 @@ fn counts(present: &[u64], absent: &[u64], c: Clauses) -> [u64; 64]
 /// Of the faults below n, the one named in most ways. Only a larger count replaces one, so that ties go to the lower number.
 pub fn most_named(n: usize, present: &[u64], absent: &[u64], c: Clauses) -> usize
     requires { ⌜ n ≤ 64 ⌝ }
-    requires { ⌜ Within (now present) (now absent) c ⌝ }
+    requires { ⌜ InTable (now present) (now absent) c ⌝ }
     ensures { λ r. ⌜ r ≡ mostNamed n (waysOf (now (present .entry)) (now (absent .entry)) c) ⌝ }
 {
     let count = counts(present, absent, c);

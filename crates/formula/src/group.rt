@@ -4,7 +4,7 @@ ghost use mathlib.Core.Path.{_≡_};
 ghost use mathlib.Core.Bool.{false};
 ghost use Rattle.rules.specs.Group;
 ghost use Rattle.rules.specs.Group.{groupFaults, part, nonempty, fallApart};
-ghost use Rattle.clauses.specs.Leaves.{waysOf, Within};
+ghost use Rattle.clauses.specs.Leaves.{waysOf, InTable};
 use clauses::Clauses;
 use clauses::keeping::touches;
 use clauses::taking::faults;
@@ -23,7 +23,7 @@ fn absorb(m: u64, v: Way) -> u64
 
 /// One pass: every way that the word touches adds its faults.
 fn pass(present: &[u64], absent: &[u64], c: Clauses, m: u64) -> u64
-    requires { ⌜ Within (now present) (now absent) c ⌝ }
+    requires { ⌜ InTable (now present) (now absent) c ⌝ }
     ensures { λ r. ⌜ r ≡ Group.pass m (waysOf (now (present .entry)) (now (absent .entry)) c) ⌝ }
 {
     let mut word = m;
@@ -39,7 +39,7 @@ fn pass(present: &[u64], absent: &[u64], c: Clauses, m: u64) -> u64
 
 /// The faults of the group of the lowest numbered way. A pass that changes nothing is the last: any further one would change nothing.
 pub fn group_faults(present: &[u64], absent: &[u64], c: Clauses) -> u64
-    requires { ⌜ Within (now present) (now absent) c ⌝ }
+    requires { ⌜ InTable (now present) (now absent) c ⌝ }
     ensures { λ r. ⌜ r ≡ groupFaults (waysOf (now (present .entry)) (now (absent .entry)) c) ⌝ }
 {
     if c.low | c.high == 0 {
@@ -62,7 +62,7 @@ pub fn group_faults(present: &[u64], absent: &[u64], c: Clauses) -> u64
 
 /// The word leaves a way untouched.
 fn leaves_one(present: &[u64], absent: &[u64], c: Clauses, m: u64) -> bool
-    requires { ⌜ Within (now present) (now absent) c ⌝ }
+    requires { ⌜ InTable (now present) (now absent) c ⌝ }
     ensures { λ r. ⌜ r ≡ nonempty (part false m (waysOf (now (present .entry)) (now (absent .entry)) c)) ⌝ }
 {
     let mut left = c;
@@ -79,7 +79,7 @@ fn leaves_one(present: &[u64], absent: &[u64], c: Clauses, m: u64) -> bool
 
 /// The ways fall apart into two groups or more.
 pub fn falls_apart(present: &[u64], absent: &[u64], c: Clauses) -> bool
-    requires { ⌜ Within (now present) (now absent) c ⌝ }
+    requires { ⌜ InTable (now present) (now absent) c ⌝ }
     ensures { λ r. ⌜ r ≡ fallApart (waysOf (now (present .entry)) (now (absent .entry)) c) ⌝ }
 {
     leaves_one(present, absent, c, group_faults(present, absent, c))

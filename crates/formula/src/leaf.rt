@@ -8,7 +8,7 @@ ghost use lib.ListN.{length};
 ghost use Rattle.rules.specs.Rounding.{S};
 ghost use Rattle.rules.specs.Leaf.{any, isEmpty, leafLow, leafHigh};
 ghost use Rattle.rules.specs.Refusals.{overweight};
-ghost use Rattle.clauses.specs.Leaves.{waysOf, Within};
+ghost use Rattle.clauses.specs.Leaves.{waysOf, InTable};
 ghost use Rattle.formula.specs.Leaves.{endsOf};
 use super::Ends;
 use chances::chance::chance;
@@ -22,7 +22,7 @@ use clauses::taking::taken;
 fn leaf_low(weights: &[u32], present: &[u64], absent: &[u64], c: Clauses) -> u64
     requires { ⌜ length (now weights) ≤ 64 ⌝ }
     requires { ⌜ overweight (now weights) ≡ false ⌝ }
-    requires { ⌜ Within (now present) (now absent) c ⌝ }
+    requires { ⌜ InTable (now present) (now absent) c ⌝ }
     ensures { λ r. ⌜ (r ≡ leafLow (now (weights .entry)) (waysOf (now (present .entry)) (now (absent .entry)) c)) × (r ≤ S) ⌝ }
 {
     let mut kept = [0u64; 128];
@@ -53,7 +53,7 @@ fn leaf_low(weights: &[u32], present: &[u64], absent: &[u64], c: Clauses) -> u64
 fn leaf_high(weights: &[u32], present: &[u64], absent: &[u64], c: Clauses) -> u64
     requires { ⌜ length (now weights) ≤ 64 ⌝ }
     requires { ⌜ overweight (now weights) ≡ false ⌝ }
-    requires { ⌜ Within (now present) (now absent) c ⌝ }
+    requires { ⌜ InTable (now present) (now absent) c ⌝ }
     ensures { λ r. ⌜ (r ≡ leafHigh (now (weights .entry)) (waysOf (now (present .entry)) (now (absent .entry)) c)) × (r ≤ S) ⌝ }
 {
     let mut sum: u64 = 0;
@@ -69,7 +69,7 @@ fn leaf_high(weights: &[u32], present: &[u64], absent: &[u64], c: Clauses) -> u6
 
 /// There are two ways or more, and each names a fault.
 fn several(present: &[u64], absent: &[u64], c: Clauses) -> bool
-    requires { ⌜ Within (now present) (now absent) c ⌝ }
+    requires { ⌜ InTable (now present) (now absent) c ⌝ }
     ensures { λ r. ⌜ r ≡ (leb 2 (length (waysOf (now (present .entry)) (now (absent .entry)) c)) && not (any isEmpty (waysOf (now (present .entry)) (now (absent .entry)) c))) ⌝ }
 {
     let mut n: u64 = 0;
@@ -90,7 +90,7 @@ fn several(present: &[u64], absent: &[u64], c: Clauses) -> bool
 pub fn ends(weights: &[u32], present: &[u64], absent: &[u64], c: Clauses) -> Ends
     requires { ⌜ length (now weights) ≤ 64 ⌝ }
     requires { ⌜ overweight (now weights) ≡ false ⌝ }
-    requires { ⌜ Within (now present) (now absent) c ⌝ }
+    requires { ⌜ InTable (now present) (now absent) c ⌝ }
     ensures { λ r. ⌜ (r ≡ endsOf (now (weights .entry)) (waysOf (now (present .entry)) (now (absent .entry)) c)) × (r .low ≤ S) × (r .high ≤ S) ⌝ }
 {
     let low = leaf_low(weights, present, absent, c);

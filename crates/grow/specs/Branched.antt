@@ -12,12 +12,12 @@ use Rattle.records.specs.Growing.{refinedRecord, freshRecord}
 use Rattle.records.specs.declared.Node.{Node}
 use Rattle.store.specs.Safe.{SafeNode}
 use Rattle.clauses.specs.declared.Clauses.{Clauses}
-use Rattle.clauses.specs.Leaves.{waysOf, Within}
+use Rattle.clauses.specs.Leaves.{waysOf, InTable}
 use Rattle.grow.specs.declared.refine.Branch.{Branch}
 
 -- The ways of record x of a table with these words, and its fixed faults. They do not depend on the weights.
 pub record LeafWays (ps qs : List ℕ) (x : Node) (c : Clauses) : Type 0 where
-  pub within : Within ps qs c
+  pub within : InTable ps qs c
   pub ways-are : (ws : List ℕ) → waysOf ps qs c ≡ recordWays (record { weights = ws; present = ps; absent = qs }) x
   pub present-is : c .present ≡ x .present
   pub absent-is : c .absent ≡ x .absent

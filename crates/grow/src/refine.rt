@@ -7,6 +7,7 @@ ghost use Prim.Native.Nat.{_+_, _<_, _≤_};
 ghost use lib.ListN.{length};
 ghost use Rattle.rules.specs.Leaf.{Lean};
 ghost use Rattle.rules.specs.Refusals.{overweight, Accepted};
+ghost use Rattle.rules.specs.Table.{table};
 ghost use Rattle.records.specs.Records.{recordIn, recordWays, kindCode, faultCode};
 ghost use Rattle.records.specs.Growing.{refinedRecord, grownAt};
 ghost use Rattle.store.specs.Lent.{treeOf};
@@ -133,13 +134,13 @@ pub fn grow(
     k: Kind,
     j: usize,
 )
-    requires { ⌜ Accepted (record { weights = now weights; present = now present; absent = now absent }) ⌝ }
+    requires { ⌜ Accepted (table (now weights) (now present) (now absent)) ⌝ }
     requires { ⌜ LeafWays (now present) (now absent) (recordIn (treeOf (now tree) .nodes) j) c ⌝ }
     requires { ⌜ FaultFits k ⌝ }
     requires { ⌜ Safe (treeOf (now tree) .nodes) ⌝ }
     requires { ⌜ (j < 511) × (treeOf (now tree) .used + 1 < 511) ⌝ }
-    requires { ⌜ Lean (recordWays (record { weights = now weights; present = now present; absent = now absent }) (recordIn (treeOf (now tree) .nodes) j)) ⌝ }
-    ensures { λ _. ⌜ (treeOf (now (tree .exit)) .nodes ≡ grownAt (record { weights = now (weights .entry); present = now (present .entry); absent = now (absent .entry) })
+    requires { ⌜ Lean (recordWays (table (now weights) (now present) (now absent)) (recordIn (treeOf (now tree) .nodes) j)) ⌝ }
+    ensures { λ _. ⌜ (treeOf (now (tree .exit)) .nodes ≡ grownAt (table (now (weights .entry)) (now (present .entry)) (now (absent .entry)))
         (treeOf (now (tree .entry)) .nodes) (treeOf (now (tree .entry)) .used) j k)
         × (treeOf (now (tree .exit)) .used ≡ treeOf (now (tree .entry)) .used + 2) × Safe (treeOf (now (tree .exit)) .nodes) ⌝ }
 {

@@ -7,8 +7,9 @@ ghost use Prim.Native.Nat.{_≤_};
 ghost use lib.ListN.{length};
 ghost use Rattle.rules.specs.Rounding.{S};
 ghost use Rattle.rules.specs.Refusals.{overweight};
+ghost use Rattle.rules.specs.Table.{table};
 ghost use Rattle.records.specs.Growing.{freshRecord};
-ghost use Rattle.clauses.specs.Leaves.{waysOf, Within};
+ghost use Rattle.clauses.specs.Leaves.{waysOf, InTable};
 use clauses::Clauses;
 use formula::leaf::ends;
 use records::Node;
@@ -23,8 +24,8 @@ pub fn leaf_record(
 ) -> Node
     requires { ⌜ length (now weights) ≤ 64 ⌝ }
     requires { ⌜ overweight (now weights) ≡ false ⌝ }
-    requires { ⌜ Within (now present) (now absent) c ⌝ }
-    ensures { λ r. ⌜ (r ≡ freshRecord (record { weights = now (weights .entry); present = []; absent = [] })
+    requires { ⌜ InTable (now present) (now absent) c ⌝ }
+    ensures { λ r. ⌜ (r ≡ freshRecord (table (now (weights .entry)) [] [])
         (record { set = []; present = c .present; absent = c .absent; ways = waysOf (now (present .entry)) (now (absent .entry)) c }) parent)
         × (r .low ≤ S) × (r .high ≤ S) ⌝ }
 {

@@ -23,7 +23,7 @@ use denote.Triple.Spec.{tripleOf}
 use Rattle.records.specs.declared.Node.{Node}
 use Rattle.records.proofs.Node as T
 use Rattle.page.specs.declared.Spot.{Spot}
-use Rattle.page.specs.Widest.{widestOf, Told}
+use Rattle.page.specs.Widest.{widestOf, WidestLaw}
 use Rattle.page.proofs.widest as widest
 
 module _ {M : Type 1} (𝓤 : URA M) (H : Heap 𝓤) (A : Atoms 𝓤) (mem : Memory → SProp 𝓤) (run : Routine → Fun 𝓤) where
@@ -47,4 +47,4 @@ module _ {M : Type 1} (𝓤 : URA M) (H : Heap 𝓤) (A : Atoms 𝓤) (mem : Mem
     pub said : (r : Spot) → ent 𝓤 (ensured 𝓤 H A widest.ended (widest.clauses 𝓤 H A mem run) (κ, tt) (x, tt) tt r) (fact 𝓤 (r ≡ widestOf (x .now)))
     said r =
         exE 𝓤 _ (λ ws.
-        via 𝓤 (sep 𝓤 (fact 𝓤 (r ≡ widestOf (x .now))) (fact 𝓤 (Told (x .now) r))) (snd∗ 𝓤 (sem 𝓤 H A (lasts widest.ended (κ, tt) (x, tt) ws)) _) (fst∗ 𝓤 _ (fact 𝓤 (Told (x .now) r))))
+        via 𝓤 (sep 𝓤 (fact 𝓤 (r ≡ widestOf (x .now))) (fact 𝓤 (WidestLaw (x .now) r))) (snd∗ 𝓤 (sem 𝓤 H A (lasts widest.ended (κ, tt) (x, tt) ws)) _) (fst∗ 𝓤 _ (fact 𝓤 (WidestLaw (x .now) r))))

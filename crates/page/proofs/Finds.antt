@@ -16,7 +16,7 @@ use Rattle.records.specs.declared.Node.{Node}
 use Rattle.page.specs.declared.Best.{Best}
 use Rattle.page.specs.declared.Spot.{Spot}
 use Rattle.page.specs.declared.Spot.the-variants.{At, Nothing}
-use Rattle.page.specs.Widest.{counts, countedWidth, betterOf, widestUpTo, answerOf, widestOf, Counts, FirstWidest, NoneCounts, Told}
+use Rattle.page.specs.Widest.{counts, countedWidth, betterOf, widestUpTo, answerOf, widestOf, Counts, FirstWidest, NoneCounts, WidestLaw}
 
 -- ---- the test and its words
 
@@ -143,7 +143,7 @@ isAt (At i) = true
 isAt Nothing = false
 
 -- An answer that says what holds is exactly that.
-told : (xs : List Node) (r : Spot) → Says xs r → Told xs r
+told : (xs : List Node) (r : Spot) → Says xs r → WidestLaw xs r
 told xs (At i) f =
     record {
       found = λ j. (λ e. rw (ap position e) at f, λ g. ap At (only-one xs i j f g));
@@ -156,5 +156,5 @@ told xs Nothing none =
     }
 
 -- THE LAW.
-pub widest-told : (xs : List Node) → Told xs (widestOf xs)
+pub widest-told : (xs : List Node) → WidestLaw xs (widestOf xs)
 widest-told xs = told xs (widestOf xs) (says xs)

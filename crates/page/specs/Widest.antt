@@ -65,6 +65,6 @@ abbrev pub NoneCounts : List Node → Type 0
 NoneCounts xs = (j : ℕ) → j < length xs → Counts (recordIn xs j) → ⊥
 
 -- THE LAW: told a position exactly if it is the first of the widest, told that there is none exactly if no record counts.
-pub record Told (xs : List Node) (r : Spot) : Type 0 where
+pub record WidestLaw (xs : List Node) (r : Spot) : Type 0 where
   pub found : (i : ℕ) → (r ≡ At i) ↔ FirstWidest xs i
   pub nothing : (r ≡ Nothing) ↔ NoneCounts xs

@@ -1,7 +1,7 @@
 //! The search for the page that draws the tree: the first position with the widest open leaf in lent records, whatever they hold.
 //! Rests on the records of `records`. specs/ has the search as a definition and what it finds; proofs/ what that says of a tree.
 ghost use mathlib.Core.Path.{_≡_};
-ghost use Rattle.page.specs.Widest.{countedWidth, noneYet, betterOf, answerOf, widestOf, Told};
+ghost use Rattle.page.specs.Widest.{countedWidth, noneYet, betterOf, answerOf, widestOf, WidestLaw};
 use records::Node;
 use records::Tree;
 
@@ -63,7 +63,7 @@ fn answer(best: Best) -> Spot
 /// The first position with the widest open leaf in lent records, or that there is none.
 pub fn widest(records: &[Node]) -> Spot
     ensures { λ r. ⌜ r ≡ widestOf (now (records .entry)) ⌝ }
-    ensures { λ r. ⌜ Told (now (records .entry)) r ⌝ }
+    ensures { λ r. ⌜ WidestLaw (now (records .entry)) r ⌝ }
 {
     let mut best = start();
     let mut i: usize = 0;
@@ -77,7 +77,7 @@ pub fn widest(records: &[Node]) -> Spot
 /// The same of records by value.
 pub fn widest_in(records: [Node; 511]) -> Spot
     ensures { λ r. ⌜ r ≡ widestOf records ⌝ }
-    ensures { λ r. ⌜ Told records r ⌝ }
+    ensures { λ r. ⌜ WidestLaw records r ⌝ }
 {
     widest(&records)
 }
@@ -85,7 +85,7 @@ pub fn widest_in(records: [Node; 511]) -> Spot
 /// The same of a tree.
 pub fn widest_of(tree: Tree) -> Spot
     ensures { λ r. ⌜ r ≡ widestOf (tree .nodes) ⌝ }
-    ensures { λ r. ⌜ Told (tree .nodes) r ⌝ }
+    ensures { λ r. ⌜ WidestLaw (tree .nodes) r ⌝ }
 {
     let records = tree.nodes;
     widest_in(records)

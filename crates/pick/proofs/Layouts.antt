@@ -12,7 +12,8 @@ use Rattle.rules.specs.Tree.{Side, left, right, Place, leaf, Refinement, tree, 
 use Rattle.rules.specs.declared.Kind.{Kind}
 use Rattle.rules.proofs.Booleans.{and-left}
 use Rattle.rules.proofs.Places.{leaf-has}
-use Rattle.rules.proofs.Series.{In, acceptable-leaf, series-back, only-done}
+use Rattle.rules.proofs.Members.{In}
+use Rattle.rules.proofs.Series.{acceptable-leaf, series-back, only-done}
 use Rattle.records.specs.Records.{recordIn, children, places, position, above, leftCode, childRecord, recordsOf, layout}
 use Rattle.records.specs.declared.Node.{Node}
 use Rattle.records.proofs.Positions.{Held, position-inside, held-at, position-of, above-child, places-append, length-places, position-lt, child-held, has-held, places-once, right-next}

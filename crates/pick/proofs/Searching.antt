@@ -1,5 +1,5 @@
 -- A SEARCH BY STEPS COMES TO THE LEFTMOST WIDEST OPEN LEAF: what holds of it on the way, and that each step keeps this and comes nearer.
--- For the loop of `widest`, which makes the steps. Rests on Walk.antt.
+-- For the loop of `next_leaf`, which makes the steps. Rests on Walk.antt.
 use mathlib.Core.Path.{_≡_, refl, sym}
 use mathlib.Core.Bool.{Bool, true, false, true≢false}
 use mathlib.Core.List.{List}

@@ -125,7 +125,7 @@ fn onward(s: Search, n: Node, p: Node) -> Search
 }
 
 /// The leftmost of the widest open leaves of a tree whose links are in order.
-pub fn widest(tree: &Words) -> Found
+pub fn next_leaf(tree: &Words) -> Found
     requires { ⌜ Linked (treeOf (now tree) .nodes) (treeOf (now tree) .used) ⌝ }
     requires { ⌜ Safe (treeOf (now tree) .nodes) ⌝ }
     ensures { λ r. ⌜ r ≡ pickOf (treeOf (now (tree .entry)) .nodes) ⌝ }

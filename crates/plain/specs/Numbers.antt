@@ -4,14 +4,14 @@ use mathlib.Core.Bool.{true, false}
 use mathlib.Core.Option.{Option, none, some}
 use Prim.Native.Nat.{ℕ}
 use lib.Dec.{eqb}
-use Rattle.rules.specs.Answers.{Reply, answerReply, runReply, runVerdict, readReply, cueReply, handedOver, writeReply}
+use Rattle.rules.specs.Answers.{Reply, answerReply, runReply, runVerdict, readReply, entryReply, handedOver, writeReply}
 use Rattle.rules.specs.declared.Kind.{Kind}
 use Rattle.rules.specs.declared.Verdict.{Verdict}
 use Rattle.rules.specs.declared.Answer.{Answer}
 use Rattle.rules.specs.declared.RunAnswer.{RunAnswer}
 use Rattle.rules.specs.declared.Head.{Head}
 use Rattle.rules.specs.declared.ReadAnswer.{ReadAnswer}
-use Rattle.rules.specs.declared.CueAnswer.{CueAnswer}
+use Rattle.rules.specs.declared.EntryAnswer.{EntryAnswer}
 use Rattle.rules.specs.declared.WriteAnswer.{WriteAnswer}
 use Rattle.plain.specs.declared.FlatAnswer.{FlatAnswer}
 use Rattle.page.specs.declared.Spot.{Spot}
@@ -71,16 +71,16 @@ flatHead a =
     }
 
 -- Whether a reader's call was past the last cue.
-abbrev pub pastCode : CueAnswer → ℕ
-pastCode (CueAnswer.Cue e) = 0
-pastCode CueAnswer.Past = 1
-pastCode (CueAnswer.Refused n) = 0
+abbrev pub pastCode : EntryAnswer → ℕ
+pastCode (EntryAnswer.Cue e) = 0
+pastCode EntryAnswer.Past = 1
+pastCode (EntryAnswer.Refused n) = 0
 
 -- The answer of a reader's call.
-abbrev pub flatEntry : CueAnswer → FlatEntry
+abbrev pub flatEntry : EntryAnswer → FlatEntry
 flatEntry a =
     record {
-      number = cueReply a .number;
+      number = entryReply a .number;
       past = pastCode a;
       cue = handedOver a .cue;
       ways = handedOver a .ways;

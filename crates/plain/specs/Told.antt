@@ -9,7 +9,7 @@ use Rattle.rules.specs.Answers.{countedBy}
 use Rattle.rules.specs.Table.{Table}
 use Rattle.rules.specs.Tree.{tree}
 use Rattle.rules.specs.Calls.{openAnswer, handAnswer, runAnswer}
-use Rattle.rules.specs.Sheet.{Lists, sheetOf, encode, readNumber, readAnswer, cueAnswer, writeNumber, writeAnswer, written}
+use Rattle.rules.specs.Sheet.{Lists, sheetOf, encode, readNumber, readAnswer, entryAnswer, writeNumber, writeAnswer, written}
 use Rattle.rules.specs.Text.{text}
 use Rattle.rules.specs.declared.Kind.{Kind}
 use Rattle.rules.specs.declared.Limits.{Limits}
@@ -19,7 +19,7 @@ use Rattle.records.specs.Records.{history, bad}
 use Rattle.records.specs.declared.Node.{Node}
 use Rattle.records.specs.declared.Tree.{Tree}
 use Rattle.dtree.specs.Promises.{Opening, Refining, Running}
-use Rattle.page.specs.Widest.{widestOf, Told}
+use Rattle.page.specs.Widest.{widestOf, WidestLaw}
 use Rattle.plain.specs.Numbers.{flat, flatAnswer, flatRun, flatWrite, flatSpot, flatHead, flatEntry}
 use Rattle.plain.specs.Into.{reportNumber, reportAnswer, reported}
 use Rattle.plain.specs.declared.FlatAnswer.{FlatAnswer}
@@ -53,7 +53,7 @@ pub record RunningTold (t : Table) (x : Tree) (m : Limits) (y : Tree) (r : FlatA
 -- THE SEARCH of any records.
 pub record SearchTold (xs : List Node) (r : FlatSpot) : Type 0 where
   pub numbers : r ≡ flatSpot (widestOf xs)
-  pub promise : Told xs (widestOf xs)
+  pub promise : WidestLaw xs (widestOf xs)
 
 -- READING a whole sheet: the numbers, and which number it is.
 pub record ReadingTold (bs : List ℕ) (r : FlatHead) : Type 0 where
@@ -62,7 +62,7 @@ pub record ReadingTold (bs : List ℕ) (r : FlatHead) : Type 0 where
 
 -- A READER'S CALL at any position.
 pub record EntryTold (bs : List ℕ) (i : ℕ) (r : FlatEntry) : Type 0 where
-  pub numbers : r ≡ flatEntry (cueAnswer bs i)
+  pub numbers : r ≡ flatEntry (entryAnswer bs i)
   pub number-is : r .number ≡ readNumber bs
 
 -- WRITING the sheet that lists give into a space: the numbers, the number and the bytes that they count, and the space afterwards.

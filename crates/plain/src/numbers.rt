@@ -10,7 +10,7 @@ use super::FlatHead;
 use super::FlatSpot;
 use page::Spot;
 use rules::Answer;
-use rules::CueAnswer;
+use rules::EntryAnswer;
 use rules::Figures;
 use rules::Kind;
 use rules::ReadAnswer;
@@ -125,25 +125,25 @@ pub fn of_read(a: ReadAnswer) -> FlatHead
 }
 
 /// The numbers of a reader's call.
-pub fn of_cue(a: CueAnswer) -> FlatEntry
+pub fn of_cue(a: EntryAnswer) -> FlatEntry
     ensures { λ r. ⌜ r ≡ flatEntry a ⌝ }
 {
     match a {
-        CueAnswer::Cue(e) => FlatEntry {
+        EntryAnswer::Cue(e) => FlatEntry {
             number: 0,
             past: 0,
             cue: e.cue as u64,
             ways: e.ways as u64,
             start: e.start as u64,
         },
-        CueAnswer::Past => FlatEntry {
+        EntryAnswer::Past => FlatEntry {
             number: 0,
             past: 1,
             cue: 0,
             ways: 0,
             start: 0,
         },
-        CueAnswer::Refused(n) => FlatEntry {
+        EntryAnswer::Refused(n) => FlatEntry {
             number: n as u64,
             past: 0,
             cue: 0,

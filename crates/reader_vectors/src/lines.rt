@@ -2,7 +2,7 @@
 //! Rests on the answers of `rules`. Refused or past the last, it is cue 0 with 0 ways.
 ghost use mathlib.Core.Path.{_≡_};
 ghost use Rattle.reader_vectors.specs.Lines.{shown};
-use rules::CueAnswer;
+use rules::EntryAnswer;
 
 /// The figures of a line.
 pub struct Line {
@@ -14,25 +14,25 @@ pub struct Line {
 }
 
 /// What an answer says in the rules' terms.
-fn figures(a: CueAnswer) -> Line
+fn figures(a: EntryAnswer) -> Line
     ensures { λ r. ⌜ r ≡ shown a ⌝ }
 {
     match a {
-        CueAnswer::Cue(e) => Line {
+        EntryAnswer::Cue(e) => Line {
             number: 0,
             past: 0,
             cue: e.cue as u64,
             ways: e.ways as u64,
             start: e.start as u64,
         },
-        CueAnswer::Past => Line {
+        EntryAnswer::Past => Line {
             number: 0,
             past: 1,
             cue: 0,
             ways: 0,
             start: 0,
         },
-        CueAnswer::Refused(n) => Line {
+        EntryAnswer::Refused(n) => Line {
             number: n as u64,
             past: 0,
             cue: 0,
@@ -49,7 +49,7 @@ fn print_field(n: u64, after: u8) {
 }
 
 /// Prints the line of an answer.
-pub fn print_answer(a: CueAnswer) {
+pub fn print_answer(a: EntryAnswer) {
     let l = figures(a);
     print_field(l.number, b' ');
     print_field(l.past, b' ');

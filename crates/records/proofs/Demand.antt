@@ -11,8 +11,9 @@ use Rattle.rules.specs.Tree.{Place, leaf, low, high, inners, Refinement, tree, 
 use Rattle.rules.specs.Refusals.{Accepted}
 use Rattle.rules.specs.Calls.{Call, byRun, Outcome, outcome, makes, noted, reports}
 use Rattle.rules.specs.declared.Limits.{Limits}
-use Rattle.rules.proofs.Series.{In, Same, grow-append, all-done, only-done, places-differ}
-use Rattle.rules.proofs.Narrowing.{Within}
+use Rattle.rules.proofs.Members.{In}
+use Rattle.rules.proofs.Series.{Same, grow-append, all-done, only-done, places-differ}
+use Rattle.rules.proofs.Narrowing.{NoWider}
 use Rattle.rules.proofs.Demand3.{noted-series, afterRun, Share, same-share, never-wider, call-never-widens}
 use Rattle.records.specs.Records.{layout, treeKind, treeInterval, treeCount}
 use Rattle.records.specs.Library.{openTree, callTree, callOutcome, treeAfter, outcomesAfter}
@@ -56,7 +57,7 @@ pub record RootWithin (x y : Tree) : Type 0 where
 -- the interval at every place, the count of refinements (the number of those places, and the sum of what either list's calls
 -- reported), and the outcome of every further run on equal allowance and budget. Along every such list no refinement, by hand or
 -- within a run, widens the interval at the root: its low end never falls, its high end never rises."
-pub record Demand-3 (t : Table) : Type 0 where
+pub record Demand-3-library (t : Table) : Type 0 where
   -- A. after every list the tree is that of the refinements noted by the rules, each call has said what the rules say, and 16 does not apply
   pub goes-by-the-rules : (cs : List Call) → ByTheRules t cs
   -- B. two lists that note the same refinements
@@ -76,7 +77,7 @@ unfolding intervalAt subtree descend low high
 root-read t ns = seen-interval t ns []
 
 -- So what the rules say of two roots holds of two layouts.
-root-within : (t : Table) (ns ms : List Refinement) → Within t (tree ns) (tree ms) → RootWithin (layout t ns) (layout t ms)
+root-within : (t : Table) (ns ms : List Refinement) → NoWider t (tree ns) (tree ms) → RootWithin (layout t ns) (layout t ms)
 root-within t ns ms w =
     record {
       was = record { low = low t (tree ns); high = high t (tree ns) };
@@ -152,8 +153,8 @@ module _ (t : Table) (ok : Accepted t) where
       (root-within t (noted t cs) (noted t cs ++ makes t s c) (rw (grow-append (noted t cs) (makes t s c) leaf) (call-never-widens t s c)))
 
 -- DEMAND 3 holds of every accepted table.
-pub demand-3 : (t : Table) → Accepted t → Demand-3 t
-demand-3 t ok =
+pub demand-3-library : (t : Table) → Accepted t → Demand-3-library t
+demand-3-library t ok =
     record {
       goes-by-the-rules = by-the-rules t ok;
       shared = λ cs cs′ e. share-trees t ok cs cs′ (same-share t ok cs cs′ e);

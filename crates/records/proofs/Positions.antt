@@ -13,7 +13,8 @@ use Rattle.rules.specs.Tree.{Side, left, right, Place, DTree, leaf, inner, refi
 use Rattle.rules.specs.declared.Kind.{Kind}
 use Rattle.rules.proofs.Booleans.{and-left, and-right, is-false, same-test}
 use Rattle.rules.proofs.Places.{leaf-undone, refined-kind, has-child, has-no-child, has-stays, has-only}
-use Rattle.rules.proofs.Series.{In, acceptable-leaf}
+use Rattle.rules.proofs.Members.{In}
+use Rattle.rules.proofs.Series.{acceptable-leaf}
 use Rattle.records.specs.Records.{children, places, samePlace, position, above}
 
 -- The place is one of the list.

@@ -16,7 +16,8 @@ use Rattle.rules.specs.Refusals.{Accepted}
 use Rattle.rules.specs.declared.Kind.{Kind}
 use Rattle.rules.proofs.Booleans.{and-left, and-right, and-both, same-test}
 use Rattle.rules.proofs.Places.{leaf-has}
-use Rattle.rules.proofs.Series.{In, acceptable-leaf, series-append, series-front, series-back, series-inners, all-done}
+use Rattle.rules.proofs.Members.{In}
+use Rattle.rules.proofs.Series.{acceptable-leaf, series-append, series-front, series-back, series-inners, all-done}
 use Rattle.records.specs.Records.{blank, children, places, position, recordWays, recordAt, recordsOf, layout, kindOf, treeCount, isGood, Good}
 use Rattle.records.specs.Growing.{grownAt, mayAt, rebuild, sameAs, isGoodRebuilt}
 use Rattle.records.specs.declared.Node.{Node}

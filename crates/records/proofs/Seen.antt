@@ -12,7 +12,8 @@ use Rattle.rules.specs.Tree.{Side, left, right, Place, inners, Refinement, tree
 use Rattle.rules.specs.declared.Kind.{Kind}
 use Rattle.rules.specs.declared.Kind.the-variants.{IndependentOr, Shannon}
 use Rattle.rules.proofs.Places.{subtree-has, subtree-child, nothing-stands, nothing-below}
-use Rattle.rules.proofs.Series.{In, only-done, series-inners}
+use Rattle.rules.proofs.Members.{In}
+use Rattle.rules.proofs.Series.{only-done, series-inners}
 use Rattle.records.specs.Records.{blank, children, places, samePlace, position, kindCode, faultCode, leftCode, subtreeOr, recordAt, recordsOf, layout, kindOf, treeCount, childRecord, walk, fetch, seen, didThere, kindSeen, intervalSeen, treeKind, treeInterval}
 use Rattle.records.specs.declared.Node.{Node}
 use Rattle.records.proofs.Positions.{Held, has-held, position-child, right-next}

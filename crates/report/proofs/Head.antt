@@ -23,12 +23,12 @@ by-number {h} zero x e = (refl, ap (headOf h) e)
 by-number (suc n) x e = absurd (omega (arith, ap lacking e))
 
 -- What the head of an answer says of the bytes.
-pub record Told (bs : List ℕ) (h : Head) : Type 0 where
+pub record HeadTold (bs : List ℕ) (h : Head) : Type 0 where
   pub accepted : readNumber bs ≡ 0
   pub cues : h .cues ≡ cuesIn bs
   pub limits : h .limits ≡ limitsIn bs
 
-pub told : (bs : List ℕ) {h : Head} → ReadAnswer.Sheet h ≡ readAnswer bs → Told bs h
+pub told : (bs : List ℕ) {h : Head} → ReadAnswer.Sheet h ≡ readAnswer bs → HeadTold bs h
 unfolding readAnswer headIn
 told bs e =
     let r = by-number (readNumber bs) (headIn bs) e in

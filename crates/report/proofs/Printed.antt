@@ -19,7 +19,8 @@ use Rattle.rules.specs.declared.RunAnswer.{RunAnswer}
 use Rattle.rules.proofs.Bytes.{each-below}
 use Rattle.rules.proofs.First.{none-applies, first-later, first-none}
 use Rattle.rules.proofs.Demand3.{run-number}
-use Rattle.rules.proofs.CueTables.{In, read-cue-accepted}
+use Rattle.rules.proofs.Members.{In}
+use Rattle.rules.proofs.CueTables.{read-cue-accepted}
 use Rattle.rules.proofs.ReaderCalls.{cues-decoded, hands-over}
 use Rattle.sheet.proofs.Tables.{entry-parts}
 use Rattle.report.specs.Lines.{tableIn, answerText, endedText}

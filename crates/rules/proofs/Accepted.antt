@@ -14,7 +14,8 @@ use Rattle.rules.specs.Refusals.{faultsOutside, someAbove, overweight, w
 use Rattle.rules.proofs.Booleans.{or-left, or-right, or-neither, or-split}
 use Rattle.rules.proofs.Bits.{bit-or, bit-high, below-pow, apart-bit, apart-test}
 use Rattle.rules.proofs.First.{none-applies, first-later, first-none}
-use Rattle.rules.proofs.Groups.{In, none-passes, each-fails}
+use Rattle.rules.proofs.Members.{In}
+use Rattle.rules.proofs.Groups.{none-passes, each-fails}
 use Rattle.rules.proofs.Sum.{Weights}
 use Rattle.rules.specs.Tree.{rootWays}
 use Rattle.rules.proofs.Minimal.{minimal-any}

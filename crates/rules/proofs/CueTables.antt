@@ -12,6 +12,7 @@ use lib.ListN.{length}
 use lib.Dec.{eqb, ltb, leb}
 use lib.Bits.{bitAnd}
 use borrow.Author.Tests.{ltb-false, le-ltb, eq-eqb}
+use Rattle.rules.proofs.Members.{In}
 use Rattle.rules.specs.Rounding.{S}
 use Rattle.rules.specs.Table.{Way, Table, absentRows, rows, ways, Encloses}
 use Rattle.rules.specs.Leaf.{any}
@@ -72,10 +73,6 @@ any-rows f i ps qs ps′ qs′ e h =
     any-append (onWords f) (rows i ps qs) (rows (i + length ps) ps′ qs′) (ap (any (onWords f)) (sym (rows-append i ps qs ps′ qs′ e)) ∙ h)
 
 -- ---- a cue of a sheet
-
--- The cue is one of the list.
-abbrev pub In : Cue → List Cue → Type 0
-In c cs = List·Memᴰ c cs
 
 -- A test that no row of all cues passes, none of a cue's own ways passes.
 cue-ways : (f : ℕ → ℕ → Bool) (i : ℕ) (cs : List Cue) → Paired cs → any (onWords f) (rows i (presentOf cs) (absentOf cs)) ≡ false

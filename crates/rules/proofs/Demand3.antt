@@ -23,7 +23,7 @@ use Rattle.rules.proofs.Series.{Same, acceptable-found, grow-append, se
 use Rattle.rules.proofs.Enclosure.{root-encloses, enclosing-order, end-le}
 use Rattle.rules.proofs.Levels.{refined-above}
 use Rattle.rules.proofs.Runs.{picks-series}
-use Rattle.rules.proofs.Narrowing.{Within, refined-within, grown-within}
+use Rattle.rules.proofs.Narrowing.{NoWider, refined-within, grown-within}
 
 -- ---- what an accepted call makes could be made
 
@@ -211,12 +211,12 @@ same-share t ok cs cs′ e =
 
 -- DEMAND 3, C: along every list, at each single refinement, by hand or within a run, the root's low never falls and its high never rises.
 pub never-wider : (t : Table) (cs : List Call) (before after : List Refinement) (n : Refinement) → noted t cs ≡ before ++ n ∷ after
-    → Within t (tree before) (tree (before ++ n ∷ []))
+    → NoWider t (tree before) (tree (before ++ n ∷ []))
 unfolding grow
 never-wider t cs before after n e = rw (grow-append before (n ∷ []) leaf) (refined-within t n (tree before))
 
 -- And from call to call.
-pub call-never-widens : (t : Table) (s : DTree) (c : Call) → Within t s (grow s (makes t s c))
+pub call-never-widens : (t : Table) (s : DTree) (c : Call) → NoWider t s (grow s (makes t s c))
 call-never-widens t s c = grown-within t (makes t s c) s
 
 -- ---- what a call hands back is certain

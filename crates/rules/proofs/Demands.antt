@@ -18,10 +18,11 @@ use Rattle.rules.specs.Calls.{handNumber, Call, callNumber, noted}
 use Rattle.rules.specs.Sheet.{Cue, Sheet, Lists, tableOf, Within, AllBelow, encode, listsIn, decode, readNumber, writeNumber, written}
 use Rattle.rules.proofs.KindLaws.{Handed}
 use Rattle.rules.proofs.Places.{refined-kind, refined-leaves, refined-inners, nodes-inners, subtree-has, elsewhere}
-use Rattle.rules.proofs.Series.{In, Same, acceptable-leaf, places-differ}
+use Rattle.rules.proofs.Members.{In}
+use Rattle.rules.proofs.Series.{Same, acceptable-leaf, places-differ}
 use Rattle.rules.proofs.HandedDown.{handed-down, handed-lean, handed-rising}
 use Rattle.rules.proofs.Sets.{Rising}
-use Rattle.rules.proofs.Enclosure.{Certain, enclosure, before-leaving-out}
+use Rattle.rules.proofs.Enclosure.{CertainAt, enclosure, before-leaving-out}
 use Rattle.rules.proofs.Narrowing as narrowing
 use Rattle.rules.proofs.Narrowing.{Narrower, no-place-widens, refined-within}
 use Rattle.rules.proofs.Levels.{levels, few-nodes}
@@ -38,7 +39,7 @@ use Rattle.rules.proofs.Sheets.{IsSheet, accepted-exactly, accepts-enco
 -- What holds at a place of a tree that a series of acceptable refinements grew.
 pub record AtPlace (t : Table) (p : Place) (x : Subtree) : Type 0 where
   -- Its interval encloses the exact sum over its remaining ways, low ≤ high, and high is at most S.
-  pub interval-certain : Certain (t .weights) x
+  pub interval-certain : CertainAt (t .weights) x
   -- Its remaining ways are what stays of those of its set that no fixed fault contradicts, with the fixed faults dropped.
   pub ways-remaining : Handed (ways t) (x .node)
   -- (02, a) "an interval still encloses the exact sum over all ways that remained before any was left out"
@@ -83,7 +84,7 @@ pub record OneRefinement (t : Table) (s : DTree) (n : Refinement) : Type 0 where
   pub ways-stay : (q : Place) → onPath q (n .place) ≡ false → onPath (n .place) q ≡ false → subtree t q (refine n s) ≡ subtree t q s
   pub intervals-stay : (q : Place) → onPath q (n .place) ≡ false → onPath (n .place) q ≡ false → intervalAt t q (refine n s) ≡ intervalAt t q s
   -- Neither the root nor any other place has a wider interval than before.
-  pub root-within : narrowing.Within t s (refine n s)
+  pub root-within : narrowing.NoWider t s (refine n s)
   pub no-wider : (q : Place) (y : Subtree) → subtree t q s ≡ some y → (z : Subtree) × (subtree t q (refine n s) ≡ some z) × Narrower (t .weights) y z
 
 pub one-refinement : (t : Table) (s : DTree) (n : Refinement) → acceptable t s n ≡ true → OneRefinement t s n
@@ -156,7 +157,7 @@ inside-exactly t = (accepted-inside t, inside-accepted t)
 pub record Demand-3 (t : Table) : Type 0 where
   pub share : (cs cs′ : List Call) → Same (noted t cs) (noted t cs′) → Share t cs cs′
   pub no-widening : (cs : List Call) (before after : List Refinement) (n : Refinement) → noted t cs ≡ before ++ n ∷ after
-      → narrowing.Within t (tree before) (tree (before ++ n ∷ []))
+      → narrowing.NoWider t (tree before) (tree (before ++ n ∷ []))
   -- No place is noted twice, so the length of the list is the number of its places.
   pub once : (cs : List Call) (a b : List Refinement) (n m : Refinement) → noted t cs ≡ a ++ n ∷ b → In m a → m .place ≡ n .place → ⊥
 
@@ -214,5 +215,5 @@ read-written = read-write
 -- ---- "The program .. prints an interval for each cue": every printed line is certain.
 
 -- Each cue of an accepted sheet is an accepted table, its printed interval encloses the exact sum over its ways, and met is printed exactly if it is narrow enough.
-pub line-shown : (bs : List ℕ) → AllBelow 256 bs → readNumber bs ≡ 0 → (c : Cue) → cue-tables.In c (decode bs .cues) → LineCertain (decode bs .limits) (tableOf (decode bs .weights) c)
+pub line-shown : (bs : List ℕ) → AllBelow 256 bs → readNumber bs ≡ 0 → (c : Cue) → In c (decode bs .cues) → LineCertain (decode bs .limits) (tableOf (decode bs .weights) c)
 line-shown = printed-certain

@@ -93,21 +93,21 @@ enclosing-order ws vs lo hi e = le-of-mul-le-mul-right (le-trans (e .below) (e .
 -- ---- at every place
 
 -- The interval of what stands somewhere: it encloses, low ≤ high, and high is at most S.
-pub record Certain (ws : List ℕ) (x : Subtree) : Type 0 where
+pub record CertainAt (ws : List ℕ) (x : Subtree) : Type 0 where
   pub encloses : Encloses ws (x .node .ways) (interval ws x .low) (interval ws x .high)
   pub ordered : interval ws x .low ≤ interval ws x .high
   pub bounded : interval ws x .high ≤ S
 
 certain : (ws : List ℕ) → Weights ws → (x : Subtree) → namesBeyond (length ws) (x .node .ways) ≡ false → namesBoth (x .node .ways) ≡ false
-    → Sound ws (x .node .ways) (x .below) → Certain ws x
+    → Sound ws (x .node .ways) (x .below) → CertainAt ws x
 certain ws k x f c o =
     let e = tree-encloses ws k (x .node .ways) f c (x .below) o in
     record { encloses = e; ordered = enclosing-order ws (x .node .ways) _ _ e; bounded = end-le ws (x .node .ways) (x .below) }
 
 certain-below : (ws : List ℕ) → Weights ws → (p : Place) (x : Node) (s : DTree) (y : Subtree) → namesBeyond (length ws) (x .ways) ≡ false → namesBoth (x .ways) ≡ false
-    → Sound ws (x .ways) s → descend p x s ≡ some y → Certain ws y
+    → Sound ws (x .ways) s → descend p x s ≡ some y → CertainAt ws y
 unfolding descend Sound
-certain-below ws k [] x s y f c o e = subst (Certain ws) (Option·some-injective _ y e) (certain ws k (record { node = x; below = s }) f c o)
+certain-below ws k [] x s y f c o e = subst (CertainAt ws) (Option·some-injective _ y e) (certain ws k (record { node = x; below = s }) f c o)
 certain-below ws k (b ∷ p) x leaf y f c o e = absurd (Option·none-ne-some _ e)
 certain-below ws k (left ∷ p) x (inner j l r) y f c o e =
     certain-below ws k p (childNode j left x) l y (child-inside j (length ws) left (x .ways) f) (child-one-sense j left (x .ways) c) (o .2) e
@@ -115,7 +115,7 @@ certain-below ws k (right ∷ p) x (inner j l r) y f c o e =
     certain-below ws k p (childNode j right x) r y (child-inside j (length ws) right (x .ways) f) (child-one-sense j right (x .ways) c) (o .3) e
 
 -- ENCLOSURE: an accepted table, a series of acceptable refinements, any place of the tree.
-pub enclosure : (t : Table) → Accepted t → (ns : List Refinement) → series t ns ≡ true → (p : Place) (x : Subtree) → subtree t p (tree ns) ≡ some x → Certain (t .weights) x
+pub enclosure : (t : Table) → Accepted t → (ns : List Refinement) → series t ns ≡ true → (p : Place) (x : Subtree) → subtree t p (tree ns) ≡ some x → CertainAt (t .weights) x
 unfolding subtree
 enclosure t ok ns h p x e =
     certain-below (t .weights) (weights-fit t ok) p (root t) (tree ns) x (root-inside t ok) (root-one-sense t ok) (series-sound t ns h) e

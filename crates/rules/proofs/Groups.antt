@@ -13,6 +13,7 @@ use lib.ListN.{length}
 use lib.Dec.{eqb}
 use lib.Bits.{bitAnd, bitOr, and-comm}
 use borrow.Author.Tests.{eqb-false, not-true}
+use Rattle.rules.proofs.Members.{In}
 use Rattle.rules.specs.Table.{bit, Way, faults, Assignment, satisfies, happens}
 use Rattle.rules.specs.Leaf.{any, shares, isEmpty}
 use Rattle.rules.specs.Group.{touches, absorb, pass, passes, groupFaults, part, group, others, nonempty, fallApart}
@@ -21,10 +22,6 @@ use Rattle.rules.proofs.Booleans.{and-left, and-right, and-both, or-fir
 use Rattle.rules.proofs.Bits.{bit-and, bit-or, bit-high, bit-nonzero, apart-bit, apart-test, some-bit}
 
 -- ---- ways of a list
-
--- The way is one of the list.
-abbrev pub In : Way → List Way → Type 0
-In v vs = List·Memᴰ v vs
 
 -- Where no way of a list passes a test, each fails it.
 pub none-passes : (f : Way → Bool) (vs : List Way) (v : Way) → any f vs ≡ false → In v vs → f v ≡ false
@@ -63,11 +60,11 @@ pub shares-sym : (v u : Way) → shares v u ≡ shares u v
 shares-sym v u = ap (λ (x : ℕ). not (eqb x 0)) (and-comm (faults v) (faults u))
 
 -- Every fault of the one word is one of the other.
-abbrev pub Within : ℕ → ℕ → Type 0
-Within x y = (i : ℕ) → bit i x ≡ true → bit i y ≡ true
+abbrev pub Subword : ℕ → ℕ → Type 0
+Subword x y = (i : ℕ) → bit i x ≡ true → bit i y ≡ true
 
 -- What a word touches, a larger one touches.
-touches-within : (m n : ℕ) (v : Way) → Within m n → touches m v ≡ true → touches n v ≡ true
+touches-within : (m n : ℕ) (v : Way) → Subword m n → touches m v ≡ true → touches n v ≡ true
 touches-within m n v s h = let c = common-fault m (faults v) h in common-test (c .0) n (faults v) (s (c .0) (c .1)) (c .2)
 
 -- ---- a part of a list
@@ -136,7 +133,7 @@ others-off m g vs h = each-fails (λ v. bit g (faults v)) (part false m vs) (λ 
 -- ---- growing the word
 
 -- A word keeps its faults when it takes in a way.
-absorb-within : (m : ℕ) (v : Way) → Within m (absorb m v)
+absorb-within : (m : ℕ) (v : Way) → Subword m (absorb m v)
 absorb-within m v i h = go (touches m v)
   where
     go : (t : Bool) → bit i (elim t as (λ b. ℕ) [ true ↦ bitOr m (faults v) | false ↦ m ]) ≡ true
@@ -144,7 +141,7 @@ absorb-within m v i h = go (touches m v)
     go false = h
 
 -- A way that the word touches adds its faults.
-absorb-adds : (m : ℕ) (v : Way) → touches m v ≡ true → Within (faults v) (absorb m v)
+absorb-adds : (m : ℕ) (v : Way) → touches m v ≡ true → Subword (faults v) (absorb m v)
 absorb-adds m v h i b = rw (h, absorb) (bit-or i m (faults v) ∙ or-second (bit i m) (bit i (faults v)) b)
 
 -- A fault of the word that has taken in a way is one of the word before, or one of the way that the word touches.
@@ -157,17 +154,17 @@ absorb-cases {P} m v i f g = go (touches m v) refl
     go false e h = f h
 
 -- A pass keeps the faults of the word.
-pass-within : (m : ℕ) (vs : List Way) → Within m (pass m vs)
+pass-within : (m : ℕ) (vs : List Way) → Subword m (pass m vs)
 pass-within m [] i h = h
 pass-within m (v ∷ vs) i h = pass-within (absorb m v) vs i (absorb-within m v i h)
 
 -- So do any number of passes.
-passes-within : (k m : ℕ) (vs : List Way) → Within m (passes k m vs)
+passes-within : (k m : ℕ) (vs : List Way) → Subword m (passes k m vs)
 passes-within zero m vs i h = h
 passes-within (suc k) m vs i h = passes-within k (pass m vs) vs i (pass-within m vs i h)
 
 -- A pass adds the faults of every way that the word touches at its start, or that a smaller word touches.
-pass-adds : (m n : ℕ) (vs : List Way) (v : Way) → Within m n → In v vs → touches m v ≡ true → Within (faults v) (pass n vs)
+pass-adds : (m n : ℕ) (vs : List Way) (v : Way) → Subword m n → In v vs → touches m v ≡ true → Subword (faults v) (pass n vs)
 pass-adds m n (u ∷ vs) v s (List·Memᴰ·head p) h i b =
     pass-within (absorb n u) vs i (absorb-adds n u (touches-within m n u s (rw p at h)) i (rw p at b))
 pass-adds m n (u ∷ vs) v s (List·Memᴰ·tail p) h i b = pass-adds m (absorb n u) vs v (λ j c. absorb-within n u j (s j c)) p h i b
@@ -176,10 +173,10 @@ pass-adds m n (u ∷ vs) v s (List·Memᴰ·tail p) h i b = pass-adds m (absorb 
 
 -- A word is at rest: it holds the faults of every way that it touches.
 abbrev pub AtRest : ℕ → List Way → Type 0
-AtRest m vs = (v : Way) → In v vs → touches m v ≡ true → Within (faults v) m
+AtRest m vs = (v : Way) → In v vs → touches m v ≡ true → Subword (faults v) m
 
 -- From within a word that is at rest, a pass stays within it.
-pass-rests : (m n : ℕ) (vs : List Way) → AtRest n vs → Within m n → Within (pass m vs) n
+pass-rests : (m n : ℕ) (vs : List Way) → AtRest n vs → Subword m n → Subword (pass m vs) n
 pass-rests m n [] r s = s
 pass-rests m n (v ∷ vs) r s =
     pass-rests (absorb m v) n vs (λ u p. r u (List·Memᴰ·tail p))
@@ -214,7 +211,7 @@ untouched-all m (v ∷ vs) = go (touches m v) refl (untouched-all m vs)
     go false e h = omega (arith, untouched-no m v vs e, h)
 
 -- A larger word leaves no more ways untouched.
-untouched-within : (m n : ℕ) (vs : List Way) → Within m n → untouched n vs ≤ untouched m vs
+untouched-within : (m n : ℕ) (vs : List Way) → Subword m n → untouched n vs ≤ untouched m vs
 untouched-within m n [] s = omega arith
 untouched-within m n (v ∷ vs) s = go (touches m v) (touches n v) refl refl (untouched-within m n vs s)
   where
@@ -225,7 +222,7 @@ untouched-within m n (v ∷ vs) s = go (touches m v) (touches n v) refl refl (un
     go false false e f h = omega (arith, untouched-no m v vs e, untouched-no n v vs f, h)
 
 -- If it leaves no fewer either, it touches nothing new.
-nothing-new : (m n : ℕ) (vs : List Way) → Within m n → untouched m vs ≤ untouched n vs → (v : Way) → In v vs → touches n v ≡ true → touches m v ≡ true
+nothing-new : (m n : ℕ) (vs : List Way) → Subword m n → untouched m vs ≤ untouched n vs → (v : Way) → In v vs → touches n v ≡ true → touches m v ≡ true
 nothing-new m n (u ∷ vs) s l v p h = go (touches m u) (touches n u) refl refl (List·Memᴰ·cases-cons p) (λ k q. nothing-new m n vs s k v q h)
   where
     less : untouched n vs ≤ untouched m vs
@@ -274,7 +271,7 @@ pub first-faults : (v : Way) (vs : List Way) (i : ℕ) → bit i (faults v) ≡ 
 first-faults v vs i h = passes-within (suc (length vs)) (faults v) (v ∷ vs) i h
 
 -- A way of the group names only faults of the group.
-group-within : (vs : List Way) (v : Way) → In v (group vs) → Within (faults v) (groupFaults vs)
+group-within : (vs : List Way) (v : Way) → In v (group vs) → Subword (faults v) (groupFaults vs)
 group-within vs v h = let p = part-in true (groupFaults vs) vs v h in group-rests vs v (p .0) (p .1)
 
 -- A fault outside the group's faults occurs in no way of the group.
@@ -330,7 +327,7 @@ group-linked v vs u h =
     (passes-reached (v ∷ vs) v (suc (length vs)) (faults v) (λ i b. (v, single, b))) (p .0) (p .1)
 
 -- Conversely, a way that a chain leads to names only faults of the group.
-linked-within : (v : Way) (vs : List Way) (u : Way) → Linked (v ∷ vs) v u → Within (faults u) (groupFaults (v ∷ vs))
+linked-within : (v : Way) (vs : List Way) (u : Way) → Linked (v ∷ vs) v u → Subword (faults u) (groupFaults (v ∷ vs))
 linked-within v vs u single = first-faults v vs
 linked-within v vs u (further {u = w} l p h) =
     group-rests (v ∷ vs) u p (touches-within (faults w) (groupFaults (v ∷ vs)) u (linked-within v vs w l) h)

@@ -12,12 +12,12 @@ use Rattle.rules.specs.declared.Kind.{Kind}
 use Rattle.rules.proofs.Remaining.{fix-none}
 use Rattle.rules.proofs.Sets.{Rising, ways-rising, select-rising, remaining-rising, part-told, whole-set}
 use Rattle.rules.proofs.Minimal.{minimal-twice}
-use Rattle.rules.proofs.KindLaws.{laws, Told, Handed}
+use Rattle.rules.proofs.KindLaws.{laws, ByNumbers, Handed}
 use Rattle.rules.proofs.Series.{Sound, series-sound}
 
 -- What holds of a node at every place: its own numbers tell its ways, these are lean, and they are the remaining ways of its set.
 record Placed (all : List Way) (x : Node) : Type 0 where
-  told : Told all x
+  told : ByNumbers all x
   lean : Lean (x .ways)
   handed : Handed all x
 

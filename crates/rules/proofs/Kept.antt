@@ -7,7 +7,8 @@ use mathlib.Core.Logic.{_⊎_, inl, inr, ⊎-elim}
 use Rattle.rules.specs.Table.{Way}
 use Rattle.rules.specs.Leaf.{shares, sharesAny, keep, kept}
 use Rattle.rules.proofs.Booleans.{or-left, or-right, or-first, or-second, or-cases}
-use Rattle.rules.proofs.Groups.{In, shares-sym}
+use Rattle.rules.proofs.Members.{In}
+use Rattle.rules.proofs.Groups.{shares-sym}
 
 -- What is kept of one way more: the way is passed over if it shares a fault with one kept before, and kept if not.
 keep-cases : (P : List Way → Type 0) (before : List Way) (v : Way) (vs : List Way)

@@ -75,8 +75,8 @@ some-occurs n (v ∷ vs) h e o =
 -- ---- the laws of a kind
 
 -- A node's ways by their own numbers, as a record tells them: what remains of the table's ways with those numbers.
-abbrev pub Told : List Way → Node → Type 0
-Told all x = remaining (x .present) (x .absent) (ofSet (x .ways) all) ≡ x .ways
+abbrev pub ByNumbers : List Way → Node → Type 0
+ByNumbers all x = remaining (x .present) (x .absent) (ofSet (x .ways) all) ≡ x .ways
 
 -- A node's ways by its set, as 01 words them: what stays of the table's ways in the set that no fixed fault contradicts, with the fixed faults dropped.
 abbrev pub Handed : List Way → Node → Type 0
@@ -102,9 +102,9 @@ pub record Laws (k : Kind) : Type 0 where
   -- The children of a lean node are lean.
   pub lean : (b : Side) (vs : List Way) → possible k vs ≡ true → Lean vs → Lean (child k b vs)
   -- Where a node's own numbers tell its ways, so do a child's.
-  pub told : (all : List Way) → Rising 0 all → (b : Side) (x : Node) → Told all x → possible k (x .ways) ≡ true → Told all (childNode k b x)
+  pub told : (all : List Way) → Rising 0 all → (b : Side) (x : Node) → ByNumbers all x → possible k (x .ways) ≡ true → ByNumbers all (childNode k b x)
   -- The ways handed down to a child are the remaining ways of its set.
-  pub handed : (all : List Way) → Rising 0 all → (b : Side) (x : Node) → Told all x → Lean (x .ways) → possible k (x .ways) ≡ true
+  pub handed : (all : List Way) → Rising 0 all → (b : Side) (x : Node) → ByNumbers all x → Lean (x .ways) → possible k (x .ways) ≡ true
       → Handed all (childNode k b x)
 
 -- ---- independent-or
@@ -185,8 +185,8 @@ independent-or-laws =
     lean : (b : Side) (vs : List Way) → possible IndependentOr vs ≡ true → Lean vs → Lean (child IndependentOr b vs)
     lean b vs p e = let s = or-sift b vs in rw (s .1) (sift-lean (s .0) vs e)
 
-    told : (all : List Way) → Rising 0 all → (b : Side) (x : Node) → Told all x → possible IndependentOr (x .ways) ≡ true
-        → Told all (childNode IndependentOr b x)
+    told : (all : List Way) → Rising 0 all → (b : Side) (x : Node) → ByNumbers all x → possible IndependentOr (x .ways) ≡ true
+        → ByNumbers all (childNode IndependentOr b x)
     told all r b x e p = let s = or-sift b (x .ways) in rw (s .1) (part-told all r (hasNumber (x .ways)) (x .present) (x .absent) (x .ways) (sym e) (s .0))
 
     removes : (n : ℕ) (b : Side) (vs : List Way) → namesBeyond n vs ≡ false → any isEmpty vs ≡ false → nonempty vs ≡ true → possible IndependentOr vs ≡ true
@@ -211,7 +211,7 @@ fault-bound d ws k vs f l x y p q =
     (rw (mass-cong ws (happens (minimal (remaining 0 (2 ^ f) vs))) (happens (remaining 0 (2 ^ f) vs)) (λ a e. minimal-happens (remaining 0 (2 ^ f) vs) a)) at q)
 
 -- A fault that occurs is not fixed yet, so fixing it is fixing one fault more.
-fix-more : (all : List Way) (x : Node) (f P A : ℕ) → Told all x → occurs f (x .ways) ≡ true → bitOr P A ≡ 2 ^ f
+fix-more : (all : List Way) (x : Node) (f P A : ℕ) → ByNumbers all x → occurs f (x .ways) ≡ true → bitOr P A ≡ 2 ^ f
     → remaining P A (x .ways) ≡ remaining (bitOr (x .present) P) (bitOr (x .absent) A) (ofSet (x .ways) all)
 fix-more all x f P A e o q =
     ap (remaining P A) (sym e)
@@ -238,11 +238,11 @@ shannon-laws f =
     }
   where
     -- The child's set is the node's own ways, so that these are told by number is enough.
-    handed : (all : List Way) (b : Side) (x : Node) → Told all x → possible (Shannon f) (x .ways) ≡ true → Handed all (childNode (Shannon f) b x)
+    handed : (all : List Way) (b : Side) (x : Node) → ByNumbers all x → possible (Shannon f) (x .ways) ≡ true → Handed all (childNode (Shannon f) b x)
     handed all left x e p = ap minimal (rw or-zero-r at (fix-more all x f (2 ^ f) 0 e p (or-zero-r (2 ^ f))))
     handed all right x e p = ap minimal (rw or-zero-r at (fix-more all x f 0 (2 ^ f) e p (or-zero-l (2 ^ f))))
 
-    told : (all : List Way) → Rising 0 all → (b : Side) (x : Node) → Told all x → possible (Shannon f) (x .ways) ≡ true → Told all (childNode (Shannon f) b x)
+    told : (all : List Way) → Rising 0 all → (b : Side) (x : Node) → ByNumbers all x → possible (Shannon f) (x .ways) ≡ true → ByNumbers all (childNode (Shannon f) b x)
     told all r b x e p = rw (handed all b x e p) (part-told all r (hasNumber (x .ways)) _ _ _ refl _)
 
     itself : bit f (2 ^ f) ≡ true

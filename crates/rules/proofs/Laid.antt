@@ -1,4 +1,4 @@
--- A sheet's bytes as they follow from its lists: `layout`, which is what `encode` writes, and which reading undoes both ways.
+-- A sheet's bytes as they follow from its lists: `laidOut`, which is what `encode` writes, and which reading undoes both ways.
 -- Rests on Bytes.antt. Nothing here knows of refusals: `Fits` holds what the fields' widths ask of the lists.
 use mathlib.Core.Path.{_≡_, refl, sym, ap, ap₂, _∙_}
 use mathlib.Core.List.{List, [], _∷_, _++_, append-assoc}
@@ -34,8 +34,8 @@ abbrev pub bodiesPart : Lists → List ℕ
 bodiesPart x = bodyBytes (x .present) (x .absent)
 
 -- The bytes that lists give.
-unfoldable pub layout : Lists → List ℕ
-layout x = headPart x ++ contentsPart x ++ weightsPart x ++ bodiesPart x
+unfoldable pub laidOut : Lists → List ℕ
+laidOut x = headPart x ++ contentsPart x ++ weightsPart x ++ bodiesPart x
 
 -- Lists that agree in length with each other and with the ways that the cues count.
 pub record Agree (x : Lists) : Type 0 where
@@ -94,8 +94,8 @@ module _ (x : Lists) (a : Agree x) where
   middle-length = omega (arith, length-append (headPart x ++ contentsPart x) (weightsPart x), front-length, length-weights (x .weights))
 
   -- The bytes that lists give, counted.
-  pub layout-length : length (layout x) ≡ bodiesStart (length (x .numbers)) (length (x .weights)) + 16 * total (x .counts)
-  unfolding layout
+  pub layout-length : length (laidOut x) ≡ bodiesStart (length (x .numbers)) (length (x .weights)) + 16 * total (x .counts)
+  unfolding laidOut
   layout-length =
       omega (
         arith,
@@ -169,8 +169,8 @@ contents-entries i (c ∷ cs) =
     ap (λ (r : List ℕ). little 2 (c .number) ++ little 2 (length (c .present)) ++ little 4 i ++ r) (contents-entries (i + 16 * length (c .present)) cs)
 
 -- The bytes of a sheet are those that its lists give.
-pub encode-layout : (s : Sheet) → Paired (s .cues) → encode s ≡ layout (listsOf s)
-unfolding encode layout listsOf
+pub encode-layout : (s : Sheet) → Paired (s .cues) → encode s ≡ laidOut (listsOf s)
+unfolding encode laidOut listsOf
 encode-layout s h = rw (length-numbers (s .cues), contents-entries _ (s .cues), bodies-body (s .cues) h)
 
 -- ---- reading what was laid out
@@ -237,44 +237,44 @@ body-read (p ∷ ps) (q ∷ qs) e a b =
 
 module _ (x : Lists) (a : Agree x) (f : Fits x) where
   -- The head.
-  faults-read : faultsIn (layout x) ≡ length (x .weights)
-  unfolding layout headBytes field little
+  faults-read : faultsIn (laidOut x) ≡ length (x .weights)
+  unfolding laidOut headBytes field little
   faults-read = value-little 2 (length (x .weights)) (f .faults)
 
-  cues-read : cuesIn (layout x) ≡ length (x .numbers)
-  unfolding layout headBytes field little
+  cues-read : cuesIn (laidOut x) ≡ length (x .numbers)
+  unfolding laidOut headBytes field little
   cues-read = value-little 2 (length (x .numbers)) (f .cues)
 
-  limits-read : limitsIn (layout x) ≡ x .limits
-  unfolding layout headBytes field little
+  limits-read : limitsIn (laidOut x) ≡ x .limits
+  unfolding laidOut headBytes field little
   limits-read = λ i. record { allowance = value-little 4 (x .limits .allowance) (f .allowance) i; budget = value-little 2 (x .limits .budget) (f .budget) i }
 
-  zero-read : zeroIn (layout x) ≡ 0
-  unfolding layout headBytes field little value
+  zero-read : zeroIn (laidOut x) ≡ 0
+  unfolding laidOut headBytes field little value
   zero-read = refl
 
   -- What stands behind the head, behind the contents and behind the weights.
-  after-head : drop 12 (layout x) ≡ contentsPart x ++ (weightsPart x ++ bodiesPart x)
-  unfolding layout headBytes little
+  after-head : drop 12 (laidOut x) ≡ contentsPart x ++ (weightsPart x ++ bodiesPart x)
+  unfolding laidOut headBytes little
   after-head = append-assoc (contentsPart x) (weightsPart x) (bodiesPart x)
 
-  after-contents : drop (weightsStart (length (x .numbers))) (layout x) ≡ weightsPart x ++ bodiesPart x
-  unfolding layout
+  after-contents : drop (weightsStart (length (x .numbers))) (laidOut x) ≡ weightsPart x ++ bodiesPart x
+  unfolding laidOut
   after-contents =
       ap (drop (weightsStart (length (x .numbers)))) (append-assoc (headPart x ++ contentsPart x) (weightsPart x) (bodiesPart x))
       ∙ drop-at (headPart x ++ contentsPart x) (weightsPart x ++ bodiesPart x) _ (front-length x a)
 
-  after-weights : drop (bodiesStart (length (x .numbers)) (length (x .weights))) (layout x) ≡ bodiesPart x
-  unfolding layout
+  after-weights : drop (bodiesStart (length (x .numbers)) (length (x .weights))) (laidOut x) ≡ bodiesPart x
+  unfolding laidOut
   after-weights = drop-at (headPart x ++ contentsPart x ++ weightsPart x) (bodiesPart x) _ (middle-length x a)
 
   -- Each column of the contents stands so far behind the head.
-  contents-read : (k o : ℕ) → column k 8 (12 + o) (cuesIn (layout x)) (layout x)
+  contents-read : (k o : ℕ) → column k 8 (12 + o) (cuesIn (laidOut x)) (laidOut x)
       ≡ column k 8 o (length (x .numbers)) (contentsPart x ++ (weightsPart x ++ bodiesPart x))
-  contents-read k o = rw (cues-read, column-drop k 8 12 o (length (x .numbers)) (layout x), after-head)
+  contents-read k o = rw (cues-read, column-drop k 8 12 o (length (x .numbers)) (laidOut x), after-head)
 
   -- The numbers, the counts and the places.
-  columns-read : (numbersIn (layout x) ≡ x .numbers) × (countsIn (layout x) ≡ x .counts) × (placesIn (layout x) ≡ placesOf x)
+  columns-read : (numbersIn (laidOut x) ≡ x .numbers) × (countsIn (laidOut x) ≡ x .counts) × (placesIn (laidOut x) ≡ placesOf x)
   columns-read =
       let places : AllBelow (256 ^ 4) (placesOf x) = starts-below (256 ^ 4) _ (x .counts) (f .ends) in
       let behind : List ℕ = weightsPart x ++ bodiesPart x in
@@ -282,31 +282,31 @@ module _ (x : Lists) (a : Agree x) (f : Fits x) where
       (contents-read 2 0 ∙ read .0, contents-read 2 2 ∙ read .1, contents-read 4 4 ∙ read .2)
 
   -- The weights.
-  weights-in : weightsIn (layout x) ≡ x .weights
+  weights-in : weightsIn (laidOut x) ≡ x .weights
   weights-in =
-      rw (cues-read, faults-read, column-at 4 4 (weightsStart (length (x .numbers))) (length (x .weights)) (layout x), after-contents)
+      rw (cues-read, faults-read, column-at 4 4 (weightsStart (length (x .numbers))) (length (x .weights)) (laidOut x), after-contents)
       (weights-read (x .weights) (bodiesPart x) (f .weights))
 
   -- The start of the bodies.
-  bodies-in : bodiesIn (layout x) ≡ bodiesStart (length (x .numbers)) (length (x .weights))
+  bodies-in : bodiesIn (laidOut x) ≡ bodiesStart (length (x .numbers)) (length (x .weights))
   bodies-in = rw (cues-read, faults-read)
 
   -- As many words as the lists have.
-  ways-in : total (countsIn (layout x)) ≡ length (x .present)
+  ways-in : total (countsIn (laidOut x)) ≡ length (x .present)
   ways-in = ap total (columns-read .1) ∙ sym (a .dealt)
 
   -- The words.
-  words-read : (presentIn (layout x) ≡ x .present) × (absentIn (layout x) ≡ x .absent)
+  words-read : (presentIn (laidOut x) ≡ x .present) × (absentIn (laidOut x) ≡ x .absent)
   words-read =
       let start : ℕ = bodiesStart (length (x .numbers)) (length (x .weights)) in
       let n : ℕ = length (x .present) in
       let read = body-read (x .present) (x .absent) (a .paired) (f .present) (f .absent) in (
-        rw (ways-in, bodies-in, column-at 8 16 start n (layout x), after-weights) (read .0),
-        rw (ways-in, bodies-in, column-drop 8 16 start 8 n (layout x), after-weights) (read .1),
+        rw (ways-in, bodies-in, column-at 8 16 start n (laidOut x), after-weights) (read .0),
+        rw (ways-in, bodies-in, column-drop 8 16 start 8 n (laidOut x), after-weights) (read .1),
       )
 
   -- Reading finds the lists.
-  pub lists-layout : listsIn (layout x) ≡ x
+  pub lists-layout : listsIn (laidOut x) ≡ x
   unfolding listsIn
   lists-layout =
       λ i.
@@ -320,7 +320,7 @@ module _ (x : Lists) (a : Agree x) (f : Fits x) where
       }
 
   -- The bytes are settled.
-  pub layout-settled : Settled (layout x)
+  pub layout-settled : Settled (laidOut x)
   layout-settled =
       record {
         zeros = zero-read;
@@ -412,8 +412,8 @@ module _ (bs : List ℕ) (h : AllBelow 256 bs) (s : Settled bs) where
       (body-column n (drop start bs) (below-drop 256 start bs h) (omega arith) ∙ take-all (16 * n) (drop start bs) (omega arith))
 
   -- The lists found in settled bytes give them back.
-  pub layout-lists : layout (listsIn bs) ≡ bs
-  unfolding layout listsIn bodiesStart weightsStart
+  pub layout-lists : laidOut (listsIn bs) ≡ bs
+  unfolding laidOut listsIn bodiesStart weightsStart
   layout-lists =
       rw (
         length-column 4 4 (weightsStart (cuesIn bs)) (faultsIn bs) bs,

@@ -15,13 +15,14 @@ use Rattle.rules.specs.Leaf.{any, without, sift, subsumes, outdoes, redu
 use Rattle.rules.proofs.Booleans.{and-left, and-right, and-both, is-true, same-test}
 use Rattle.rules.proofs.Bits.{bit-zero, bit-without, bits-zero}
 use Rattle.rules.proofs.Ways.{satisfied-asks, asks-satisfied}
-use Rattle.rules.proofs.Groups.{In, Within, none-passes, each-fails}
+use Rattle.rules.proofs.Members.{In}
+use Rattle.rules.proofs.Groups.{Subword, none-passes, each-fails}
 use Rattle.rules.proofs.Sum.{mass-weigh, mass-cong}
 
 -- ---- words within words
 
 -- Where nothing of a word lies outside another, every bit of it is one of the other's.
-none-within : (m w : ℕ) → eqb (without m w) 0 ≡ true → Within w m
+none-within : (m w : ℕ) → eqb (without m w) 0 ≡ true → Subword w m
 none-within m w h i b = by (bit i m) (sym (bit-without i m w) ∙ ap (bit i) (eqb-true (without m w) 0 h) ∙ bit-zero i)
   where
     by : (c : Bool) → bit i w && not c ≡ false → c ≡ true
@@ -29,7 +30,7 @@ none-within m w h i b = by (bit i m) (sym (bit-without i m w) ∙ ap (bit i) (eq
     by false e = absurd (true≢false (sym (and-both (bit i w) true b refl) ∙ e))
 
 -- And back.
-within-none : (m w : ℕ) → Within w m → eqb (without m w) 0 ≡ true
+within-none : (m w : ℕ) → Subword w m → eqb (without m w) 0 ≡ true
 within-none m w h = eq-eqb (without m w) 0 (bits-zero (without m w) (λ i. bit-without i m w ∙ by i (bit i w) refl))
   where
     by : (i : ℕ) (c : Bool) → bit i w ≡ c → c && not (bit i m) ≡ false
@@ -37,24 +38,24 @@ within-none m w h = eq-eqb (without m w) 0 (bits-zero (without m w) (λ i. bit-w
     by i false e = refl
 
 -- A word within another is no larger as a number.
-within-le : (m w : ℕ) → Within w m → w ≤ m
+within-le : (m w : ℕ) → Subword w m → w ≤ m
 within-le m w h = omega (arith, eqb-true (without m w) 0 (within-none m w h), and-le-r w m)
 
 -- ---- subsuming, fault by fault
 
 -- What the first way says of a fault, the second says too.
-abbrev pub Inside : Way → Way → Type 0
-Inside u v = Within (u .present) (v .present) × Within (u .absent) (v .absent)
+abbrev pub PartOf : Way → Way → Type 0
+PartOf u v = Subword (u .present) (v .present) × Subword (u .absent) (v .absent)
 
 -- That is what subsuming says.
-pub subsumes-inside : (u v : Way) → subsumes u v ≡ true → Inside u v
+pub subsumes-inside : (u v : Way) → subsumes u v ≡ true → PartOf u v
 subsumes-inside u v h =
     let p : Bool = eqb (without (v .present) (u .present)) 0 in
     let q : Bool = eqb (without (v .absent) (u .absent)) 0 in
     (none-within (v .present) (u .present) (and-left p q h), none-within (v .absent) (u .absent) (and-right p q h))
 
 -- And all that it says.
-pub inside-subsumes : (u v : Way) → Inside u v → subsumes u v ≡ true
+pub inside-subsumes : (u v : Way) → PartOf u v → subsumes u v ≡ true
 inside-subsumes u v k = and-both _ _ (within-none (v .present) (u .present) (k .0)) (within-none (v .absent) (u .absent) (k .1))
 
 -- A way subsumes one of the same words.

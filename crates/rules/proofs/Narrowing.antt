@@ -73,19 +73,19 @@ no-place-widens t n s p y e = grown-at (t .weights) p (root t) (refined-grows (n
 -- ---- at the root
 
 -- The root's interval in the second tree lies within that in the first.
-pub record Within (t : Table) (s s′ : DTree) : Type 0 where
+pub record NoWider (t : Table) (s s′ : DTree) : Type 0 where
   pub low-rises : low t s ≤ low t s′
   pub high-falls : high t s′ ≤ high t s
 
 -- One refinement.
-pub refined-within : (t : Table) (n : Refinement) (s : DTree) → Within t s (refine n s)
+pub refined-within : (t : Table) (n : Refinement) (s : DTree) → NoWider t s (refine n s)
 unfolding low high
 refined-within t n s =
     let g = refined-grows (n .place) (n .kind) s in
     record { low-rises = narrows down (t .weights) (rootWays t) g; high-falls = narrows up (t .weights) (rootWays t) g }
 
 -- Any number of them.
-pub grown-within : (t : Table) (ns : List Refinement) (s : DTree) → Within t s (grow s ns)
+pub grown-within : (t : Table) (ns : List Refinement) (s : DTree) → NoWider t s (grow s ns)
 unfolding grow
 grown-within t [] s = record { low-rises = omega arith; high-falls = omega arith }
 grown-within t (n ∷ ns) s =

@@ -8,8 +8,8 @@ use native.Mathlib.Omega.{arith}
 use lib.ListN.{length, take, drop, getD, length-append}
 use lib.Seq.{take-at, drop-at}
 use borrow.Author.Tests.{lt-ltb, le-ltb}
-use Rattle.rules.specs.Sheet.{Cue, Sheet, Lists, total, sheetOf, numbersOf, countsOf, listsOf, weightsStart, bodiesStart, starts, headBytes, contentsBytes, weightsBytes, bodyBytes, bodiesBytes, encode, faultsIn, cuesIn, numbersIn, countsIn, placesIn, bodiesIn, listsIn, decode, readNumber, entryIn, cueAnswerBy, cueAnswer, bodyIn, AllBelow, Paired}
-use Rattle.rules.specs.declared.CueAnswer.{CueAnswer}
+use Rattle.rules.specs.Sheet.{Cue, Sheet, Lists, total, sheetOf, numbersOf, countsOf, listsOf, weightsStart, bodiesStart, starts, headBytes, contentsBytes, weightsBytes, bodyBytes, bodiesBytes, encode, faultsIn, cuesIn, numbersIn, countsIn, placesIn, bodiesIn, listsIn, decode, readNumber, entryIn, entryAnswerBy, entryAnswer, bodyIn, AllBelow, Paired}
+use Rattle.rules.specs.declared.EntryAnswer.{EntryAnswer}
 use Rattle.rules.proofs.Bytes.{length-column}
 use Rattle.rules.proofs.Laid.{length-body, length-numbers}
 use Rattle.rules.proofs.Sheets.{encode-length, within-decoded, encode-decode, read-kept}
@@ -75,18 +75,18 @@ sheet-body s p bs e i d there = rw (← e) (body-at (sheetFront s) _ (front-leng
 -- ---- the calls
 
 -- A refused sheet is refused with its own number at every position.
-pub refused-everywhere : (bs : List ℕ) (n : ℕ) → readNumber bs ≡ suc n → (i : ℕ) → cueAnswer bs i ≡ CueAnswer.Refused (suc n)
-unfolding cueAnswer cueAnswerBy
+pub refused-everywhere : (bs : List ℕ) (n : ℕ) → readNumber bs ≡ suc n → (i : ℕ) → entryAnswer bs i ≡ EntryAnswer.Refused (suc n)
+unfolding entryAnswer entryAnswerBy
 refused-everywhere bs n refused i = rw refused
 
 -- At and past the last cue of an accepted sheet there is nothing to hand over.
-pub past-the-last : (bs : List ℕ) → readNumber bs ≡ 0 → (i : ℕ) → cuesIn bs ≤ i → cueAnswer bs i ≡ CueAnswer.Past
-unfolding cueAnswer cueAnswerBy
+pub past-the-last : (bs : List ℕ) → readNumber bs ≡ 0 → (i : ℕ) → cuesIn bs ≤ i → entryAnswer bs i ≡ EntryAnswer.Past
+unfolding entryAnswer entryAnswerBy
 past-the-last bs accepted i late = rw (accepted, le-ltb i (cuesIn bs) late)
 
 -- The call at position i hands over the cue c: its number and ways, the place that the contents state, and at that place its own bytes.
 pub record HandsOver (bs : List ℕ) (i : ℕ) (c : Cue) : Type 0 where
-  pub answer : cueAnswer bs i ≡ CueAnswer.Cue (entryIn bs i)
+  pub answer : entryAnswer bs i ≡ EntryAnswer.Cue (entryIn bs i)
   pub cue : entryIn bs i .cue ≡ c .number
   pub ways : entryIn bs i .ways ≡ length (c .present)
   pub place : getD (placesIn bs) i 0 ≡ entryIn bs i .start
@@ -118,7 +118,7 @@ module _ (bs : List ℕ) (h : AllBelow 256 bs) (accepted : readNumber bs ≡ 0) 
 
   -- A READER'S CALL before the last hands over the cue at its position, whatever `getD` would give behind the last.
   pub hands-over : (i : ℕ) (d : Cue) → i < cuesIn bs → HandsOver bs i (getD (decode bs .cues) i d)
-  unfolding cueAnswer cueAnswerBy entryIn bodyIn
+  unfolding entryAnswer entryAnswerBy entryIn bodyIn
   hands-over i d there =
       let s = decode bs in
       let inside : i < length (s .cues) = rw cues-decoded there in

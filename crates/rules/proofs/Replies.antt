@@ -6,8 +6,8 @@ use mathlib.Core.List.{List}
 use Prim.Native.Nat.{ℕ, zero, suc}
 use lib.ListN.{length}
 use lib.Dec.{ltb}
-use Rattle.rules.specs.Answers.{countedBy, readReply, cueReply, writeReply}
-use Rattle.rules.specs.Sheet.{Lists, sheetOf, encode, readNumber, headIn, readAnswerBy, readAnswer, cuesIn, entryIn, cueAnswerBy, cueAnswer, writeNumber, writeAnswerBy, writeAnswer}
+use Rattle.rules.specs.Answers.{countedBy, readReply, entryReply, writeReply}
+use Rattle.rules.specs.Sheet.{Lists, sheetOf, encode, readNumber, headIn, readAnswerBy, readAnswer, cuesIn, entryIn, entryAnswerBy, entryAnswer, writeNumber, writeAnswerBy, writeAnswer}
 use Rattle.rules.specs.declared.Head.{Head}
 use Rattle.rules.specs.declared.Entry.{Entry}
 
@@ -21,15 +21,15 @@ pub read-reply : (bs : List ℕ) → readReply (readAnswer bs) ≡ countedBy (re
 unfolding readAnswer
 read-reply bs = read-by (readNumber bs) (headIn bs)
 
-cue-by : (n : ℕ) (b : Bool) (e : Entry) → cueReply (cueAnswerBy n b e) ≡ countedBy n 0
-unfolding cueAnswerBy countedBy
+cue-by : (n : ℕ) (b : Bool) (e : Entry) → entryReply (entryAnswerBy n b e) ≡ countedBy n 0
+unfolding entryAnswerBy countedBy
 cue-by zero true e = refl
 cue-by zero false e = refl
 cue-by (suc n) b e = refl
 
 -- A reader's call, at any position.
-pub cue-reply : (bs : List ℕ) (i : ℕ) → cueReply (cueAnswer bs i) ≡ countedBy (readNumber bs) 0
-unfolding cueAnswer
+pub cue-reply : (bs : List ℕ) (i : ℕ) → entryReply (entryAnswer bs i) ≡ countedBy (readNumber bs) 0
+unfolding entryAnswer
 cue-reply bs i = cue-by (readNumber bs) (ltb i (cuesIn bs)) (entryIn bs i)
 
 -- The writer's answer by its number; the report's goes by it too.

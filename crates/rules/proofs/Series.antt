@@ -9,6 +9,7 @@ use Prim.Native.Nat.{ℕ, _+_, _≤_, _<_}
 use native.Mathlib.Omega.{arith}
 use lib.ListN.{length}
 use borrow.Author.Tests.{ltb-true}
+use Rattle.rules.proofs.Members.{In}
 use Rattle.rules.specs.Table.{Way, Table}
 use Rattle.rules.specs.Leaf.{isOpen}
 use Rattle.rules.specs.Tree.{rootWays, left, right, Place, DTree, leaf, inner, possible, child, refineAt, inners, Refinement, refine, grow, tree, leafAt, kindAt, leafWays, roomy, acceptable, seriesFrom, series}
@@ -101,9 +102,6 @@ unfolding Sound
 series-sound t ns h = sound-grow t ns leaf tt h
 
 -- ---- every refinement of a series is done, and nothing else
-
-abbrev pub In : Refinement → List Refinement → Type 0
-In n ns = List·Memᴰ n ns
 
 stays-done : (ns : List Refinement) (s : DTree) (q : Place) (k : Kind) → kindAt q s ≡ some k → kindAt q (grow s ns) ≡ some k
 unfolding grow

@@ -18,7 +18,7 @@ use Rattle.rules.specs.Sheet.{Cue, Sheet, Lists, total, deal, sheetOf, n
 use Rattle.rules.proofs.Bytes.{below-append, little-bytes, length-column, column-below, field-take, column-take}
 use Rattle.rules.proofs.Booleans.{or-split, or-neither, and-split, and-both}
 use Rattle.rules.proofs.First.{none-applies, first-none, first-here, first-later, first-same}
-use Rattle.rules.proofs.Laid.{Agree, Fits, Settled, layout, paired-agree, encode-layout, length-numbers, layout-length, lists-layout, layout-lists, layout-settled}
+use Rattle.rules.proofs.Laid.{Agree, Fits, Settled, laidOut, paired-agree, encode-layout, length-numbers, layout-length, lists-layout, layout-lists, layout-settled}
 use Rattle.rules.proofs.WriterLists.{Kept, lists-kept, kept-lists, kept-agree, kept-fits, kept-ends, agree-disagree, faults-most, cues-most, ends-most}
 
 -- ---- sheets and their lists
@@ -256,7 +256,7 @@ module _ (bs : List ℕ) (h : AllBelow 256 bs) (accepted : readNumber bs ≡ 0) 
 
   -- Writing that sheet gives the bytes back.
   pub encode-decode : encode (decode bs) ≡ bs
-  encode-decode = encode-layout (decode bs) (within-decoded .paired) ∙ ap layout (found .0) ∙ layout-lists bs h (read-kept bs accepted .1)
+  encode-decode = encode-layout (decode bs) (within-decoded .paired) ∙ ap laidOut (found .0) ∙ layout-lists bs h (read-kept bs accepted .1)
 
 -- Bytes that are those of a sheet within the limits.
 pub record IsSheet (bs : List ℕ) : Type 0 where

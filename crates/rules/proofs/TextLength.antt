@@ -20,7 +20,8 @@ use Rattle.rules.proofs.First.{first-below}
 use Rattle.rules.proofs.Laid.{length-numbers}
 use Rattle.rules.proofs.WriterLists.{lists-kept, cues-most}
 use Rattle.rules.proofs.Sheets.{within-decoded}
-use Rattle.rules.proofs.CueTables.{In, runTree, LineCertain, line-certain, cue-accepted}
+use Rattle.rules.proofs.Members.{In}
+use Rattle.rules.proofs.CueTables.{runTree, LineCertain, line-certain, cue-accepted}
 use Rattle.rules.proofs.Decimal.{decimal-length, billion-digits}
 
 -- ---- an accepted sheet

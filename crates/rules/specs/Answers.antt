@@ -9,7 +9,7 @@ use Rattle.rules.specs.declared.Entry.{Entry}
 use Rattle.rules.specs.declared.Answer.{Answer}
 use Rattle.rules.specs.declared.RunAnswer.{RunAnswer}
 use Rattle.rules.specs.declared.ReadAnswer.{ReadAnswer}
-use Rattle.rules.specs.declared.CueAnswer.{CueAnswer}
+use Rattle.rules.specs.declared.EntryAnswer.{EntryAnswer}
 use Rattle.rules.specs.declared.WriteAnswer.{WriteAnswer}
 
 -- What every call hands back: the number (0 if accepted), an interval, and a count.
@@ -57,22 +57,22 @@ readReply (ReadAnswer.Sheet h) = counted 0
 readReply (ReadAnswer.Refused n) = refused n
 
 -- A reader's call: the number is 0 for a cue and past the last.
-abbrev pub cueReply : CueAnswer → Reply
-cueReply (CueAnswer.Cue e) = counted 0
-cueReply CueAnswer.Past = counted 0
-cueReply (CueAnswer.Refused n) = refused n
+abbrev pub entryReply : EntryAnswer → Reply
+entryReply (EntryAnswer.Cue e) = counted 0
+entryReply EntryAnswer.Past = counted 0
+entryReply (EntryAnswer.Refused n) = refused n
 
 -- The cue that a reader's call hands over: refused or past the last, cue 0 with 0 ways.
-abbrev pub handedOver : CueAnswer → Entry
-handedOver (CueAnswer.Cue e) = e
-handedOver CueAnswer.Past = record { cue = 0; ways = 0; start = 0 }
-handedOver (CueAnswer.Refused n) = record { cue = 0; ways = 0; start = 0 }
+abbrev pub handedOver : EntryAnswer → Entry
+handedOver (EntryAnswer.Cue e) = e
+handedOver EntryAnswer.Past = record { cue = 0; ways = 0; start = 0 }
+handedOver (EntryAnswer.Refused n) = record { cue = 0; ways = 0; start = 0 }
 
 -- The reader's place after a call at place i: one further for a cue, else kept.
-abbrev pub placeAfter : ℕ → CueAnswer → ℕ
-placeAfter i (CueAnswer.Cue e) = suc i
-placeAfter i CueAnswer.Past = i
-placeAfter i (CueAnswer.Refused n) = i
+abbrev pub placeAfter : ℕ → EntryAnswer → ℕ
+placeAfter i (EntryAnswer.Cue e) = suc i
+placeAfter i EntryAnswer.Past = i
+placeAfter i (EntryAnswer.Refused n) = i
 
 -- The writer: the count is the bytes written.
 abbrev pub writeReply : WriteAnswer → Reply

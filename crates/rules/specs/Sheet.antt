@@ -12,7 +12,7 @@ use Rattle.rules.specs.declared.Limits.{Limits}
 use Rattle.rules.specs.declared.Head.{Head}
 use Rattle.rules.specs.declared.Entry.{Entry}
 use Rattle.rules.specs.declared.ReadAnswer.{ReadAnswer}
-use Rattle.rules.specs.declared.CueAnswer.{CueAnswer}
+use Rattle.rules.specs.declared.EntryAnswer.{EntryAnswer}
 use Rattle.rules.specs.declared.WriteAnswer.{WriteAnswer}
 
 -- ---- numbers as bytes, little-endian
@@ -253,14 +253,14 @@ readAnswer bs = readAnswerBy (readNumber bs) (headIn bs)
 unfoldable pub entryIn : List ℕ → ℕ → Entry
 entryIn bs i = record { cue = getD (numbersIn bs) i 0; ways = getD (countsIn bs) i 0; start = getD (starts (bodiesIn bs) (countsIn bs)) i 0 }
 
-unfoldable pub cueAnswerBy : ℕ → Bool → Entry → CueAnswer
-cueAnswerBy zero true e = CueAnswer.Cue e
-cueAnswerBy zero false e = CueAnswer.Past
-cueAnswerBy (suc n) b e = CueAnswer.Refused (suc n)
+unfoldable pub entryAnswerBy : ℕ → Bool → Entry → EntryAnswer
+entryAnswerBy zero true e = EntryAnswer.Cue e
+entryAnswerBy zero false e = EntryAnswer.Past
+entryAnswerBy (suc n) b e = EntryAnswer.Refused (suc n)
 
 -- The call at position i: the sheet's own refusal first, also past the last cue.
-unfoldable pub cueAnswer : List ℕ → ℕ → CueAnswer
-cueAnswer bs i = cueAnswerBy (readNumber bs) (ltb i (cuesIn bs)) (entryIn bs i)
+unfoldable pub entryAnswer : List ℕ → ℕ → EntryAnswer
+entryAnswer bs i = entryAnswerBy (readNumber bs) (ltb i (cuesIn bs)) (entryIn bs i)
 
 -- A cue's body, as a part of the sheet.
 unfoldable pub bodyIn : List ℕ → Entry → List ℕ

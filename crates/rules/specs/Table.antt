@@ -25,6 +25,10 @@ pub record Table : Type 0 where
   pub present : List ℕ
   pub absent : List ℕ
 
+-- The table of three lists.
+abbrev pub table : List ℕ → List ℕ → List ℕ → Table
+table ws ps qs = record { weights = ws; present = ps; absent = qs }
+
 -- Ways of which only the absent words are given.
 unfoldable pub absentRows : ℕ → List ℕ → List Way
 absentRows i [] = []

@@ -69,7 +69,7 @@ pub struct Entry {
 }
 
 /// The answer of a reader's call.
-pub enum CueAnswer {
+pub enum EntryAnswer {
     Cue(Entry),
     Past,
     Refused(u8),

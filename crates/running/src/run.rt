@@ -1,6 +1,7 @@
 //! The run itself: one refinement per turn until a turn says stop. Rests on `rules`, Run.
 //! The tree is refined where it is (`store`).
 ghost use Rattle.rules.specs.Refusals.{Accepted};
+ghost use Rattle.rules.specs.Table.{table};
 ghost use Rattle.records.specs.Records.{Good, history};
 ghost use Rattle.store.specs.Lent.{treeOf};
 ghost use Rattle.store.specs.Safe.{Safe};
@@ -20,10 +21,10 @@ pub fn run_on(
     tree: &mut Words,
     limits: Limits,
 ) -> Ended
-    requires { ⌜ Accepted (record { weights = now weights; present = now present; absent = now absent }) ⌝ }
-    requires { ⌜ Good (record { weights = now weights; present = now present; absent = now absent }) (treeOf (now tree)) ⌝ }
+    requires { ⌜ Accepted (table (now weights) (now present) (now absent)) ⌝ }
+    requires { ⌜ Good (table (now weights) (now present) (now absent)) (treeOf (now tree)) ⌝ }
     requires { ⌜ Safe (treeOf (now tree) .nodes) ⌝ }
-    ensures { λ r. ⌜ Ran (record { weights = now (weights .entry); present = now (present .entry); absent = now (absent .entry) }) (history (treeOf (now (tree .entry)))) limits (treeOf (now (tree .exit))) r ⌝ }
+    ensures { λ r. ⌜ Ran (table (now (weights .entry)) (now (present .entry)) (now (absent .entry))) (history (treeOf (now (tree .entry)))) limits (treeOf (now (tree .exit))) r ⌝ }
 {
     let allowance = limits.allowance as u64;
     let budget = limits.budget as u64;

@@ -8,11 +8,12 @@ ghost use Rattle.rules.specs.Leaf.{Lean};
 ghost use Rattle.rules.specs.Run;
 ghost use Rattle.rules.specs.Run.{choice};
 ghost use Rattle.rules.specs.Refusals.{Accepted};
+ghost use Rattle.rules.specs.Table.{table};
 ghost use Rattle.records.specs.Records.{recordIn, recordWays};
 ghost use Rattle.store.specs.Lent.{treeOf};
 ghost use Rattle.store.specs.Safe.{Safe};
 ghost use Rattle.pick.specs.Picks.{Linked};
-ghost use Rattle.clauses.specs.Leaves.{waysOf, Within};
+ghost use Rattle.clauses.specs.Leaves.{waysOf, InTable};
 ghost use Rattle.formula.specs.Leaves.{FaultFits};
 ghost use Rattle.running.specs.Decided.{decided, ByRule};
 use super::Step;
@@ -22,7 +23,7 @@ use formula::group::falls_apart;
 use grow::refine::grow;
 use grow::refine::ways_of;
 use pick::Found;
-use pick::widest;
+use pick::next_leaf;
 use records::Node;
 use rules::Kind;
 use rules::Verdict;
@@ -33,7 +34,7 @@ use store::used_in;
 /// What a run does at a leaf with these ways, where the table has n faults.
 fn choose(n: usize, present: &[u64], absent: &[u64], c: Clauses) -> Kind
     requires { ⌜ n ≤ 64 ⌝ }
-    requires { ⌜ Within (now present) (now absent) c ⌝ }
+    requires { ⌜ InTable (now present) (now absent) c ⌝ }
     ensures { λ r. ⌜ ((ws : List ℕ) → length ws ≡ n → r ≡ choice ws (waysOf (now (present .entry)) (now (absent .entry)) c)) × FaultFits r ⌝ }
 {
     if falls_apart(present, absent, c) {
@@ -61,7 +62,7 @@ pub fn decide(tree: &Words, allowance: u64, made: u64, budget: u64) -> Step
     if narrow(record_at(tree, 0), allowance) {
         return Step::Stop(Verdict::Met);
     }
-    let found = widest(tree);
+    let found = next_leaf(tree);
     match found {
         Found::Nothing => Step::Stop(Verdict::Done),
         Found::At(j, _) => {
@@ -79,11 +80,11 @@ pub fn decide(tree: &Words, allowance: u64, made: u64, budget: u64) -> Step
 
 /// Refines the leaf in record j as the rule says.
 pub fn refine_by_rule(weights: &[u32], present: &[u64], absent: &[u64], tree: &mut Words, j: usize)
-    requires { ⌜ Accepted (record { weights = now weights; present = now present; absent = now absent }) ⌝ }
+    requires { ⌜ Accepted (table (now weights) (now present) (now absent)) ⌝ }
     requires { ⌜ Safe (treeOf (now tree) .nodes) ⌝ }
     requires { ⌜ (j < 511) × (treeOf (now tree) .used + 1 < 511) ⌝ }
-    requires { ⌜ Lean (recordWays (record { weights = now weights; present = now present; absent = now absent }) (recordIn (treeOf (now tree) .nodes) j)) ⌝ }
-    ensures { λ _. ⌜ ByRule (record { weights = now (weights .entry); present = now (present .entry); absent = now (absent .entry) }) (treeOf (now (tree .entry))) j (treeOf (now (tree .exit))) ⌝ }
+    requires { ⌜ Lean (recordWays (table (now weights) (now present) (now absent)) (recordIn (treeOf (now tree) .nodes) j)) ⌝ }
+    ensures { λ _. ⌜ ByRule (table (now (weights .entry)) (now (present .entry)) (now (absent .entry))) (treeOf (now (tree .entry))) j (treeOf (now (tree .exit))) ⌝ }
 {
     let c = ways_of(present, absent, record_at(tree, j));
     let k = choose(weights.len(), present, absent, c);

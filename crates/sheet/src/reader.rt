@@ -2,8 +2,8 @@
 //! A refused sheet is refused at every call, also past its last cue; `body` takes any entry, and reads nothing beyond the end.
 ghost use mathlib.Core.Path.{_≡_};
 ghost use Prim.Native.Nat.{_<_, _≤_};
-ghost use Rattle.rules.specs.Answers.{countedBy, readReply, cueReply};
-ghost use Rattle.rules.specs.Sheet.{cuesIn, entryIn, readNumber, readAnswer, cueAnswer};
+ghost use Rattle.rules.specs.Answers.{countedBy, readReply, entryReply};
+ghost use Rattle.rules.specs.Sheet.{cuesIn, entryIn, readNumber, readAnswer, entryAnswer};
 ghost use Rattle.sheet.specs.Handed.{bodyOr};
 use super::contents::ways_of;
 use super::fields::u16_at;
@@ -11,7 +11,7 @@ use super::head::bodies_in;
 use super::head::cues_in;
 use super::head::head_in;
 use super::number::sheet_number;
-use rules::CueAnswer;
+use rules::EntryAnswer;
 use rules::Entry;
 use rules::ReadAnswer;
 
@@ -40,18 +40,18 @@ pub fn entry_at(s: &[u8], i: usize) -> Entry
 }
 
 /// A reader's call at position i: past the last cue there is none, and a refused sheet is refused there too.
-pub fn cue_at(s: &[u8], i: usize) -> CueAnswer
-    ensures { λ r. ⌜ r ≡ cueAnswer (now (s .entry)) i ⌝ }
-    ensures { λ r. ⌜ cueReply r ≡ countedBy (readNumber (now (s .entry))) 0 ⌝ }
+pub fn cue_at(s: &[u8], i: usize) -> EntryAnswer
+    ensures { λ r. ⌜ r ≡ entryAnswer (now (s .entry)) i ⌝ }
+    ensures { λ r. ⌜ entryReply r ≡ countedBy (readNumber (now (s .entry))) 0 ⌝ }
 {
     let number = sheet_number(s);
     if number != 0 {
-        return CueAnswer::Refused(number);
+        return EntryAnswer::Refused(number);
     }
     if i < cues_in(s) {
-        return CueAnswer::Cue(entry_at(s, i));
+        return EntryAnswer::Cue(entry_at(s, i));
     }
-    CueAnswer::Past
+    EntryAnswer::Past
 }
 
 /// The body of an entry as a part of the sheet, or none of its bytes where the entry points beyond the end.

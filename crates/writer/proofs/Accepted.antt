@@ -12,7 +12,7 @@ use Rattle.rules.specs.Refusals.{refusal, first, faultsOutside, cuesOutside, wa
 use Rattle.rules.specs.Sheet.{Lists, total, sheetOf, bodiesStart, encode, listsRefusals, writeRefusals, writeNumber, writeAnswerBy, writtenBy, AllBelow}
 use Rattle.rules.proofs.Booleans.{or-split}
 use Rattle.rules.proofs.First.{none-applies, first-before}
-use Rattle.rules.proofs.Laid.{Agree, layout, encode-layout, layout-length}
+use Rattle.rules.proofs.Laid.{Agree, laidOut, encode-layout, layout-length}
 use Rattle.rules.proofs.WriterLists.{lists-kept, kept-agree, kept-ends, faults-most, cues-most}
 use Rattle.rules.proofs.Sheets.{lists-sheet}
 use Rattle.writer.specs.Given.{frontRefusals}
@@ -39,10 +39,10 @@ module _ (x : Lists) (h : first (listsRefusals x) ≡ 0) where
 
   module _ (numbers : AllBelow 65536 (x .numbers)) where
     -- The sheet's bytes are those that the lists give.
-    pub laid : encode (sheetOf x) ≡ layout x
+    pub laid : encode (sheetOf x) ≡ laidOut x
     laid =
         let sheet = lists-sheet x numbers h in
-        encode-layout (sheetOf x) (sheet .1 .paired) ∙ ap layout (sheet .0)
+        encode-layout (sheetOf x) (sheet .1 .paired) ∙ ap laidOut (sheet .0)
 
     -- There are so many.
     pub laid-length : length (encode (sheetOf x)) ≡ bodiesStart (length (x .numbers)) (length (x .weights)) + 16 * total (x .counts)

@@ -1,5 +1,5 @@
 //! The bytes of a sheet, piece by piece: each function writes one piece at a position of the space and returns the position behind it.
-//! Rests on the definitions of `rules`, Sheet, and on Laid's layout of the lists.
+//! Rests on the definitions of `rules`, Sheet, and on Laid's laidOut of the lists.
 ghost use mathlib.Core.Path.{_≡_};
 ghost use mathlib.Core.List.{_++_};
 ghost use Prim.Native.Nat.{_+_, _*_, _≤_};

@@ -7,7 +7,7 @@ use super::lines::print_number;
 use super::lines::print_quarter;
 use super::lines::weights_hash;
 use super::lines::words_hash;
-use rules::CueAnswer;
+use rules::EntryAnswer;
 use rules::Entry;
 use rules::Head;
 use rules::ReadAnswer;
@@ -93,7 +93,7 @@ fn add_cue(
     present: &mut [u64; 3072],
     absent: &mut [u64; 3072],
 ) -> usize {
-    let CueAnswer::Cue(e) = cue_at(s, i) else {
+    let EntryAnswer::Cue(e) = cue_at(s, i) else {
         return ways;
     };
     if i < 24 {

@@ -43,9 +43,9 @@ use denote.Triple.Statement.{Contract, Triple}
 use denote.Triple.Table.{entered, cited}
 use denote.Triple.Walked.{says, Stays, stay-none, stay-none-slice, walkOf, goes-none, goes-none-slice, Walks, ends-at, walked, walk-meets}
 use denote.Exit.{yes}
-use Rattle.rules.specs.declared.CueAnswer.{CueAnswer}
-use Rattle.rules.proofs.CueAnswer as N
-use Rattle.rules.proofs.CueAnswer.Laws as N′
+use Rattle.rules.specs.declared.EntryAnswer.{EntryAnswer}
+use Rattle.rules.proofs.EntryAnswer as N
+use Rattle.rules.proofs.EntryAnswer.Laws as N′
 use Rattle.cue_reader.specs.Driven.{placeAt, callAnswer}
 use Rattle.cue_reader.specs.declared.Reader.{Reader}
 use Rattle.walks.proofs.Turn as turn
@@ -146,7 +146,7 @@ module _ {M : Type 1} (𝓤 : URA M) (H : Heap 𝓤) (A : Atoms 𝓤) (W : Given
   said : (d : Reader) → ent 𝓤 (ensured 𝓤 H A opener.ended (opener.clauses 𝓤 H A at-mem run) (κ, tt) (s, tt) tt d) (fact 𝓤 ((d .sheet ≡ s) × (d .at ≡ 0)))
   said d = exE 𝓤 _ (λ ws. snd∗ 𝓤 (sem 𝓤 H A (lasts opener.ended (κ, tt) (s, tt) ws)) (fact 𝓤 ((d .sheet ≡ s) × (d .at ≡ 0))))
 
-  exits : (r : CueAnswer) (u : Val) → Is N.the-row r (u ∷ []) → r ≡ callAnswer (now s) n → ent 𝓤 (sep 𝓤 (A .lft κ q) (sem 𝓤 H A Slice)) (Post u)
+  exits : (r : EntryAnswer) (u : Val) → Is N.the-row r (u ∷ []) → r ≡ callAnswer (now s) n → ent 𝓤 (sep 𝓤 (A .lft κ q) (sem 𝓤 H A Slice)) (Post u)
   exits r u is e =
       qed W (‵ (flft κ q) ∷ ‵ Slice ∷ []) ∵
       suffices ! _ (ends-at 𝓤 H A f.ended stayed (f.clauses 𝓤 H A at-mem run) W (((κ, tt), (q, tt), tt, x, at), tt) u r (tt, (tt, tt)) (tt, (tt, tt))) $ says ! e $

@@ -5,15 +5,15 @@ use mathlib.Core.List.{List}
 use Prim.Native.Nat.{ℕ, _+_, _<_, _^_}
 use borrow.Author.Needs.{needs}
 use Rattle.rules.specs.Answers.{placeAfter}
-use Rattle.rules.specs.Sheet.{cueAnswer}
-use Rattle.rules.specs.declared.CueAnswer.{CueAnswer}
+use Rattle.rules.specs.Sheet.{entryAnswer}
+use Rattle.rules.specs.declared.EntryAnswer.{EntryAnswer}
 use Rattle.cue_reader.proofs.Moved.{moved, after-fits}
 use Rattle.cue_reader.proofs.call_at.Statement.{statement}
 use Rattle.cue_reader.proofs.call_at.Tie as tie
 
 -- The place that the code finds: the answer's step added.
-place-is : (bs : List ℕ) (i : ℕ) (a : CueAnswer) (r : ℕ) → a ≡ cueAnswer bs i → r ≡ placeAfter 0 a → i + r ≡ placeAfter i (cueAnswer bs i)
-place-is bs i a r answer step = ap (λ (m : ℕ). i + m) (step ∙ ap (placeAfter 0) answer) ∙ moved i (cueAnswer bs i)
+place-is : (bs : List ℕ) (i : ℕ) (a : EntryAnswer) (r : ℕ) → a ≡ entryAnswer bs i → r ≡ placeAfter 0 a → i + r ≡ placeAfter i (entryAnswer bs i)
+place-is bs i a r answer step = ap (λ (m : ℕ). i + m) (step ∙ ap (placeAfter 0) answer) ∙ moved i (entryAnswer bs i)
 
 cue-at-requires : tie.Need-cue-at-requires
 cue-at-requires c κs = search needs

@@ -46,9 +46,9 @@ use denote.Triple.Statement.{Contract, Triple}
 use denote.Triple.Table.{entered, cited}
 use denote.Triple.Walked.{says, Stays, stay-ref, walkOf, goes-ref, Walks, ends-at, walked, walk-meets}
 use Rattle.rules.specs.Answers.{placeAfter}
-use Rattle.rules.specs.Sheet.{cueAnswer}
-use Rattle.rules.proofs.CueAnswer as N
-use Rattle.rules.proofs.CueAnswer.Laws as N′
+use Rattle.rules.specs.Sheet.{entryAnswer}
+use Rattle.rules.proofs.EntryAnswer as N
+use Rattle.rules.proofs.EntryAnswer.Laws as N′
 use Rattle.cue_reader.specs.declared.Reader.{Reader}
 use Rattle.cue_reader.specs.declared.Call.{Call}
 use Rattle.cue_reader.proofs.Promised.{called}
@@ -81,7 +81,7 @@ stayed = (stay-ref (0 ∷ []) tt behind, tt)
 
 -- what `call_at` promises of its result
 abbrev Given-back : Reader → Call → Type 0
-Given-back h r = (r .answer ≡ cueAnswer (now (h .sheet)) (h .at)) × (r .at ≡ placeAfter (h .at) (cueAnswer (now (h .sheet)) (h .at)))
+Given-back h r = (r .answer ≡ entryAnswer (now (h .sheet)) (h .at)) × (r .at ≡ placeAfter (h .at) (entryAnswer (now (h .sheet)) (h .at)))
 
 module _ {M : Type 1} (𝓤 : URA M) (H : Heap 𝓤) (A : Atoms 𝓤) (at-mem : Memory → SProp 𝓤) (run : Routine → Fun 𝓤) where
   -- the contract that the proof cites

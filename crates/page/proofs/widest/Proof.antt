@@ -50,7 +50,7 @@ use Rattle.records.specs.declared.Node.{Node}
 use Rattle.page.specs.declared.Best.{Best}
 use Rattle.page.specs.declared.Spot.{Spot}
 use Rattle.records.specs.Records.{blank}
-use Rattle.page.specs.Widest.{noneYet, betterOf, answerOf, widestUpTo, widestOf, Told}
+use Rattle.page.specs.Widest.{noneYet, betterOf, answerOf, widestUpTo, widestOf, WidestLaw}
 use Rattle.walks.proofs.Turn.{Upto, Nearer, Nearer-wf, none, next, nearer, tests, says-both}
 use Rattle.page.proofs.Finds.{widest-told}
 use Rattle.records.proofs.Node as T
@@ -174,7 +174,7 @@ module _ {M : Type 1} (𝓤 : URA M) (H : Heap 𝓤) (A : Atoms 𝓤) (W : Given
   exits : (r : Spot) (v : Val) → r ≡ widestOf ys → ent 𝓤 (⋆ 𝓤 H A (‵ (flft κ q) ∷ ‵ (ShrSlice (named 0) κ T.the-row .own (x .0) (at .0)) ∷ ‵ (S.the-row .own r (v ∷ [])) ∷ [])) (Post v)
   exits r v e =
       qed W (‵ (flft κ q) ∷ ‵ (ShrSlice (named 0) κ T.the-row .own (x .0) (at .0)) ∷ ‵ (S.the-row .own r (v ∷ [])) ∷ []) ∵
-      suffices ! _ (ends-at 𝓤 H A f.ended stayed (f.clauses 𝓤 H A mem run) W (((κ, tt), (q, tt), tt, x, at), tt) v r (tt, tt) (tt, tt)) $ says-both ! e (subst (Told ys) (sym e) (widest-told ys)) $
+      suffices ! _ (ends-at 𝓤 H A f.ended stayed (f.clauses 𝓤 H A mem run) W (((κ, tt), (q, tt), tt, x, at), tt) v r (tt, tt) (tt, tt)) $ says-both ! e (subst (WidestLaw ys) (sym e) (widest-told ys)) $
       nothing ! $ move ! (1 ∷ 0 ∷ []) $ join ! $ frame ! $ nothing ! $ move ! (1 ∷ 0 ∷ []) $ fjoin ! $ frame ! $ done !
 
   module _ (𝓣 : Tables 𝓤 H) (known : Known 𝓤 H A mem run 𝓣) (l₀ l₁ l₂ l₃ l₄ l₅ l₆ l₇ : ℕ) where

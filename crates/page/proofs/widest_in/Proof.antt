@@ -43,7 +43,7 @@ use denote.Triple.Walked.{Stays, stay-none, walkOf, goes-none, Walks, ends-at, w
 use denote.Exit.{yes}
 use Rattle.records.specs.declared.Node.{Node}
 use Rattle.page.specs.declared.Spot.{Spot}
-use Rattle.page.specs.Widest.{widestOf, Told}
+use Rattle.page.specs.Widest.{widestOf, WidestLaw}
 use Rattle.page.proofs.Finds.{widest-told}
 use Rattle.walks.proofs.Turn.{says-both}
 use Rattle.page.proofs.Lent.{slice, lent, kept, unlent, lends, back}
@@ -94,7 +94,7 @@ module _ {M : Type 1} (𝓤 : URA M) (H : Heap 𝓤) (A : Atoms 𝓤) (W : Given
   exits : (r : Spot) (u : Val) → r ≡ widestOf xs → ent 𝓤 (⋆ 𝓤 H A (‵ (owns (Nodes ∷ []) (xs, tt) (v ∷ [], tt)) ∷ ‵ (S.the-row .own r (u ∷ [])) ∷ [])) (Post u)
   exits r u e =
       qed W (‵ (owns (Nodes ∷ []) (xs, tt) (v ∷ [], tt)) ∷ ‵ (S.the-row .own r (u ∷ [])) ∷ []) ∵
-      suffices ! _ (ends-at 𝓤 H A f.ended stayed (f.clauses 𝓤 H A mem run) W ((tt, tt, tt, (xs, tt), (v ∷ [], tt)), tt) u r (tt, tt) (tt, tt)) $ says-both ! e (subst (Told xs) (sym e) (widest-told xs)) $ nothing ! $ done !
+      suffices ! _ (ends-at 𝓤 H A f.ended stayed (f.clauses 𝓤 H A mem run) W ((tt, tt, tt, (xs, tt), (v ∷ [], tt)), tt) u r (tt, tt) (tt, tt)) $ says-both ! e (subst (WidestLaw xs) (sym e) (widest-told xs)) $ nothing ! $ done !
 
   -- All elements are lent.
   all : take n xs ≡ xs

@@ -12,13 +12,13 @@ use Rattle.rules.specs.declared.Way.{Way}
 use Rattle.rules.specs.Leaf.{dropped}
 use Rattle.records.specs.Records.{inWords}
 use Rattle.clauses.specs.declared.Clauses.{Clauses}
-use Rattle.clauses.specs.Leaves.{fixedOf, row, waysOf, Within, Takes}
+use Rattle.clauses.specs.Leaves.{fixedOf, row, waysOf, InTable, Takes}
 use Rattle.clauses.proofs.First.{First, is-one, others-too, second, first-low, first-high}
 use Rattle.clauses.proofs.Selected.{select-first}
 use Rattle.clauses.proofs.taking.taken.Statement.{statement}
 use Rattle.clauses.proofs.taking.taken.Tie as tie
 
-module _ (ps qs : List ℕ) (c : Clauses) (w : Within ps qs c) where
+module _ (ps qs : List ℕ) (c : Clauses) (w : InTable ps qs c) where
   -- The first number is that of a way of the table.
   inside : {Q : ℕ → Bool} (n : ℕ) → First (inWords (c .low) (c .high)) Q n → (n < length ps) × (n < length qs)
   inside n f = let l : n < length ps = w .inside n (is-one f) in (l, omega (arith, l, w .paired))

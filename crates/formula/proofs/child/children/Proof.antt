@@ -14,7 +14,7 @@ use Rattle.rules.specs.Group.{part, groupFaults}
 use Rattle.rules.specs.Tree.{Side, left, right, child, childFixed}
 use Rattle.clauses.specs.declared.ByFault.{ByFault}
 use Rattle.clauses.specs.declared.Clauses.{Clauses}
-use Rattle.clauses.specs.Leaves.{waysOf, Within, Divided}
+use Rattle.clauses.specs.Leaves.{waysOf, InTable, Divided}
 use Rattle.formula.specs.declared.Children.{Children}
 use Rattle.formula.specs.Leaves.{FaultFits, Part, Parts}
 use Rattle.formula.proofs.child.children.Statement.{statement}
@@ -28,7 +28,7 @@ fits k f e h = rw e at h
 module _ (ps qs : List ℕ) (c : Clauses) where
   -- What `part` and `staying` say of their answer: its ways, and the words of its fixed faults.
   abbrev Made : Clauses → List Way → ℕ → ℕ → Type 0
-  Made d vs p q = (waysOf ps qs d ≡ vs) × Within ps qs d × (d .present ≡ p) × (d .absent ≡ q)
+  Made d vs p q = (waysOf ps qs d ≡ vs) × InTable ps qs d × (d .present ≡ p) × (d .absent ≡ q)
 
   -- One child.
   one : (k : Kind) (b : Side) (d : Clauses) {vs : List Way} {p q : ℕ} → Made d vs p q → vs ≡ child k b (waysOf ps qs c)

@@ -9,7 +9,7 @@ use Rattle.rules.specs.declared.Way.{Way}
 use Rattle.rules.specs.Table.{bit, faults}
 use Rattle.rules.specs.Leaf.{any}
 use Rattle.rules.specs.Tree.{occurs}
-use Rattle.clauses.specs.Leaves.{waysOf, Within}
+use Rattle.clauses.specs.Leaves.{waysOf, InTable}
 use Rattle.clauses.proofs.Loops.{forward, ended, fewer}
 use Rattle.formula.proofs.Some.{any-first, any-rest}
 use Rattle.formula.proofs.child.occurs.Statement.{statement}
@@ -21,7 +21,7 @@ names f v = bit f (faults v)
 
 abbrev Inv-loop : tie.InvT-loop
 Inv-loop f present absent left₀ left =
-    Within present absent left × (any (names f) (waysOf present absent left) ≡ any (names f) (waysOf present absent left₀))
+    InTable present absent left × (any (names f) (waysOf present absent left) ≡ any (names f) (waysOf present absent left₀))
 
 abbrev μ-loop : tie.MeasureT-loop
 μ-loop f present absent left₀ left = length (waysOf present absent left)

@@ -9,7 +9,7 @@ use lib.ListN.{length}
 use lib.Bits.{and-le-r}
 use lib.Count.{trailingZeros, trailing-le}
 use Rattle.rules.specs.declared.Way.{Way}
-use Rattle.clauses.specs.Leaves.{waysOf, Within}
+use Rattle.clauses.specs.Leaves.{waysOf, InTable}
 use Rattle.clauses.proofs.Loops.{none-left, few, fewer}
 use Rattle.clauses.proofs.First.{lowest-below}
 use Rattle.formula.proofs.Counted.{Counting, begun, small, taken-up, counted, all-counted}
@@ -24,7 +24,7 @@ abbrev μ-loop2 : tie.MeasureT-loop2
 μ-loop2 present absent n₀ left m₀ n m = m
 
 abbrev Inv-loop : tie.InvT-loop
-Inv-loop present absent n₀ left₀ n left = Within present absent left × Counting (waysOf present absent left₀) (waysOf present absent left) n 0
+Inv-loop present absent n₀ left₀ n left = InTable present absent left × Counting (waysOf present absent left₀) (waysOf present absent left) n 0
 
 abbrev μ-loop : tie.MeasureT-loop
 μ-loop present absent n₀ left₀ n left = length (waysOf present absent left)

@@ -9,7 +9,7 @@ use borrow.Author.Tests.{not-true, not-false}
 use lib.ListN.{length}
 use Rattle.rules.specs.declared.Way.{Way}
 use Rattle.rules.specs.Group.{touches, part, nonempty}
-use Rattle.clauses.specs.Leaves.{waysOf, Within}
+use Rattle.clauses.specs.Leaves.{waysOf, InTable}
 use Rattle.clauses.proofs.Loops.{forward, ended, fewer}
 use Rattle.formula.proofs.group.leaves_one.Statement.{statement}
 use Rattle.formula.proofs.group.leaves_one.Tie as tie
@@ -29,7 +29,7 @@ module _ (m : ℕ) (v : Way) (vs : List Way) where
 
 abbrev Inv-loop : tie.InvT-loop
 Inv-loop present absent m left₀ left =
-    Within present absent left × (one-left m (waysOf present absent left) ≡ one-left m (waysOf present absent left₀))
+    InTable present absent left × (one-left m (waysOf present absent left) ≡ one-left m (waysOf present absent left₀))
 
 abbrev μ-loop : tie.MeasureT-loop
 μ-loop present absent m left₀ left = length (waysOf present absent left)

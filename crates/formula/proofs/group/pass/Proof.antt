@@ -4,14 +4,14 @@ use mathlib.Core.Path.{_≡_, refl}
 use borrow.Author.Needs.{needs}
 use lib.ListN.{length}
 use Rattle.rules.specs.Group.{pass}
-use Rattle.clauses.specs.Leaves.{waysOf, Within}
+use Rattle.clauses.specs.Leaves.{waysOf, InTable}
 use Rattle.clauses.proofs.Loops.{forward, ended, fewer}
 use Rattle.formula.proofs.group.pass.Statement.{statement}
 use Rattle.formula.proofs.group.pass.Tie as tie
 
 abbrev Inv-loop : tie.InvT-loop
 Inv-loop present absent m word₀ left₀ word left =
-    Within present absent left × (pass word (waysOf present absent left) ≡ pass m (waysOf present absent left₀))
+    InTable present absent left × (pass word (waysOf present absent left) ≡ pass m (waysOf present absent left₀))
 
 abbrev μ-loop : tie.MeasureT-loop
 μ-loop present absent m word₀ left₀ word left = length (waysOf present absent left)

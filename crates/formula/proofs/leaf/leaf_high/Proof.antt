@@ -7,14 +7,14 @@ use borrow.Author.Needs.{needs}
 use lib.ListN.{length}
 use Rattle.rules.specs.Rounding.{S}
 use Rattle.rules.specs.Leaf.{chances}
-use Rattle.clauses.specs.Leaves.{waysOf, Within}
+use Rattle.clauses.specs.Leaves.{waysOf, InTable}
 use Rattle.clauses.proofs.Loops.{few, fewer, forward, ended}
 use Rattle.formula.proofs.leaf.leaf_high.Statement.{statement}
 use Rattle.formula.proofs.leaf.leaf_high.Tie as tie
 
 abbrev Inv-loop : tie.InvT-loop
 Inv-loop weights present absent sum₀ left₀ sum left =
-    Within present absent left × (sum + S * length (waysOf present absent left) ≤ S * 128)
+    InTable present absent left × (sum + S * length (waysOf present absent left) ≤ S * 128)
     × (sum + chances weights (waysOf present absent left) ≡ chances weights (waysOf present absent left₀))
 
 abbrev μ-loop : tie.MeasureT-loop

@@ -14,7 +14,7 @@ use Rattle.rules.specs.Table.{faults}
 use Rattle.rules.specs.Leaf.{chance, either, eitherAll, leafLow}
 use Rattle.clauses.specs.declared.Clauses.{Clauses}
 use Rattle.clauses.specs.declared.Taken.{Taken}
-use Rattle.clauses.specs.Leaves.{waysOf, Within, Takes}
+use Rattle.clauses.specs.Leaves.{waysOf, InTable, Takes}
 use Rattle.clauses.proofs.Loops.{few, fewer, forward, ended}
 use Rattle.formula.proofs.KeptWords.{hits, keepWords, kept-words, keep-passed, keep-taken, hit, miss, stored}
 use Rattle.formula.proofs.leaf.leaf_low.Statement.{statement}
@@ -22,7 +22,7 @@ use Rattle.formula.proofs.leaf.leaf_low.Tie as tie
 
 -- The first k words of the array are those of the ways kept before those left, and low is their leaf low.
 record Keeping (ws ps qs : List ℕ) (c : Clauses) (kept : List ℕ) (k low : ℕ) (left : Clauses) : Type 0 where
-  within : Within ps qs left
+  within : InTable ps qs left
   room : k + length (waysOf ps qs left) ≤ 128
   long : length kept ≡ 128
   small : low ≤ S
@@ -30,7 +30,7 @@ record Keeping (ws ps qs : List ℕ) (c : Clauses) (kept : List ℕ) (k low : �
 
 module _ (ws ps qs : List ℕ) (c : Clauses) where
   -- At first no way is kept.
-  start : Within ps qs c → Keeping ws ps qs c (replicate 128 0) 0 0 c
+  start : InTable ps qs c → Keeping ws ps qs c (replicate 128 0) 0 0 c
   start w =
       record {
         within = w;

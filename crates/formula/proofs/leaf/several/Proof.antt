@@ -13,7 +13,7 @@ use Rattle.rules.specs.declared.Way.{Way}
 use Rattle.rules.specs.Table.{faults}
 use Rattle.rules.specs.Leaf.{any, isEmpty}
 use Rattle.rules.proofs.Booleans.{and-false, and-true}
-use Rattle.clauses.specs.Leaves.{waysOf, Within}
+use Rattle.clauses.specs.Leaves.{waysOf, InTable}
 use Rattle.clauses.proofs.Loops.{few, fewer, forward, ended}
 use Rattle.formula.proofs.Some.{any-first, any-rest}
 use Rattle.formula.proofs.leaf.several.Statement.{statement}
@@ -21,7 +21,7 @@ use Rattle.formula.proofs.leaf.several.Tie as tie
 
 abbrev Inv-loop : tie.InvT-loop
 Inv-loop present absent n₀ left₀ n left =
-    Within present absent left × (n + length (waysOf present absent left) ≡ length (waysOf present absent left₀))
+    InTable present absent left × (n + length (waysOf present absent left) ≡ length (waysOf present absent left₀))
     × (any isEmpty (waysOf present absent left) ≡ any isEmpty (waysOf present absent left₀))
 
 abbrev μ-loop : tie.MeasureT-loop

@@ -1,5 +1,5 @@
 -- `decide` meets its contract: its tests are those of the definition, in the same order.
--- Rests on the contracts of `record_at`, `narrow`, `widest` and `used_in`.
+-- Rests on the contracts of `record_at`, `narrow`, `next_leaf` and `used_in`.
 use mathlib.Core.Path.{_≡_, sym, ap, _∙_}
 use mathlib.Core.Bool.{Bool, true, false}
 use Prim.Native.Nat.{ℕ}
@@ -70,8 +70,8 @@ returns c =
     let n = c .before in
     met (asked n) (tree-of n) _ _ (tested n (c .if1 .taken))
 
-widest-requires : tie.Need-widest-requires
-widest-requires c κs = c .before .before .before .pre
+next-leaf-requires : tie.Need-next-leaf-requires
+next-leaf-requires c κs = c .before .before .before .pre
 
 enum-told : tie.Need-enum-told
 enum-told c = search needs
@@ -89,7 +89,7 @@ returns-2 c =
     let e = w .before in
     let n = e .before in
     full (asked n) (tree-of n) _ _ (tested n (e .if1 .left)) _ _
-    (sym (w .widest .ensures) ∙ f .found .given .1) (sym (c .before .used-in .ensures) ∙ c .if2 .taken)
+    (sym (w .next-leaf .ensures) ∙ f .found .given .1) (sym (c .before .used-in .ensures) ∙ c .if2 .taken)
 
 returns-3 : tie.Need-returns-3
 returns-3 c =
@@ -99,14 +99,14 @@ returns-3 c =
     let e = w .before in
     let n = e .before in
     spent (asked n) (tree-of n) _ _ (tested n (e .if1 .left)) _ _
-    (sym (w .widest .ensures) ∙ f .found .given .1) (λ q. c .before .if2 .left (u .used-in .ensures ∙ q)) (c .if3 .taken)
+    (sym (w .next-leaf .ensures) ∙ f .found .given .1) (λ q. c .before .if2 .left (u .used-in .ensures ∙ q)) (c .if3 .taken)
 
 returns-4 : tie.Need-returns-4
 returns-4 c =
     let w = c .before .before in
     let e = w .before in
     let n = e .before in
-    done (asked n) (tree-of n) _ _ (tested n (e .if1 .left)) (sym (w .widest .ensures) ∙ c .enum-told .given .1)
+    done (asked n) (tree-of n) _ _ (tested n (e .if1 .left)) (sym (w .next-leaf .ensures) ∙ c .enum-told .given .1)
 
 returns-5 : tie.Need-returns-5
 returns-5 c =
@@ -116,7 +116,7 @@ returns-5 c =
     let e = w .before in
     let n = e .before in
     on (asked n) (tree-of n) _ _ (tested n (e .if1 .left)) _ _
-    (sym (w .widest .ensures) ∙ f .found .given .1) (λ q. c .before .if2 .left (u .used-in .ensures ∙ q)) (c .if3 .left)
+    (sym (w .next-leaf .ensures) ∙ f .found .given .1) (λ q. c .before .if2 .left (u .used-in .ensures ∙ q)) (c .if3 .left)
 
 pub decide-spec : {M : Type 1} → statement M
 decide-spec =
@@ -125,7 +125,7 @@ decide-spec =
     record-at-requires
     narrow-requires
     returns
-    widest-requires
+    next-leaf-requires
     enum-told
     enum-known-found
     used-in-requires

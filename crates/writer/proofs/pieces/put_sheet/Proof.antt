@@ -7,7 +7,7 @@ use native.Mathlib.Omega.{arith}
 use lib.ListN.{length}
 use Rattle.rules.specs.Refusals.{first}
 use Rattle.rules.specs.Sheet.{Lists, total, sheetOf, bodiesStart, encode, listsRefusals, AllBelow}
-use Rattle.rules.proofs.Laid.{layout, headPart, contentsPart, weightsPart}
+use Rattle.rules.proofs.Laid.{laidOut, headPart, contentsPart, weightsPart}
 use Rattle.writer.specs.Given.{given}
 use Rattle.writer.specs.Pieces.{Room, Wrote}
 use Rattle.writer.proofs.Over.{wrote-long, room-first, room-second, wrote-both}
@@ -37,11 +37,11 @@ narrow : (p : tie.After-shared-slice-known5) → AllBelow 65536 (lists p .number
 narrow p = each-below 65536 (lists p .numbers) (λ i. p .before .before .before .shared-slice-known2 .given i .fits)
 
 -- The bytes are those that the lists give.
-bytes : (p : tie.After-shared-slice-known5) → encode (sheetOf (lists p)) ≡ layout (lists p)
+bytes : (p : tie.After-shared-slice-known5) → encode (sheetOf (lists p)) ≡ laidOut (lists p)
 bytes p = laid (lists p) (kept p) (narrow p)
 
 -- There is room for all four parts.
-room : (p : tie.After-shared-slice-known5) → Room (space p) 0 (layout (lists p))
+room : (p : tie.After-shared-slice-known5) → Room (space p) 0 (laidOut (lists p))
 room p = rw (bytes p) at (start p .pre .1)
 
 -- The bodies end within the space.
@@ -59,7 +59,7 @@ head k = k .put-head .ensures
 contents : (k : tie.After-put-contents)
     → let p = k .before .before .before .before .before .before .before in
     Wrote (space p) 0 (headPart (lists p) ++ contentsPart (lists p)) (k .put-contents .last .0) (k .put-contents .result)
-unfolding layout
+unfolding laidOut
 contents k =
     let h = k .before .before .before .before in
     let p = h .before .before .before in
@@ -69,7 +69,7 @@ contents k =
 weights : (k : tie.After-put-weights)
     → let p = k .before .before .before .before .before .before .before .before .before .before .before in
     Wrote (space p) 0 (headPart (lists p) ++ contentsPart (lists p) ++ weightsPart (lists p)) (k .put-weights .last .0) (k .put-weights .result)
-unfolding layout
+unfolding laidOut
 weights k =
     let h = k .before .before .before .before in
     let p = h .before .before .before .before .before .before .before in
@@ -81,11 +81,11 @@ bodies-start-requires : tie.Need-bodies-start-requires
 bodies-start-requires c κs = omega (arith, ends-by (lists c) (kept c))
 
 put-head-requires : tie.Need-put-head-requires
-unfolding layout
+unfolding laidOut
 put-head-requires c κs = room-first _ (room-first _ (room-first _ (room (c .before .before))))
 
 put-contents-requires : tie.Need-put-contents-requires
-unfolding layout
+unfolding laidOut
 put-contents-requires c κs =
     let h = c .before .before .before in
     let p = h .before .before .before in
@@ -101,20 +101,20 @@ put-contents-requires c κs =
     )
 
 put-weights-requires : tie.Need-put-weights-requires
-unfolding layout
+unfolding laidOut
 put-weights-requires c κs =
     let h = c .before .before .before in
     room-second _ (room-first _ (room (h .before .before .before .before .before .before .before))) (contents h)
 
 put-bodies-requires : tie.Need-put-bodies-requires
-unfolding layout
+unfolding laidOut
 put-bodies-requires c κs =
     let h = c .before .before .before in
     let p = h .before .before .before .before .before .before .before .before .before .before .before in
     (agreed (lists p) (kept p) .paired, room-second _ (room p) (weights h))
 
 returns : tie.Need-returns
-unfolding layout
+unfolding laidOut
 returns c =
     let b = c .before .before in
     let h = b .before .before .before .before in

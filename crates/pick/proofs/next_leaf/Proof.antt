@@ -1,4 +1,4 @@
--- `widest` meets its contract. The loop: the search is on its way to the answer.
+-- `next_leaf` meets its contract. The loop: the search is on its way to the answer.
 -- Rests on Searching.antt and the contracts of `onward`, `found_by` and `store`'s `record_at`.
 use mathlib.Core.Path.{_≡_, sym, _∙_, subst}
 use mathlib.Core.Bool.{false}
@@ -11,8 +11,8 @@ use Rattle.store.specs.Lent.{treeOf}
 use Rattle.store.proofs.SafeLaws.{safe-read}
 use Rattle.pick.specs.Steps.{View, view, stepped}
 use Rattle.pick.proofs.Searching.{Searching, stepsLeft, begins, inside, keeps, less}
-use Rattle.pick.proofs.widest.Statement.{statement}
-use Rattle.pick.proofs.widest.Tie as tie
+use Rattle.pick.proofs.next_leaf.Statement.{statement}
+use Rattle.pick.proofs.next_leaf.Tie as tie
 
 abbrev Inv-loop : tie.InvT-loop
 Inv-loop tree s₀ s = Searching (treeOf tree .nodes) (treeOf tree .used) (view s)
@@ -78,8 +78,8 @@ found-by-requires c κs = search needs
 returns : tie.Need-returns Inv-loop μ-loop
 returns c = c .found-by .ensures ∙ c .before .before .before .loop .inv .found (not-false _ (c .before .if1 .left))
 
-pub widest-spec : {M : Type 1} → statement M
-widest-spec =
+pub next-leaf-spec : {M : Type 1} → statement M
+next-leaf-spec =
     tie.close
     (tie.spec
     Inv-loop
