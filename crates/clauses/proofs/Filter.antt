@@ -71,20 +71,20 @@ module _ (ps qs : List ℕ) (f : Way → Bool) (c : Clauses) where
       → ((v : Way) → h (dropped (fixedOf c) v) ≡ dropped M v) → (waysOf ps qs kept ≡ passing f h (waysOf ps qs c)) × InTable ps qs kept
   unfolding waysOf
   kept-ways w kept M e all h more = (
-    ap (λ (m : ℕ). map (dropped m) (select (inWords (kept .low) (kept .high)) (rows 0 ps qs))) e
-        ∙ select-passing (inWords (kept .low) (kept .high)) (inWords (c .low) (c .high)) f h (fixedOf c) M more (rows 0 ps qs)
-        (each-row (λ v. inWords (kept .low) (kept .high) (v .number) ≡ inWords (c .low) (c .high) (v .number) && f (dropped (fixedOf c) v)) 0 ps qs (w .paired)
+    ap (λ (m : ℕ). map (dropped m) (select (inWords (kept .waysa) (kept .waysb)) (rows 0 ps qs))) e
+        ∙ select-passing (inWords (kept .waysa) (kept .waysb)) (inWords (c .waysa) (c .waysb)) f h (fixedOf c) M more (rows 0 ps qs)
+        (each-row (λ v. inWords (kept .waysa) (kept .waysb) (v .number) ≡ inWords (c .waysa) (c .waysb) (v .number) && f (dropped (fixedOf c) v)) 0 ps qs (w .paired)
         (λ i k b e. let l : i ≡ k = omega arith in rw l (all k))),
     record {
       short = w .short;
       paired = w .paired;
-      inside = λ i e. w .inside i (and-left (inWords (c .low) (c .high) i) (passes i) (sym (all i) ∙ e));
+      inside = λ i e. w .inside i (and-left (inWords (c .waysa) (c .waysb) i) (passes i) (sym (all i) ∙ e));
     },
   )
 
   -- In the midst of the loop: the kept numbers, and those left that pass, are those of the leaf that pass. The fixed faults stay.
   pub record Sifting (kept₀ kept left : Clauses) : Type 0 where
-    pub numbers : (i : ℕ) → inWords (kept .low) (kept .high) i || (inWords (left .low) (left .high) i && passes i) ≡ inWords (c .low) (c .high) i && passes i
+    pub numbers : (i : ℕ) → inWords (kept .waysa) (kept .waysb) i || (inWords (left .waysa) (left .waysb) i && passes i) ≡ inWords (c .waysa) (c .waysb) i && passes i
     pub kept-present : kept .present ≡ kept₀ .present
     pub kept-absent : kept .absent ≡ kept₀ .absent
     pub left-present : left .present ≡ c .present
@@ -93,10 +93,10 @@ module _ (ps qs : List ℕ) (f : Way → Bool) (c : Clauses) where
 
   -- At first nothing is kept.
   pub begun : (P A : ℕ) → InTable ps qs c
-      → Sifting (record { low = 0; high = 0; present = P; absent = A }) (record { low = 0; high = 0; present = P; absent = A }) c
+      → Sifting (record { waysa = 0; waysb = 0; present = P; absent = A }) (record { waysa = 0; waysb = 0; present = P; absent = A }) c
   begun P A w =
       record {
-        numbers = λ i. ap (λ (b : Bool). b || (inWords (c .low) (c .high) i && passes i)) (in-none 0 0 refl i);
+        numbers = λ i. ap (λ (b : Bool). b || (inWords (c .waysa) (c .waysb) i && passes i)) (in-none 0 0 refl i);
         kept-present = refl;
         kept-absent = refl;
         left-present = refl;
@@ -107,7 +107,7 @@ module _ (ps qs : List ℕ) (f : Way → Bool) (c : Clauses) where
   module _ (kept₀ kept left : Clauses) (s : Sifting kept₀ kept left) where
     -- One turn: the first way left is kept just if it passes (b).
     pub turn : (t : Taken) → Takes ps qs left t → (b : Bool) → f (t .way) ≡ b → (k : Clauses)
-        → ((i : ℕ) → inWords (k .low) (k .high) i ≡ (b && eqb i (t .way .number)) || inWords (kept .low) (kept .high) i)
+        → ((i : ℕ) → inWords (k .waysa) (k .waysb) i ≡ (b && eqb i (t .way .number)) || inWords (kept .waysa) (kept .waysb) i)
         → k .present ≡ kept .present → k .absent ≡ kept .absent → Sifting kept₀ k (t .others)
     turn t h b e k n p a =
         record {
@@ -124,20 +124,20 @@ module _ (ps qs : List ℕ) (f : Way → Bool) (c : Clauses) where
             ap (λ (m : ℕ). f (dropped m (row ps qs (t .way .number)))) (sym (ap₂ bitOr (s .left-present) (s .left-absent)))
             ∙ sym (ap f (h .way-is)) ∙ e
 
-        at : (i : ℕ) → inWords (k .low) (k .high) i || (inWords (t .others .low) (t .others .high) i && passes i) ≡ inWords (c .low) (c .high) i && passes i
+        at : (i : ℕ) → inWords (k .waysa) (k .waysb) i || (inWords (t .others .waysa) (t .others .waysb) i && passes i) ≡ inWords (c .waysa) (c .waysb) i && passes i
         at i =
-            ap (λ (x : Bool). x || (inWords (t .others .low) (t .others .high) i && passes i)) (n i)
-            ∙ one-over b (eqb i (t .way .number)) (inWords (kept .low) (kept .high) i) (inWords (t .others .low) (t .others .high) i) (passes i)
+            ap (λ (x : Bool). x || (inWords (t .others .waysa) (t .others .waysb) i && passes i)) (n i)
+            ∙ one-over b (eqb i (t .way .number)) (inWords (kept .waysa) (kept .waysb) i) (inWords (t .others .waysa) (t .others .waysb) i) (passes i)
             (λ z. ap passes (eqb-true i (t .way .number) z) ∙ it)
-            ∙ sym (ap (λ (x : Bool). inWords (kept .low) (kept .high) i || (x && passes i)) (h .numbers i))
+            ∙ sym (ap (λ (x : Bool). inWords (kept .waysa) (kept .waysb) i || (x && passes i)) (h .numbers i))
             ∙ s .numbers i
 
-    module _ (w : InTable ps qs c) (z : bitOr (left .low) (left .high) ≡ 0) where
+    module _ (w : InTable ps qs c) (z : bitOr (left .waysa) (left .waysb) ≡ 0) where
       -- At the end the kept numbers are those of the leaf that pass.
       pub all-kept : Keeps ps qs f c kept
       all-kept i =
-          sym (or-none (inWords (kept .low) (kept .high) i))
-          ∙ sym (ap (λ (x : Bool). inWords (kept .low) (kept .high) i || (x && passes i)) (in-none (left .low) (left .high) z i))
+          sym (or-none (inWords (kept .waysa) (kept .waysb) i))
+          ∙ sym (ap (λ (x : Bool). inWords (kept .waysa) (kept .waysb) i || (x && passes i)) (in-none (left .waysa) (left .waysb) z i))
           ∙ s .numbers i
         where
           or-none : (x : Bool) → x || false ≡ x

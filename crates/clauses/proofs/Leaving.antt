@@ -54,7 +54,7 @@ joined-second r v =
 module _ (ps qs : List ℕ) (c : Clauses) where
   -- In the midst of the loop: each way is still left, or subsumes what was joined so far.
   pub record Covering (r : Way) (left : Clauses) : Type 0 where
-    pub covers : (i : ℕ) → inWords (c .low) (c .high) i ≡ true → inWords (left .low) (left .high) i || subsumes (wayAt ps qs c i) r ≡ true
+    pub covers : (i : ℕ) → inWords (c .waysa) (c .waysb) i ≡ true → inWords (left .waysa) (left .waysb) i || subsumes (wayAt ps qs c i) r ≡ true
     pub left-present : left .present ≡ c .present
     pub left-absent : left .absent ≡ c .absent
     pub within : InTable ps qs left
@@ -68,7 +68,7 @@ module _ (ps qs : List ℕ) (c : Clauses) where
     pub one-joined : (t : Taken) → Takes ps qs left t → Covering (joined r (t .way)) (t .others)
     one-joined t h =
         record {
-          covers = λ i k. by i (eqb i (t .way .number)) refl (inWords (t .others .low) (t .others .high) i) (subsumes (wayAt ps qs c i) r) refl
+          covers = λ i k. by i (eqb i (t .way .number)) refl (inWords (t .others .waysa) (t .others .waysb) i) (subsumes (wayAt ps qs c i) r) refl
               (ap (λ (b : Bool). b || subsumes (wayAt ps qs c i) r) (sym (h .numbers i)) ∙ s .covers i k);
           left-present = h .same-present ∙ s .left-present;
           left-absent = h .same-absent ∙ s .left-absent;
@@ -87,8 +87,8 @@ module _ (ps qs : List ℕ) (c : Clauses) where
         by i false z false false q k = absurd (true≢false (sym k))
 
     -- At the end none is left.
-    pub all-joined : bitOr (left .low) (left .high) ≡ 0 → Covers ps qs c r
-    all-joined z i h = ap (λ (b : Bool). b || subsumes (wayAt ps qs c i) r) (sym (in-none (left .low) (left .high) z i)) ∙ s .covers i h
+    pub all-joined : bitOr (left .waysa) (left .waysb) ≡ 0 → Covers ps qs c r
+    all-joined z i h = ap (λ (b : Bool). b || subsumes (wayAt ps qs c i) r) (sym (in-none (left .waysa) (left .waysb) z i)) ∙ s .covers i h
 
 -- ---- the ways by a fault
 
@@ -99,14 +99,14 @@ off false b = refl
 
 -- Fewer numbers are those of ways of the table too.
 pub less-within : (ps qs : List ℕ) (c n o : Clauses) → InTable ps qs c
-    → ((i : ℕ) → inWords (o .low) (o .high) i ≡ inWords (c .low) (c .high) i && not (inWords (n .low) (n .high) i)) → InTable ps qs o
+    → ((i : ℕ) → inWords (o .waysa) (o .waysb) i ≡ inWords (c .waysa) (c .waysb) i && not (inWords (n .waysa) (n .waysb) i)) → InTable ps qs o
 less-within ps qs c n o w h =
-    record { short = w .short; paired = w .paired; inside = λ i e. w .inside i (and-left (inWords (c .low) (c .high) i) _ (sym (h i) ∙ e)) }
+    record { short = w .short; paired = w .paired; inside = λ i e. w .inside i (and-left (inWords (c .waysa) (c .waysb) i) _ (sym (h i) ∙ e)) }
 
 -- The parts of a leaf, as the code makes them.
 pub divides : (ps qs : List ℕ) (c : Clauses) (m : ℕ) (n o : Clauses) (r : Way) → InTable ps qs c → InTable ps qs n
     → waysOf ps qs n ≡ part true m (waysOf ps qs c) → n .present ≡ c .present → n .absent ≡ c .absent → Keeps ps qs (λ v. Bool·beq true (touches m v)) c n
-    → ((i : ℕ) → inWords (o .low) (o .high) i ≡ inWords (c .low) (c .high) i && not (inWords (n .low) (n .high) i))
+    → ((i : ℕ) → inWords (o .waysa) (o .waysb) i ≡ inWords (c .waysa) (c .waysb) i && not (inWords (n .waysa) (n .waysb) i))
     → o .present ≡ c .present → o .absent ≡ c .absent → Covers ps qs o r → Divided ps qs c m (record { named = n; others = o; cover = r })
 divides ps qs c m n o r w u e x y k l p q v =
     record {
@@ -117,8 +117,8 @@ divides ps qs c m n o r w u e x y k l p q v =
       named-present = x;
       named-absent = y;
       others-within = less-within ps qs c n o w l;
-      others-numbers = λ i. l i ∙ ap (λ (b : Bool). inWords (c .low) (c .high) i && not b) (named i)
-          ∙ off (inWords (c .low) (c .high) i) (touches m (wayAt ps qs c i));
+      others-numbers = λ i. l i ∙ ap (λ (b : Bool). inWords (c .waysa) (c .waysb) i && not b) (named i)
+          ∙ off (inWords (c .waysa) (c .waysb) i) (touches m (wayAt ps qs c i));
       others-present = p;
       others-absent = q;
       covered = v;
@@ -129,7 +129,7 @@ divides ps qs c m n o r w u e x y k l p q v =
     itself false = refl
 
     named : Keeps ps qs (λ v. touches m v) c n
-    named i = k i ∙ ap (λ (b : Bool). inWords (c .low) (c .high) i && b) (itself (touches m (wayAt ps qs c i)))
+    named i = k i ∙ ap (λ (b : Bool). inWords (c .waysa) (c .waysb) i && b) (itself (touches m (wayAt ps qs c i)))
 
 -- ---- one fault fixed
 
@@ -181,8 +181,8 @@ module _ (ps qs : List ℕ) (others shorter : Clauses) where
   -- In the midst of it: of the kept numbers, those that no way left subsumes are those of the others that none at all does.
   pub record Leaving (kept left : Clauses) : Type 0 where
     pub numbers : (i : ℕ)
-        → inWords (kept .low) (kept .high) i && not (some-subsume left i) ≡ inWords (others .low) (others .high) i && not (some-subsume shorter i)
-    pub inside : (i : ℕ) → inWords (kept .low) (kept .high) i ≡ true → inWords (others .low) (others .high) i ≡ true
+        → inWords (kept .waysa) (kept .waysb) i && not (some-subsume left i) ≡ inWords (others .waysa) (others .waysb) i && not (some-subsume shorter i)
+    pub inside : (i : ℕ) → inWords (kept .waysa) (kept .waysb) i ≡ true → inWords (others .waysa) (others .waysb) i ≡ true
     pub kept-present : kept .present ≡ others .present
     pub kept-absent : kept .absent ≡ others .absent
     pub kept-within : InTable ps qs kept
@@ -195,16 +195,16 @@ module _ (ps qs : List ℕ) (others shorter : Clauses) where
 
   module _ (kept left : Clauses) (s : Leaving kept left) (t : Taken) (h : Takes ps qs left t) where
     -- Before a turn, with the first way left apart.
-    before : (i : ℕ) → inWords (kept .low) (kept .high) i && not (subsumes (t .way) (wayAt ps qs others i) || some-subsume (t .others) i)
-        ≡ inWords (others .low) (others .high) i && not (some-subsume shorter i)
+    before : (i : ℕ) → inWords (kept .waysa) (kept .waysb) i && not (subsumes (t .way) (wayAt ps qs others i) || some-subsume (t .others) i)
+        ≡ inWords (others .waysa) (others .waysb) i && not (some-subsume shorter i)
     unfolding any
-    before i = forward ps qs left (λ us. inWords (kept .low) (kept .high) i && not (any (λ u. subsumes u (wayAt ps qs others i)) us)) t h (s .numbers i)
+    before i = forward ps qs left (λ us. inWords (kept .waysa) (kept .waysb) i && not (any (λ u. subsumes u (wayAt ps qs others i)) us)) t h (s .numbers i)
 
     -- It does not subsume what covers the others, so it leaves out none of them.
     pub skips : (r : Way) → Covers ps qs others r → subsumes (t .way) r ≡ false → Leaving kept (t .others)
     skips r covered z =
         record {
-          numbers = λ i. by i (inWords (kept .low) (kept .high) i) refl (some-subsume (t .others) i) ∙ before i;
+          numbers = λ i. by i (inWords (kept .waysa) (kept .waysb) i) refl (some-subsume (t .others) i) ∙ before i;
           inside = s .inside;
           kept-present = s .kept-present;
           kept-absent = s .kept-absent;
@@ -212,32 +212,32 @@ module _ (ps qs : List ℕ) (others shorter : Clauses) where
           left-within = h .within;
         }
       where
-        none : (i : ℕ) → inWords (kept .low) (kept .high) i ≡ true → subsumes (t .way) (wayAt ps qs others i) ≡ false
+        none : (i : ℕ) → inWords (kept .waysa) (kept .waysb) i ≡ true → subsumes (t .way) (wayAt ps qs others i) ≡ false
         none i e = is-false _ (λ k. true≢false (sym (subsumes-through (t .way) (wayAt ps qs others i) r k (covered i (s .inside i e))) ∙ z))
 
-        by : (i : ℕ) (x : Bool) → inWords (kept .low) (kept .high) i ≡ x → (b : Bool) → x && not b ≡ x && not (subsumes (t .way) (wayAt ps qs others i) || b)
+        by : (i : ℕ) (x : Bool) → inWords (kept .waysa) (kept .waysb) i ≡ x → (b : Bool) → x && not b ≡ x && not (subsumes (t .way) (wayAt ps qs others i) || b)
         by i true e b = ap (λ (y : Bool). not (y || b)) (sym (none i e))
         by i false e b = refl
 
     -- It leaves out what it subsumes.
     pub leaves : (out k : Clauses) → Keeps ps qs (λ v. subsumes (t .way) v) kept out
-        → ((i : ℕ) → inWords (k .low) (k .high) i ≡ inWords (kept .low) (kept .high) i && not (inWords (out .low) (out .high) i))
+        → ((i : ℕ) → inWords (k .waysa) (k .waysb) i ≡ inWords (kept .waysa) (kept .waysb) i && not (inWords (out .waysa) (out .waysb) i))
         → k .present ≡ kept .present → k .absent ≡ kept .absent → Leaving k (t .others)
     leaves out k o l x y =
         record {
           numbers = λ i. ap (λ (b : Bool). b && not (some-subsume (t .others) i))
-              (l i ∙ ap (λ (b : Bool). inWords (kept .low) (kept .high) i && not b) (subsumed i))
-              ∙ by (inWords (kept .low) (kept .high) i) (subsumes (t .way) (wayAt ps qs others i)) (some-subsume (t .others) i) ∙ before i;
-          inside = λ i e. s .inside i (and-left (inWords (kept .low) (kept .high) i) _ (sym (l i) ∙ e));
+              (l i ∙ ap (λ (b : Bool). inWords (kept .waysa) (kept .waysb) i && not b) (subsumed i))
+              ∙ by (inWords (kept .waysa) (kept .waysb) i) (subsumes (t .way) (wayAt ps qs others i)) (some-subsume (t .others) i) ∙ before i;
+          inside = λ i e. s .inside i (and-left (inWords (kept .waysa) (kept .waysb) i) _ (sym (l i) ∙ e));
           kept-present = x ∙ s .kept-present;
           kept-absent = y ∙ s .kept-absent;
           kept-within = less-within ps qs kept out k (s .kept-within) l;
           left-within = h .within;
         }
       where
-        subsumed : (i : ℕ) → inWords (out .low) (out .high) i ≡ inWords (kept .low) (kept .high) i && subsumes (t .way) (wayAt ps qs others i)
+        subsumed : (i : ℕ) → inWords (out .waysa) (out .waysb) i ≡ inWords (kept .waysa) (kept .waysb) i && subsumes (t .way) (wayAt ps qs others i)
         subsumed i =
-            o i ∙ ap (λ (w : Way). inWords (kept .low) (kept .high) i && subsumes (t .way) w) (same-way ps qs kept others (s .kept-present) (s .kept-absent) i)
+            o i ∙ ap (λ (w : Way). inWords (kept .waysa) (kept .waysb) i && subsumes (t .way) w) (same-way ps qs kept others (s .kept-present) (s .kept-absent) i)
 
         by : (x b a : Bool) → (x && not (x && b)) && not a ≡ x && not (b || a)
         by true true a = refl
@@ -245,12 +245,12 @@ module _ (ps qs : List ℕ) (others shorter : Clauses) where
         by false b a = refl
 
   -- At the end the kept numbers are those of the others that no way which lost the fault subsumes.
-  pub none-left-over : (kept left : Clauses) → Leaving kept left → bitOr (left .low) (left .high) ≡ 0
+  pub none-left-over : (kept left : Clauses) → Leaving kept left → bitOr (left .waysa) (left .waysb) ≡ 0
       → Keeps ps qs (λ v. not (any (λ u. subsumes u v) (waysOf ps qs shorter))) others kept
   unfolding any
   none-left-over kept left s z i =
-      all (inWords (kept .low) (kept .high) i)
-      ∙ ended ps qs left (λ us. inWords (kept .low) (kept .high) i && not (any (λ u. subsumes u (wayAt ps qs others i)) us)) z (s .numbers i)
+      all (inWords (kept .waysa) (kept .waysb) i)
+      ∙ ended ps qs left (λ us. inWords (kept .waysa) (kept .waysb) i && not (any (λ u. subsumes u (wayAt ps qs others i)) us)) z (s .numbers i)
     where
       all : (x : Bool) → x ≡ x && true
       all true = refl
@@ -266,7 +266,7 @@ module _ (ps qs : List ℕ) (c : Clauses) (p q : ℕ) (d : ByFault) (divided : D
     (kept : Clauses) (rest : Keeps ps qs (λ v. not (any (λ u. subsumes u v) (waysOf ps qs shorter))) (d .others) kept) where
   -- Both together.
   abbrev both : Clauses
-  both = record { low = bitOr (shorter .low) (kept .low); high = bitOr (shorter .high) (kept .high); present = shorter .present; absent = shorter .absent }
+  both = record { waysa = bitOr (shorter .waysa) (kept .waysa); waysb = bitOr (shorter .waysb) (kept .waysb); present = shorter .present; absent = shorter .absent }
 
   pub left-out : (waysOf ps qs both ≡ minimal (remaining p q (waysOf ps qs c))) × InTable ps qs both
       × (shorter .present ≡ bitOr (c .present) p) × (shorter .absent ≡ bitOr (c .absent) q)
@@ -289,7 +289,7 @@ module _ (ps qs : List ℕ) (c : Clauses) (p q : ℕ) (d : ByFault) (divided : D
 
       numbers : Keeps ps qs (stays p q (waysOf ps qs shorter)) c both
       numbers i =
-          both-numbers (shorter .low) (shorter .high) (kept .low) (kept .high) i
+          both-numbers (shorter .waysa) (shorter .waysb) (kept .waysa) (kept .waysb) i
           ∙ ap₂ (λ (x y : Bool). x || y)
           (lost i
           ∙ ap₂ (λ (x : Bool) (w : Way). x && not (contradicted p q w)) (divided .named-numbers i)
@@ -297,5 +297,5 @@ module _ (ps qs : List ℕ) (c : Clauses) (p q : ℕ) (d : ByFault) (divided : D
           (rest i
           ∙ ap₂ (λ (x : Bool) (w : Way). x && not (any (λ u. subsumes u w) (waysOf ps qs shorter))) (divided .others-numbers i)
           (same-way ps qs (d .others) c (divided .others-present) (divided .others-absent) i))
-          ∙ by (inWords (c .low) (c .high) i) (touches (bitOr p q) (wayAt ps qs c i)) (not (contradicted p q (wayAt ps qs c i)))
+          ∙ by (inWords (c .waysa) (c .waysb) i) (touches (bitOr p q) (wayAt ps qs c i)) (not (contradicted p q (wayAt ps qs c i)))
           (not (any (λ u. subsumes u (wayAt ps qs c i)) (waysOf ps qs shorter)))

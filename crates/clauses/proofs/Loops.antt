@@ -23,12 +23,12 @@ use Rattle.clauses.proofs.Selected.{rows-number, select-number, dropped
 module _ (ps qs : List ℕ) (c : Clauses) where
   -- The test that selects the ways.
   abbrev chosen : ℕ → Bool
-  chosen = inWords (c .low) (c .high)
+  chosen = inWords (c .waysa) (c .waysb)
 
   -- With no number there is no way.
-  pub none-left : bitOr (c .low) (c .high) ≡ 0 → waysOf ps qs c ≡ []
+  pub none-left : bitOr (c .waysa) (c .waysb) ≡ 0 → waysOf ps qs c ≡ []
   unfolding waysOf
-  none-left h = ap (map (dropped (fixedOf c))) (select-none chosen (in-none (c .low) (c .high) h) (rows 0 ps qs))
+  none-left h = ap (map (dropped (fixedOf c))) (select-none chosen (in-none (c .waysa) (c .waysb) h) (rows 0 ps qs))
 
   -- There are at most 128 ways.
   pub few : InTable ps qs c → length (waysOf ps qs c) ≤ 128
@@ -46,7 +46,7 @@ module _ (ps qs : List ℕ) (c : Clauses) where
     forward t h inv = sym (ap f (h .first)) ∙ inv
 
     -- The end of it.
-    pub ended : {R : A} → bitOr (c .low) (c .high) ≡ 0 → f (waysOf ps qs c) ≡ R → f [] ≡ R
+    pub ended : {R : A} → bitOr (c .waysa) (c .waysb) ≡ 0 → f (waysOf ps qs c) ≡ R → f [] ≡ R
     ended h inv = sym (ap f (none-left h)) ∙ inv
 
   -- ---- the words of the ways' numbers
@@ -62,9 +62,9 @@ module _ (ps qs : List ℕ) (c : Clauses) where
       by false e = and-false (hasNumber (rows 0 ps qs) i)
 
   -- So the low word is the same.
-  pub low-back : InTable ps qs c → c .low < 2 ^ 64 → lowWord (waysOf ps qs c) ≡ c .low
-  low-back w h = same-low (lowWord (waysOf ps qs c)) (highWord (waysOf ps qs c)) (c .low) (c .high) (same-numbers w) (low-fits (waysOf ps qs c)) h
+  pub low-back : InTable ps qs c → c .waysa < 2 ^ 64 → lowWord (waysOf ps qs c) ≡ c .waysa
+  low-back w h = same-low (lowWord (waysOf ps qs c)) (highWord (waysOf ps qs c)) (c .waysa) (c .waysb) (same-numbers w) (low-fits (waysOf ps qs c)) h
 
   -- And so is the high one.
-  pub high-back : InTable ps qs c → c .high < 2 ^ 64 → highWord (waysOf ps qs c) ≡ c .high
-  high-back w h = same-high (lowWord (waysOf ps qs c)) (highWord (waysOf ps qs c)) (c .low) (c .high) (same-numbers w)
+  pub high-back : InTable ps qs c → c .waysb < 2 ^ 64 → highWord (waysOf ps qs c) ≡ c .waysb
+  high-back w h = same-high (lowWord (waysOf ps qs c)) (highWord (waysOf ps qs c)) (c .waysa) (c .waysb) (same-numbers w)

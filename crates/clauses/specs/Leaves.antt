@@ -34,30 +34,30 @@ wayAt ps qs c i = dropped (fixedOf c) (row ps qs i)
 
 -- The ways: those of the table with these numbers, without the fixed faults.
 unfoldable pub waysOf : List ℕ → List ℕ → Clauses → List Way
-waysOf ps qs c = map (dropped (fixedOf c)) (select (inWords (c .low) (c .high)) (rows 0 ps qs))
+waysOf ps qs c = map (dropped (fixedOf c)) (select (inWords (c .waysa) (c .waysb)) (rows 0 ps qs))
 
 -- The table has at most 128 ways, two words for each, and every number is that of one of them.
 pub record InTable (ps qs : List ℕ) (c : Clauses) : Type 0 where
   pub short : length ps ≤ 128
   pub paired : length qs ≡ length ps
-  pub inside : (i : ℕ) → inWords (c .low) (c .high) i ≡ true → i < length ps
+  pub inside : (i : ℕ) → inWords (c .waysa) (c .waysb) i ≡ true → i < length ps
 
 -- The first way and the others make the ways, and its number and theirs the numbers.
 pub record Takes (ps qs : List ℕ) (c : Clauses) (t : Taken) : Type 0 where
   pub first : waysOf ps qs c ≡ t .way ∷ waysOf ps qs (t .others)
   pub way-is : t .way ≡ dropped (fixedOf c) (row ps qs (t .way .number))
-  pub numbers : (i : ℕ) → inWords (c .low) (c .high) i ≡ (eqb i (t .way .number) || inWords (t .others .low) (t .others .high) i)
+  pub numbers : (i : ℕ) → inWords (c .waysa) (c .waysb) i ≡ (eqb i (t .way .number) || inWords (t .others .waysa) (t .others .waysb) i)
   pub same-present : t .others .present ≡ c .present
   pub same-absent : t .others .absent ≡ c .absent
   pub within : InTable ps qs (t .others)
 
 -- Of a leaf's numbers, those whose ways pass a test.
 abbrev pub Keeps : List ℕ → List ℕ → (Way → Bool) → Clauses → Clauses → Type 0
-Keeps ps qs f c r = (i : ℕ) → inWords (r .low) (r .high) i ≡ inWords (c .low) (c .high) i && f (wayAt ps qs c i)
+Keeps ps qs f c r = (i : ℕ) → inWords (r .waysa) (r .waysb) i ≡ inWords (c .waysa) (c .waysb) i && f (wayAt ps qs c i)
 
 -- A way that each of a leaf's ways subsumes.
 abbrev pub Covers : List ℕ → List ℕ → Clauses → Way → Type 0
-Covers ps qs c r = (i : ℕ) → inWords (c .low) (c .high) i ≡ true → subsumes (wayAt ps qs c i) r ≡ true
+Covers ps qs c r = (i : ℕ) → inWords (c .waysa) (c .waysb) i ≡ true → subsumes (wayAt ps qs c i) r ≡ true
 
 -- The ways of a leaf by a fault, whose word is m: those that name it, the others, and what covers the others.
 pub record Divided (ps qs : List ℕ) (c : Clauses) (m : ℕ) (d : ByFault) : Type 0 where

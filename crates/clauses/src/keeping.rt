@@ -33,13 +33,13 @@ pub fn restrict(present: &[u64], absent: &[u64], c: Clauses, p: u64, q: u64) -> 
         × Keeps (now (present .entry)) (now (absent .entry)) (λ v. not (Leaf.contradicted p q v)) c r ⌝ }
 {
     let mut kept = Clauses {
-        low: 0,
-        high: 0,
+        waysa: 0,
+        waysb: 0,
         present: c.present | p,
         absent: c.absent | q,
     };
     let mut left = c;
-    while left.low | left.high != 0 {
+    while left.waysa | left.waysb != 0 {
         let t = taken(present, absent, left);
         let v = t.way;
         left = t.others;
@@ -75,13 +75,13 @@ pub fn part(present: &[u64], absent: &[u64], c: Clauses, m: u64, touched: bool) 
         × Keeps (now (present .entry)) (now (absent .entry)) (λ v. Bool·beq touched (Group.touches m v)) c r ⌝ }
 {
     let mut kept = Clauses {
-        low: 0,
-        high: 0,
+        waysa: 0,
+        waysb: 0,
         present: c.present,
         absent: c.absent,
     };
     let mut left = c;
-    while left.low | left.high != 0 {
+    while left.waysa | left.waysb != 0 {
         let t = taken(present, absent, left);
         let v = t.way;
         left = t.others;

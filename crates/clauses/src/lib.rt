@@ -8,10 +8,10 @@ pub mod taking;
 use rules::Way;
 
 /// The ways of a leaf, in number order: those of a table with these numbers, less the fixed faults. A number below 64 is a bit of
-/// `low`, one from 64 on, less 64, a bit of `high`; `present` and `absent` are the words of the faults that are fixed so.
+/// `waysa`, one from 64 on, less 64, a bit of `waysb`; `present` and `absent` are the words of the faults that are fixed so.
 pub struct Clauses {
-    pub low: u64,
-    pub high: u64,
+    pub waysa: u64,
+    pub waysb: u64,
     pub present: u64,
     pub absent: u64,
 }

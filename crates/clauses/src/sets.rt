@@ -37,15 +37,15 @@ pub fn select(present: &[u64], absent: &[u64], a: u64, b: u64) -> Clauses
     let n = present.len();
     if n < 64 {
         return Clauses {
-            low: a & bits_below(n),
-            high: 0,
+            waysa: a & bits_below(n),
+            waysb: 0,
             present: 0,
             absent: 0,
         };
     }
     Clauses {
-        low: a,
-        high: b & bits_below(n - 64),
+        waysa: a,
+        waysb: b & bits_below(n - 64),
         present: 0,
         absent: 0,
     }
@@ -64,26 +64,26 @@ pub fn whole(present: &[u64], absent: &[u64]) -> Clauses
 /// The numbers with one more.
 pub fn with_number(c: Clauses, i: usize) -> Clauses
     requires { ⌜ i < 128 ⌝ }
-    ensures { λ r. ⌜ ((j : ℕ) → inWords (r .low) (r .high) j ≡ (eqb j i || inWords (c .low) (c .high) j))
+    ensures { λ r. ⌜ ((j : ℕ) → inWords (r .waysa) (r .waysb) j ≡ (eqb j i || inWords (c .waysa) (c .waysb) j))
         × (r .present ≡ c .present) × (r .absent ≡ c .absent) ⌝ }
 {
     let mut r = c;
     if i < 64 {
-        r.low = c.low | one_bit(i);
+        r.waysa = c.waysa | one_bit(i);
     } else {
-        r.high = c.high | one_bit(i - 64);
+        r.waysb = c.waysb | one_bit(i - 64);
     }
     r
 }
 
 /// The numbers of the first without those of the second.
 pub fn minus(c: Clauses, d: Clauses) -> Clauses
-    ensures { λ r. ⌜ ((i : ℕ) → inWords (r .low) (r .high) i ≡ inWords (c .low) (c .high) i && not (inWords (d .low) (d .high) i))
+    ensures { λ r. ⌜ ((i : ℕ) → inWords (r .waysa) (r .waysb) i ≡ inWords (c .waysa) (c .waysb) i && not (inWords (d .waysa) (d .waysb) i))
         × (r .present ≡ c .present) × (r .absent ≡ c .absent) ⌝ }
 {
     Clauses {
-        low: c.low & !d.low,
-        high: c.high & !d.high,
+        waysa: c.waysa & !d.waysa,
+        waysb: c.waysb & !d.waysb,
         present: c.present,
         absent: c.absent,
     }

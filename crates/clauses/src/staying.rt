@@ -71,13 +71,13 @@ pub fn staying_rows(present: &[u64], absent: &[u64]) -> Clauses
         × InTable (now (present .entry)) (now (absent .entry)) r × (r .present ≡ 0) × (r .absent ≡ 0) ⌝ }
 {
     let mut kept = Clauses {
-        low: 0,
-        high: 0,
+        waysa: 0,
+        waysb: 0,
         present: 0,
         absent: 0,
     };
     let mut left = whole(present, absent);
-    while left.low | left.high != 0 {
+    while left.waysa | left.waysb != 0 {
         let t = taken(present, absent, left);
         let v = t.way;
         left = t.others;
@@ -94,13 +94,13 @@ fn subsumed(present: &[u64], absent: &[u64], c: Clauses, u: Way) -> Clauses
     ensures { λ r. ⌜ Keeps (now (present .entry)) (now (absent .entry)) (λ v. Leaf.subsumes u v) c r ⌝ }
 {
     let mut kept = Clauses {
-        low: 0,
-        high: 0,
+        waysa: 0,
+        waysb: 0,
         present: c.present,
         absent: c.absent,
     };
     let mut left = c;
-    while left.low | left.high != 0 {
+    while left.waysa | left.waysb != 0 {
         let t = taken(present, absent, left);
         let v = t.way;
         left = t.others;
@@ -122,7 +122,7 @@ fn cover(present: &[u64], absent: &[u64], c: Clauses) -> Way
         absent: 0,
     };
     let mut left = c;
-    while left.low | left.high != 0 {
+    while left.waysa | left.waysb != 0 {
         let t = taken(present, absent, left);
         let v = t.way;
         left = t.others;
@@ -159,7 +159,7 @@ pub fn staying(present: &[u64], absent: &[u64], c: Clauses, d: ByFault, p: u64, 
     let all = d.cover;
     let mut kept = d.others;
     let mut left = shorter;
-    while left.low | left.high != 0 {
+    while left.waysa | left.waysb != 0 {
         let t = taken(present, absent, left);
         let u = t.way;
         left = t.others;
@@ -168,8 +168,8 @@ pub fn staying(present: &[u64], absent: &[u64], c: Clauses, d: ByFault, p: u64, 
         }
     }
     Clauses {
-        low: shorter.low | kept.low,
-        high: shorter.high | kept.high,
+        waysa: shorter.waysa | kept.waysa,
+        waysb: shorter.waysb | kept.waysb,
         present: shorter.present,
         absent: shorter.absent,
     }

@@ -45,20 +45,20 @@ fn way_at(present: &[u64], absent: &[u64], c: Clauses, i: usize) -> Way
 /// Takes the first way off.
 pub fn taken(present: &[u64], absent: &[u64], c: Clauses) -> Taken
     requires { ⌜ InTable (now present) (now absent) c ⌝ }
-    requires { ⌜ (bitOr (c .low) (c .high) ≡ 0 → ⊥) ⌝ }
+    requires { ⌜ (bitOr (c .waysa) (c .waysb) ≡ 0 → ⊥) ⌝ }
     ensures { λ r. ⌜ Takes (now (present .entry)) (now (absent .entry)) c r ⌝ }
 {
     let mut others = c;
-    if c.low != 0 {
-        let i = u64::trailing_zeros(c.low) as usize;
-        others.low = c.low & (c.low - 1);
+    if c.waysa != 0 {
+        let i = u64::trailing_zeros(c.waysa) as usize;
+        others.waysa = c.waysa & (c.waysa - 1);
         return Taken {
             way: way_at(present, absent, c, i),
             others,
         };
     }
-    let i = 64 + u64::trailing_zeros(c.high) as usize;
-    others.high = c.high & (c.high - 1);
+    let i = 64 + u64::trailing_zeros(c.waysb) as usize;
+    others.waysb = c.waysb & (c.waysb - 1);
     Taken {
         way: way_at(present, absent, c, i),
         others,

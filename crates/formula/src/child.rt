@@ -61,7 +61,7 @@ pub fn occurs(f: usize, present: &[u64], absent: &[u64], c: Clauses) -> bool
     ensures { λ r. ⌜ (r ≡ Tree.occurs f (waysOf (now (present .entry)) (now (absent .entry)) c)) × (r ≡ true → f < 64) ⌝ }
 {
     let mut left = c;
-    while left.low | left.high != 0 {
+    while left.waysa | left.waysb != 0 {
         let t = taken(present, absent, left);
         let v = t.way;
         left = t.others;

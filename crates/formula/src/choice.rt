@@ -16,7 +16,7 @@ fn counts(present: &[u64], absent: &[u64], c: Clauses) -> [u64; 64]
 {
     let mut n = [0u64; 64];
     let mut left = c;
-    while left.low | left.high != 0 {
+    while left.waysa | left.waysb != 0 {
         let t = taken(present, absent, left);
         let v = t.way;
         left = t.others;

@@ -28,7 +28,7 @@ fn pass(present: &[u64], absent: &[u64], c: Clauses, m: u64) -> u64
 {
     let mut word = m;
     let mut left = c;
-    while left.low | left.high != 0 {
+    while left.waysa | left.waysb != 0 {
         let t = taken(present, absent, left);
         let v = t.way;
         left = t.others;
@@ -42,7 +42,7 @@ pub fn group_faults(present: &[u64], absent: &[u64], c: Clauses) -> u64
     requires { ⌜ InTable (now present) (now absent) c ⌝ }
     ensures { λ r. ⌜ r ≡ groupFaults (waysOf (now (present .entry)) (now (absent .entry)) c) ⌝ }
 {
-    if c.low | c.high == 0 {
+    if c.waysa | c.waysb == 0 {
         return 0;
     }
     let t = taken(present, absent, c);
@@ -66,7 +66,7 @@ fn leaves_one(present: &[u64], absent: &[u64], c: Clauses, m: u64) -> bool
     ensures { λ r. ⌜ r ≡ nonempty (part false m (waysOf (now (present .entry)) (now (absent .entry)) c)) ⌝ }
 {
     let mut left = c;
-    while left.low | left.high != 0 {
+    while left.waysa | left.waysb != 0 {
         let t = taken(present, absent, left);
         let v = t.way;
         left = t.others;

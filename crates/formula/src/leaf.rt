@@ -29,7 +29,7 @@ fn leaf_low(weights: &[u32], present: &[u64], absent: &[u64], c: Clauses) -> u64
     let mut k: usize = 0;
     let mut low: u64 = 0;
     let mut left = c;
-    'ways: while left.low | left.high != 0 {
+    'ways: while left.waysa | left.waysb != 0 {
         let t = taken(present, absent, left);
         let v = t.way;
         // Before the search, since `continue` skips what follows it.
@@ -58,7 +58,7 @@ fn leaf_high(weights: &[u32], present: &[u64], absent: &[u64], c: Clauses) -> u6
 {
     let mut sum: u64 = 0;
     let mut left = c;
-    while left.low | left.high != 0 {
+    while left.waysa | left.waysb != 0 {
         let t = taken(present, absent, left);
         let v = t.way;
         left = t.others;
@@ -74,7 +74,7 @@ fn several(present: &[u64], absent: &[u64], c: Clauses) -> bool
 {
     let mut n: u64 = 0;
     let mut left = c;
-    while left.low | left.high != 0 {
+    while left.waysa | left.waysb != 0 {
         let t = taken(present, absent, left);
         let v = t.way;
         left = t.others;

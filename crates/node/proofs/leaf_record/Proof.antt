@@ -24,7 +24,7 @@ mark : (b : Bool) → indicator b ≡ elim b as (λ x. ℕ) [ true ↦ 1 | false
 mark true = refl
 mark false = refl
 
-all-fields : (ws : List ℕ) (vs : List Way) (up-link : ℕ) (c : Clauses) (e : Ends) → e ≡ endsOf ws vs → c .low ≡ lowWord vs → c .high ≡ highWord vs
+all-fields : (ws : List ℕ) (vs : List Way) (up-link : ℕ) (c : Clauses) (e : Ends) → e ≡ endsOf ws vs → c .waysa ≡ lowWord vs → c .waysb ≡ highWord vs
     → _≡_ {A = Node}
     (record {
       kind = 1;
@@ -32,8 +32,8 @@ all-fields : (ws : List ℕ) (vs : List Way) (up-link : ℕ) (c : Clauses) (e : 
       live = e .live;
       parent = up-link;
       left = 0;
-      waysa = c .low;
-      waysb = c .high;
+      waysa = c .waysa;
+      waysb = c .waysb;
       present = c .present;
       absent = c .absent;
       low = e .low;
@@ -54,8 +54,8 @@ returns c =
     let a = s .args in
     let e = c .ends .ensures in
     let w = s .pre .1 .1 in
-    let l : a .c .low < 2 ^ 64 = search needs in
-    let h : a .c .high < 2 ^ 64 = search needs in (
+    let l : a .c .waysa < 2 ^ 64 = search needs in
+    let h : a .c .waysb < 2 ^ 64 = search needs in (
       all-fields _ _ _ (a .c) _ (e .0) (sym (low-back _ _ (a .c) w l)) (sym (high-back _ _ (a .c) w h)),
       e .1,
       e .2,

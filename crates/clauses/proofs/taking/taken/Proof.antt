@@ -20,15 +20,15 @@ use Rattle.clauses.proofs.taking.taken.Tie as tie
 
 module _ (ps qs : List ℕ) (c : Clauses) (w : InTable ps qs c) where
   -- The first number is that of a way of the table.
-  inside : {Q : ℕ → Bool} (n : ℕ) → First (inWords (c .low) (c .high)) Q n → (n < length ps) × (n < length qs)
+  inside : {Q : ℕ → Bool} (n : ℕ) → First (inWords (c .waysa) (c .waysb)) Q n → (n < length ps) × (n < length qs)
   inside n f = let l : n < length ps = w .inside n (is-one f) in (l, omega (arith, l, w .paired))
 
   -- Its way comes first, and the numbers of the two words a and b are those of the others.
-  takes : (a b n : ℕ) → First (inWords (c .low) (c .high)) (inWords a b) n → (v : Way) → v ≡ dropped (fixedOf c) (row ps qs n)
-      → Takes ps qs c (record { way = v; others = record { low = a; high = b; present = c .present; absent = c .absent } })
+  takes : (a b n : ℕ) → First (inWords (c .waysa) (c .waysb)) (inWords a b) n → (v : Way) → v ≡ dropped (fixedOf c) (row ps qs n)
+      → Takes ps qs c (record { way = v; others = record { waysa = a; waysb = b; present = c .present; absent = c .absent } })
   unfolding waysOf
   takes a b n f v e =
-      subst (λ (u : Way). Takes ps qs c (record { way = u; others = record { low = a; high = b; present = c .present; absent = c .absent } })) (sym e)
+      subst (λ (u : Way). Takes ps qs c (record { way = u; others = record { waysa = a; waysb = b; present = c .present; absent = c .absent } })) (sym e)
       (record {
         first = ap (map (dropped (fixedOf c))) (select-first f ps qs (w .paired) (inside n f .0));
         way-is = refl;
@@ -39,7 +39,7 @@ module _ (ps qs : List ℕ) (c : Clauses) (w : InTable ps qs c) where
       })
 
 cast-i : tie.Need-cast-i
-cast-i c = omega (arith, trailing-le 64 (c .before .before .before .before .before .args .c .low))
+cast-i c = omega (arith, trailing-le 64 (c .before .before .before .before .before .args .c .waysa))
 
 sub-others : tie.Need-sub-others
 sub-others c = search needs
@@ -48,25 +48,25 @@ way-at-requires : tie.Need-way-at-requires
 way-at-requires c κs =
     let s = c .before .before .before .before .before .before .before in
     let a = s .args in
-    inside (a .present .now) (a .absent .now) (a .c) (s .pre .0) _ (first-low (a .c .low) (a .c .high) (search needs) (search needs))
+    inside (a .present .now) (a .absent .now) (a .c) (s .pre .0) _ (first-low (a .c .waysa) (a .c .waysb) (search needs) (search needs))
 
 returns : tie.Need-returns
 returns c =
     let s = c .before .before .before .before .before .before .before .before in
     let a = s .args in
-    takes (a .present .now) (a .absent .now) (a .c) (s .pre .0) _ _ _ (first-low (a .c .low) (a .c .high) (search needs) (search needs)) (c .way-at .result) (c .way-at .ensures)
+    takes (a .present .now) (a .absent .now) (a .c) (s .pre .0) _ _ _ (first-low (a .c .waysa) (a .c .waysb) (search needs) (search needs)) (c .way-at .result) (c .way-at .ensures)
 
 cast-i-2 : tie.Need-cast-i-2
-cast-i-2 c = omega (arith, trailing-le 64 (c .before .before .before .before .before .args .c .high))
+cast-i-2 c = omega (arith, trailing-le 64 (c .before .before .before .before .before .args .c .waysb))
 
 add-i : tie.Need-add-i
-add-i c = omega (arith, trailing-le 64 (c .before .before .before .before .before .args .c .high))
+add-i c = omega (arith, trailing-le 64 (c .before .before .before .before .before .args .c .waysb))
 
 sub-others-2 : tie.Need-sub-others-2
 sub-others-2 c =
     let e = c .before .before in
     let s = e .before .before .before .before in
-    second (s .args .c .low) (s .args .c .high) (s .pre .1) (e .if1 .left)
+    second (s .args .c .waysa) (s .args .c .waysb) (s .pre .1) (e .if1 .left)
 
 way-at-requires-2 : tie.Need-way-at-requires-2
 way-at-requires-2 c κs =
@@ -74,7 +74,7 @@ way-at-requires-2 c κs =
     let s = e .before .before .before .before in
     let a = s .args in
     inside (a .present .now) (a .absent .now) (a .c) (s .pre .0) _
-    (first-high (a .c .low) (a .c .high) (s .pre .1) (e .if1 .left) (search needs))
+    (first-high (a .c .waysa) (a .c .waysb) (s .pre .1) (e .if1 .left) (search needs))
 
 returns-2 : tie.Need-returns-2
 returns-2 c =
@@ -82,7 +82,7 @@ returns-2 c =
     let s = e .before .before .before .before in
     let a = s .args in
     takes (a .present .now) (a .absent .now) (a .c) (s .pre .0) _ _ _
-    (first-high (a .c .low) (a .c .high) (s .pre .1) (e .if1 .left) (search needs)) (c .way-at2 .result) (c .way-at2 .ensures)
+    (first-high (a .c .waysa) (a .c .waysb) (s .pre .1) (e .if1 .left) (search needs)) (c .way-at2 .result) (c .way-at2 .ensures)
 
 pub taken-spec : {M : Type 1} → statement M
 taken-spec =

@@ -42,7 +42,7 @@ module _ (ws ps qs : List ℕ) (c : Clauses) where
 
   module _ (kept : List ℕ) (k low : ℕ) (left : Clauses) (inv : Keeping ws ps qs c kept k low left) where
     -- No way is left.
-    finished : bitOr (left .low) (left .high) ≡ 0 → low ≡ leafLow ws (waysOf ps qs c)
+    finished : bitOr (left .waysa) (left .waysb) ≡ 0 → low ≡ leafLow ws (waysOf ps qs c)
     finished h = ended ps qs left (λ vs. eitherAll ws (keepWords (take k kept) vs) low) h (inv .rest)
 
     -- One turn, with the word m of the way that is taken off.
