@@ -85,15 +85,15 @@ module _ (ps qs : List ℕ) (f : Way → Bool) (c : Clauses) where
   -- In the midst of the loop: the kept numbers, and those left that pass, are those of the leaf that pass. The fixed faults stay.
   pub record Sifting (kept₀ kept left : Clauses) : Type 0 where
     pub numbers : (i : ℕ) → inWords (kept .waysa) (kept .waysb) i || (inWords (left .waysa) (left .waysb) i && passes i) ≡ inWords (c .waysa) (c .waysb) i && passes i
-    pub kept-present : kept .present ≡ kept₀ .present
-    pub kept-absent : kept .absent ≡ kept₀ .absent
-    pub left-present : left .present ≡ c .present
-    pub left-absent : left .absent ≡ c .absent
+    pub kept-present : kept .fixedpresent ≡ kept₀ .fixedpresent
+    pub kept-absent : kept .fixedabsent ≡ kept₀ .fixedabsent
+    pub left-present : left .fixedpresent ≡ c .fixedpresent
+    pub left-absent : left .fixedabsent ≡ c .fixedabsent
     pub within : InTable ps qs left
 
   -- At first nothing is kept.
   pub begun : (P A : ℕ) → InTable ps qs c
-      → Sifting (record { waysa = 0; waysb = 0; present = P; absent = A }) (record { waysa = 0; waysb = 0; present = P; absent = A }) c
+      → Sifting (record { waysa = 0; waysb = 0; fixedpresent = P; fixedabsent = A }) (record { waysa = 0; waysb = 0; fixedpresent = P; fixedabsent = A }) c
   begun P A w =
       record {
         numbers = λ i. ap (λ (b : Bool). b || (inWords (c .waysa) (c .waysb) i && passes i)) (in-none 0 0 refl i);
@@ -108,7 +108,7 @@ module _ (ps qs : List ℕ) (f : Way → Bool) (c : Clauses) where
     -- One turn: the first way left is kept just if it passes (b).
     pub turn : (t : Taken) → Takes ps qs left t → (b : Bool) → f (t .way) ≡ b → (k : Clauses)
         → ((i : ℕ) → inWords (k .waysa) (k .waysb) i ≡ (b && eqb i (t .way .number)) || inWords (kept .waysa) (kept .waysb) i)
-        → k .present ≡ kept .present → k .absent ≡ kept .absent → Sifting kept₀ k (t .others)
+        → k .fixedpresent ≡ kept .fixedpresent → k .fixedabsent ≡ kept .fixedabsent → Sifting kept₀ k (t .others)
     turn t h b e k n p a =
         record {
           numbers = at;
@@ -153,5 +153,5 @@ module _ (ps qs : List ℕ) (f : Way → Bool) (c : Clauses) where
 
 -- Faults fixed besides those of the leaf are dropped with them.
 pub fixed-more : (c : Clauses) (p q : ℕ) (v : Way)
-    → dropped (bitOr p q) (dropped (fixedOf c) v) ≡ dropped (bitOr (bitOr (c .present) p) (bitOr (c .absent) q)) v
-fixed-more c p q v = dropped-twice (fixedOf c) (bitOr p q) v ∙ ap (λ (m : ℕ). dropped m v) (or-regroup (c .present) (c .absent) p q)
+    → dropped (bitOr p q) (dropped (fixedOf c) v) ≡ dropped (bitOr (bitOr (c .fixedpresent) p) (bitOr (c .fixedabsent) q)) v
+fixed-more c p q v = dropped-twice (fixedOf c) (bitOr p q) v ∙ ap (λ (m : ℕ). dropped m v) (or-regroup (c .fixedpresent) (c .fixedabsent) p q)

@@ -27,7 +27,7 @@ use Rattle.clauses.proofs.Filter.{kept-ways, fixed-more}
 use Rattle.clauses.proofs.Loops.{forward, ended}
 
 -- Words fixed alike give the same way.
-same-way : (ps qs : List ℕ) (a b : Clauses) → a .present ≡ b .present → a .absent ≡ b .absent → (i : ℕ) → wayAt ps qs a i ≡ wayAt ps qs b i
+same-way : (ps qs : List ℕ) (a b : Clauses) → a .fixedpresent ≡ b .fixedpresent → a .fixedabsent ≡ b .fixedabsent → (i : ℕ) → wayAt ps qs a i ≡ wayAt ps qs b i
 same-way ps qs a b e f i = ap (λ (m : ℕ). dropped m (row ps qs i)) (ap₂ bitOr e f)
 
 -- ---- a way that each of the others subsumes
@@ -55,8 +55,8 @@ module _ (ps qs : List ℕ) (c : Clauses) where
   -- In the midst of the loop: each way is still left, or subsumes what was joined so far.
   pub record Covering (r : Way) (left : Clauses) : Type 0 where
     pub covers : (i : ℕ) → inWords (c .waysa) (c .waysb) i ≡ true → inWords (left .waysa) (left .waysb) i || subsumes (wayAt ps qs c i) r ≡ true
-    pub left-present : left .present ≡ c .present
-    pub left-absent : left .absent ≡ c .absent
+    pub left-present : left .fixedpresent ≡ c .fixedpresent
+    pub left-absent : left .fixedabsent ≡ c .fixedabsent
     pub within : InTable ps qs left
 
   -- At first all are left.
@@ -105,9 +105,9 @@ less-within ps qs c n o w h =
 
 -- The parts of a leaf, as the code makes them.
 pub divides : (ps qs : List ℕ) (c : Clauses) (m : ℕ) (n o : Clauses) (r : Way) → InTable ps qs c → InTable ps qs n
-    → waysOf ps qs n ≡ part true m (waysOf ps qs c) → n .present ≡ c .present → n .absent ≡ c .absent → Keeps ps qs (λ v. Bool·beq true (touches m v)) c n
+    → waysOf ps qs n ≡ part true m (waysOf ps qs c) → n .fixedpresent ≡ c .fixedpresent → n .fixedabsent ≡ c .fixedabsent → Keeps ps qs (λ v. Bool·beq true (touches m v)) c n
     → ((i : ℕ) → inWords (o .waysa) (o .waysb) i ≡ inWords (c .waysa) (c .waysb) i && not (inWords (n .waysa) (n .waysb) i))
-    → o .present ≡ c .present → o .absent ≡ c .absent → Covers ps qs o r → Divided ps qs c m (record { named = n; others = o; cover = r })
+    → o .fixedpresent ≡ c .fixedpresent → o .fixedabsent ≡ c .fixedabsent → Covers ps qs o r → Divided ps qs c m (record { named = n; others = o; cover = r })
 divides ps qs c m n o r w u e x y k l p q v =
     record {
       whole = w;
@@ -183,8 +183,8 @@ module _ (ps qs : List ℕ) (others shorter : Clauses) where
     pub numbers : (i : ℕ)
         → inWords (kept .waysa) (kept .waysb) i && not (some-subsume left i) ≡ inWords (others .waysa) (others .waysb) i && not (some-subsume shorter i)
     pub inside : (i : ℕ) → inWords (kept .waysa) (kept .waysb) i ≡ true → inWords (others .waysa) (others .waysb) i ≡ true
-    pub kept-present : kept .present ≡ others .present
-    pub kept-absent : kept .absent ≡ others .absent
+    pub kept-present : kept .fixedpresent ≡ others .fixedpresent
+    pub kept-absent : kept .fixedabsent ≡ others .fixedabsent
     pub kept-within : InTable ps qs kept
     pub left-within : InTable ps qs left
 
@@ -222,7 +222,7 @@ module _ (ps qs : List ℕ) (others shorter : Clauses) where
     -- It leaves out what it subsumes.
     pub leaves : (out k : Clauses) → Keeps ps qs (λ v. subsumes (t .way) v) kept out
         → ((i : ℕ) → inWords (k .waysa) (k .waysb) i ≡ inWords (kept .waysa) (kept .waysb) i && not (inWords (out .waysa) (out .waysb) i))
-        → k .present ≡ kept .present → k .absent ≡ kept .absent → Leaving k (t .others)
+        → k .fixedpresent ≡ kept .fixedpresent → k .fixedabsent ≡ kept .fixedabsent → Leaving k (t .others)
     leaves out k o l x y =
         record {
           numbers = λ i. ap (λ (b : Bool). b && not (some-subsume (t .others) i))
@@ -261,24 +261,24 @@ module _ (ps qs : List ℕ) (others shorter : Clauses) where
 -- Those that lost the fault and those of the others that are kept: what stays of the leaf's ways with the fault fixed.
 module _ (ps qs : List ℕ) (c : Clauses) (p q : ℕ) (d : ByFault) (divided : Divided ps qs c (bitOr p q) d) (one : OneFault p q) (lean : Lean (waysOf ps qs c))
     (shorter : Clauses) (ways-are : waysOf ps qs shorter ≡ remaining p q (waysOf ps qs (d .named)))
-    (present-is : shorter .present ≡ bitOr (d .named .present) p)
-    (absent-is : shorter .absent ≡ bitOr (d .named .absent) q) (lost : Keeps ps qs (λ v. not (contradicted p q v)) (d .named) shorter)
+    (present-is : shorter .fixedpresent ≡ bitOr (d .named .fixedpresent) p)
+    (absent-is : shorter .fixedabsent ≡ bitOr (d .named .fixedabsent) q) (lost : Keeps ps qs (λ v. not (contradicted p q v)) (d .named) shorter)
     (kept : Clauses) (rest : Keeps ps qs (λ v. not (any (λ u. subsumes u v) (waysOf ps qs shorter))) (d .others) kept) where
   -- Both together.
   abbrev both : Clauses
-  both = record { waysa = bitOr (shorter .waysa) (kept .waysa); waysb = bitOr (shorter .waysb) (kept .waysb); present = shorter .present; absent = shorter .absent }
+  both = record { waysa = bitOr (shorter .waysa) (kept .waysa); waysb = bitOr (shorter .waysb) (kept .waysb); fixedpresent = shorter .fixedpresent; fixedabsent = shorter .fixedabsent }
 
   pub left-out : (waysOf ps qs both ≡ minimal (remaining p q (waysOf ps qs c))) × InTable ps qs both
-      × (shorter .present ≡ bitOr (c .present) p) × (shorter .absent ≡ bitOr (c .absent) q)
+      × (shorter .fixedpresent ≡ bitOr (c .fixedpresent) p) × (shorter .fixedabsent ≡ bitOr (c .fixedabsent) q)
   left-out =
       let e = kept-ways ps qs (stays p q (waysOf ps qs shorter)) c (divided .whole) both _ (ap₂ bitOr present-c absent-c) numbers
       (dropped (bitOr p q)) (fixed-more c p q) in
       (e .0 ∙ staying-is p q one (waysOf ps qs c) lean (waysOf ps qs shorter) (ways-are ∙ ap (remaining p q) (divided .named-ways)), e .1, present-c, absent-c)
     where
-      present-c : shorter .present ≡ bitOr (c .present) p
+      present-c : shorter .fixedpresent ≡ bitOr (c .fixedpresent) p
       present-c = present-is ∙ ap (λ (x : ℕ). bitOr x p) (divided .named-present)
 
-      absent-c : shorter .absent ≡ bitOr (c .absent) q
+      absent-c : shorter .fixedabsent ≡ bitOr (c .fixedabsent) q
       absent-c = absent-is ∙ ap (λ (x : ℕ). bitOr x q) (divided .named-absent)
 
       by : (x t k a : Bool) → ((x && t) && k) || ((x && not t) && a) ≡ x && (elim t as (λ b. Bool) [ true ↦ k | false ↦ a ])

@@ -163,8 +163,8 @@ module _ (ps qs : List ℕ) (short : length ps ≤ 128) (paired : length qs ≡ 
 
   -- Words cut to the numbers of the table select as the words that were cut.
   pub cut-selects : (P : ℕ → Bool) (x y : ℕ) → ((j : ℕ) → inWords x y j ≡ P j && ltb j (length ps))
-      → (waysOf ps qs (record { waysa = x; waysb = y; present = 0; absent = 0 }) ≡ select P (rows 0 ps qs))
-      × InTable ps qs (record { waysa = x; waysb = y; present = 0; absent = 0 })
+      → (waysOf ps qs (record { waysa = x; waysb = y; fixedpresent = 0; fixedabsent = 0 }) ≡ select P (rows 0 ps qs))
+      × InTable ps qs (record { waysa = x; waysb = y; fixedpresent = 0; fixedabsent = 0 })
   unfolding waysOf
   cut-selects P x y cut = (
     dropped-none (select (inWords x y) (rows 0 ps qs)) ∙ rows-same (inWords x y) P same,

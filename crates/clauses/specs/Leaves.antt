@@ -18,7 +18,7 @@ use Rattle.clauses.specs.declared.Taken.{Taken}
 
 -- The faults that are fixed, in either sense.
 abbrev pub fixedOf : Clauses → ℕ
-fixedOf c = bitOr (c .present) (c .absent)
+fixedOf c = bitOr (c .fixedpresent) (c .fixedabsent)
 
 -- Two words fix one fault.
 abbrev pub OneFault : ℕ → ℕ → Type 0
@@ -47,8 +47,8 @@ pub record Takes (ps qs : List ℕ) (c : Clauses) (t : Taken) : Type 0 where
   pub first : waysOf ps qs c ≡ t .way ∷ waysOf ps qs (t .others)
   pub way-is : t .way ≡ dropped (fixedOf c) (row ps qs (t .way .number))
   pub numbers : (i : ℕ) → inWords (c .waysa) (c .waysb) i ≡ (eqb i (t .way .number) || inWords (t .others .waysa) (t .others .waysb) i)
-  pub same-present : t .others .present ≡ c .present
-  pub same-absent : t .others .absent ≡ c .absent
+  pub same-present : t .others .fixedpresent ≡ c .fixedpresent
+  pub same-absent : t .others .fixedabsent ≡ c .fixedabsent
   pub within : InTable ps qs (t .others)
 
 -- Of a leaf's numbers, those whose ways pass a test.
@@ -65,10 +65,10 @@ pub record Divided (ps qs : List ℕ) (c : Clauses) (m : ℕ) (d : ByFault) : Ty
   pub named-within : InTable ps qs (d .named)
   pub named-ways : waysOf ps qs (d .named) ≡ part true m (waysOf ps qs c)
   pub named-numbers : Keeps ps qs (λ v. touches m v) c (d .named)
-  pub named-present : d .named .present ≡ c .present
-  pub named-absent : d .named .absent ≡ c .absent
+  pub named-present : d .named .fixedpresent ≡ c .fixedpresent
+  pub named-absent : d .named .fixedabsent ≡ c .fixedabsent
   pub others-within : InTable ps qs (d .others)
   pub others-numbers : Keeps ps qs (λ v. not (touches m v)) c (d .others)
-  pub others-present : d .others .present ≡ c .present
-  pub others-absent : d .others .absent ≡ c .absent
+  pub others-present : d .others .fixedpresent ≡ c .fixedpresent
+  pub others-absent : d .others .fixedabsent ≡ c .fixedabsent
   pub covered : Covers ps qs (d .others) (d .cover)

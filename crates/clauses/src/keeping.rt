@@ -29,14 +29,14 @@ fn contradicted(present: u64, absent: u64, v: Way) -> bool
 pub fn restrict(present: &[u64], absent: &[u64], c: Clauses, p: u64, q: u64) -> Clauses
     requires { ⌜ InTable (now present) (now absent) c ⌝ }
     ensures { λ r. ⌜ (waysOf (now (present .entry)) (now (absent .entry)) r ≡ remaining p q (waysOf (now (present .entry)) (now (absent .entry)) c))
-        × InTable (now (present .entry)) (now (absent .entry)) r × (r .present ≡ bitOr (c .present) p) × (r .absent ≡ bitOr (c .absent) q)
+        × InTable (now (present .entry)) (now (absent .entry)) r × (r .fixedpresent ≡ bitOr (c .fixedpresent) p) × (r .fixedabsent ≡ bitOr (c .fixedabsent) q)
         × Keeps (now (present .entry)) (now (absent .entry)) (λ v. not (Leaf.contradicted p q v)) c r ⌝ }
 {
     let mut kept = Clauses {
         waysa: 0,
         waysb: 0,
-        present: c.present | p,
-        absent: c.absent | q,
+        fixedpresent: c.fixedpresent | p,
+        fixedabsent: c.fixedabsent | q,
     };
     let mut left = c;
     while left.waysa | left.waysb != 0 {
@@ -55,7 +55,7 @@ pub fn remaining_of(present: &[u64], absent: &[u64], a: u64, b: u64, p: u64, q: 
     requires { ⌜ length (now present) ≤ 128 ⌝ }
     requires { ⌜ length (now absent) ≡ length (now present) ⌝ }
     ensures { λ r. ⌜ (waysOf (now (present .entry)) (now (absent .entry)) r ≡ remaining p q (Leaf.select (inWords a b) (rows 0 (now (present .entry)) (now (absent .entry)))))
-        × InTable (now (present .entry)) (now (absent .entry)) r × (r .present ≡ p) × (r .absent ≡ q) ⌝ }
+        × InTable (now (present .entry)) (now (absent .entry)) r × (r .fixedpresent ≡ p) × (r .fixedabsent ≡ q) ⌝ }
 {
     restrict(present, absent, select(present, absent, a, b), p, q)
 }
@@ -71,14 +71,14 @@ pub fn touches(m: u64, v: Way) -> bool
 pub fn part(present: &[u64], absent: &[u64], c: Clauses, m: u64, touched: bool) -> Clauses
     requires { ⌜ InTable (now present) (now absent) c ⌝ }
     ensures { λ r. ⌜ (waysOf (now (present .entry)) (now (absent .entry)) r ≡ Group.part touched m (waysOf (now (present .entry)) (now (absent .entry)) c))
-        × InTable (now (present .entry)) (now (absent .entry)) r × (r .present ≡ c .present) × (r .absent ≡ c .absent)
+        × InTable (now (present .entry)) (now (absent .entry)) r × (r .fixedpresent ≡ c .fixedpresent) × (r .fixedabsent ≡ c .fixedabsent)
         × Keeps (now (present .entry)) (now (absent .entry)) (λ v. Bool·beq touched (Group.touches m v)) c r ⌝ }
 {
     let mut kept = Clauses {
         waysa: 0,
         waysb: 0,
-        present: c.present,
-        absent: c.absent,
+        fixedpresent: c.fixedpresent,
+        fixedabsent: c.fixedabsent,
     };
     let mut left = c;
     while left.waysa | left.waysb != 0 {

@@ -8,12 +8,12 @@ pub mod taking;
 use rules::Way;
 
 /// The ways of a leaf, in number order: those of a table with these numbers, less the fixed faults. A number below 64 is a bit of
-/// `waysa`, one from 64 on, less 64, a bit of `waysb`; `present` and `absent` are the words of the faults that are fixed so.
+/// `waysa`, one from 64 on, less 64, a bit of `waysb`; `fixedpresent` and `fixedabsent` are the words of the faults that are fixed so.
 pub struct Clauses {
     pub waysa: u64,
     pub waysb: u64,
-    pub present: u64,
-    pub absent: u64,
+    pub fixedpresent: u64,
+    pub fixedabsent: u64,
 }
 
 /// The first way of a leaf, and the others.

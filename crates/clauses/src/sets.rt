@@ -32,22 +32,22 @@ pub fn select(present: &[u64], absent: &[u64], a: u64, b: u64) -> Clauses
     requires { ⌜ length (now present) ≤ 128 ⌝ }
     requires { ⌜ length (now absent) ≡ length (now present) ⌝ }
     ensures { λ r. ⌜ (waysOf (now (present .entry)) (now (absent .entry)) r ≡ Leaf.select (inWords a b) (rows 0 (now (present .entry)) (now (absent .entry))))
-        × InTable (now (present .entry)) (now (absent .entry)) r × (r .present ≡ 0) × (r .absent ≡ 0) ⌝ }
+        × InTable (now (present .entry)) (now (absent .entry)) r × (r .fixedpresent ≡ 0) × (r .fixedabsent ≡ 0) ⌝ }
 {
     let n = present.len();
     if n < 64 {
         return Clauses {
             waysa: a & bits_below(n),
             waysb: 0,
-            present: 0,
-            absent: 0,
+            fixedpresent: 0,
+            fixedabsent: 0,
         };
     }
     Clauses {
         waysa: a,
         waysb: b & bits_below(n - 64),
-        present: 0,
-        absent: 0,
+        fixedpresent: 0,
+        fixedabsent: 0,
     }
 }
 
@@ -56,7 +56,7 @@ pub fn whole(present: &[u64], absent: &[u64]) -> Clauses
     requires { ⌜ length (now present) ≤ 128 ⌝ }
     requires { ⌜ length (now absent) ≡ length (now present) ⌝ }
     ensures { λ r. ⌜ (waysOf (now (present .entry)) (now (absent .entry)) r ≡ rows 0 (now (present .entry)) (now (absent .entry)))
-        × InTable (now (present .entry)) (now (absent .entry)) r × (r .present ≡ 0) × (r .absent ≡ 0) ⌝ }
+        × InTable (now (present .entry)) (now (absent .entry)) r × (r .fixedpresent ≡ 0) × (r .fixedabsent ≡ 0) ⌝ }
 {
     select(present, absent, !0, !0)
 }
@@ -65,7 +65,7 @@ pub fn whole(present: &[u64], absent: &[u64]) -> Clauses
 pub fn with_number(c: Clauses, i: usize) -> Clauses
     requires { ⌜ i < 128 ⌝ }
     ensures { λ r. ⌜ ((j : ℕ) → inWords (r .waysa) (r .waysb) j ≡ (eqb j i || inWords (c .waysa) (c .waysb) j))
-        × (r .present ≡ c .present) × (r .absent ≡ c .absent) ⌝ }
+        × (r .fixedpresent ≡ c .fixedpresent) × (r .fixedabsent ≡ c .fixedabsent) ⌝ }
 {
     let mut r = c;
     if i < 64 {
@@ -79,12 +79,12 @@ pub fn with_number(c: Clauses, i: usize) -> Clauses
 /// The numbers of the first without those of the second.
 pub fn minus(c: Clauses, d: Clauses) -> Clauses
     ensures { λ r. ⌜ ((i : ℕ) → inWords (r .waysa) (r .waysb) i ≡ inWords (c .waysa) (c .waysb) i && not (inWords (d .waysa) (d .waysb) i))
-        × (r .present ≡ c .present) × (r .absent ≡ c .absent) ⌝ }
+        × (r .fixedpresent ≡ c .fixedpresent) × (r .fixedabsent ≡ c .fixedabsent) ⌝ }
 {
     Clauses {
         waysa: c.waysa & !d.waysa,
         waysb: c.waysb & !d.waysb,
-        present: c.present,
-        absent: c.absent,
+        fixedpresent: c.fixedpresent,
+        fixedabsent: c.fixedabsent,
     }
 }

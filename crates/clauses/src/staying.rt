@@ -68,13 +68,13 @@ pub fn staying_rows(present: &[u64], absent: &[u64]) -> Clauses
     requires { ⌜ length (now present) ≤ 128 ⌝ }
     requires { ⌜ length (now absent) ≡ length (now present) ⌝ }
     ensures { λ r. ⌜ (waysOf (now (present .entry)) (now (absent .entry)) r ≡ minimal (rows 0 (now (present .entry)) (now (absent .entry))))
-        × InTable (now (present .entry)) (now (absent .entry)) r × (r .present ≡ 0) × (r .absent ≡ 0) ⌝ }
+        × InTable (now (present .entry)) (now (absent .entry)) r × (r .fixedpresent ≡ 0) × (r .fixedabsent ≡ 0) ⌝ }
 {
     let mut kept = Clauses {
         waysa: 0,
         waysb: 0,
-        present: 0,
-        absent: 0,
+        fixedpresent: 0,
+        fixedabsent: 0,
     };
     let mut left = whole(present, absent);
     while left.waysa | left.waysb != 0 {
@@ -96,8 +96,8 @@ fn subsumed(present: &[u64], absent: &[u64], c: Clauses, u: Way) -> Clauses
     let mut kept = Clauses {
         waysa: 0,
         waysb: 0,
-        present: c.present,
-        absent: c.absent,
+        fixedpresent: c.fixedpresent,
+        fixedabsent: c.fixedabsent,
     };
     let mut left = c;
     while left.waysa | left.waysb != 0 {
@@ -153,7 +153,7 @@ pub fn staying(present: &[u64], absent: &[u64], c: Clauses, d: ByFault, p: u64, 
     requires { ⌜ Divided (now present) (now absent) c (bitOr p q) d ⌝ }
     requires { ⌜ OneFault p q ⌝ }
     ensures { λ r. ⌜ (waysOf (now (present .entry)) (now (absent .entry)) r ≡ minimal (remaining p q (waysOf (now (present .entry)) (now (absent .entry)) c)))
-        × InTable (now (present .entry)) (now (absent .entry)) r × (r .present ≡ bitOr (c .present) p) × (r .absent ≡ bitOr (c .absent) q) ⌝ }
+        × InTable (now (present .entry)) (now (absent .entry)) r × (r .fixedpresent ≡ bitOr (c .fixedpresent) p) × (r .fixedabsent ≡ bitOr (c .fixedabsent) q) ⌝ }
 {
     let shorter = restrict(present, absent, d.named, p, q);
     let all = d.cover;
@@ -170,7 +170,7 @@ pub fn staying(present: &[u64], absent: &[u64], c: Clauses, d: ByFault, p: u64, 
     Clauses {
         waysa: shorter.waysa | kept.waysa,
         waysb: shorter.waysb | kept.waysb,
-        present: shorter.present,
-        absent: shorter.absent,
+        fixedpresent: shorter.fixedpresent,
+        fixedabsent: shorter.fixedabsent,
     }
 }

@@ -39,7 +39,7 @@ fn way_at(present: &[u64], absent: &[u64], c: Clauses, i: usize) -> Way
         present: present[i],
         absent: absent[i],
     };
-    dropped(c.present | c.absent, v)
+    dropped(c.fixedpresent | c.fixedabsent, v)
 }
 
 /// Takes the first way off.

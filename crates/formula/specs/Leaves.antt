@@ -26,8 +26,8 @@ endsOf ws vs = record { low = leafLow ws vs; high = leafHigh ws vs; live = indic
 -- The ways of the child on one side of a leaf c that is refined so, with the faults that are fixed there.
 pub record Part (ps qs : List ℕ) (c : Clauses) (k : Kind) (b : Side) (d : Clauses) : Type 0 where
   pub ways-are : waysOf ps qs d ≡ child k b (waysOf ps qs c)
-  pub present-is : d .present ≡ childFixed left k b (c .present)
-  pub absent-is : d .absent ≡ childFixed right k b (c .absent)
+  pub present-is : d .fixedpresent ≡ childFixed left k b (c .fixedpresent)
+  pub absent-is : d .fixedabsent ≡ childFixed right k b (c .fixedabsent)
   pub within : InTable ps qs d
 
 -- And of both children.

@@ -32,7 +32,7 @@ spot p q vs = record { set = []; present = p; absent = q; ways = vs }
 
 -- The leaf with the fixed faults and the ways of a child is the child.
 pub as-child : (ps qs ws : List ℕ) (x : Node) (c d : Clauses) (k : Kind) (b : Side) (j : ℕ) (n : Node) → LeafWays ps qs x c → Part ps qs c k b d
-    → n ≡ freshRecord (only ws) (spot (d .present) (d .absent) (waysOf ps qs d)) j → n ≡ leafBelow ws x (waysOf ps qs c) k j b
+    → n ≡ freshRecord (only ws) (spot (d .fixedpresent) (d .fixedabsent) (waysOf ps qs d)) j → n ≡ leafBelow ws x (waysOf ps qs c) k j b
 as-child ps qs ws x c d k b j n l p h =
     rw (p .ways-are, p .present-is ∙ ap (childFixed left k b) (l .present-is), p .absent-is ∙ ap (childFixed right k b) (l .absent-is)) at h
 

@@ -19,8 +19,8 @@ use Rattle.grow.specs.declared.refine.Branch.{Branch}
 pub record LeafWays (ps qs : List ℕ) (x : Node) (c : Clauses) : Type 0 where
   pub within : InTable ps qs c
   pub ways-are : (ws : List ℕ) → waysOf ps qs c ≡ recordWays (record { weights = ws; present = ps; absent = qs }) x
-  pub present-is : c .present ≡ x .present
-  pub absent-is : c .absent ≡ x .absent
+  pub present-is : c .fixedpresent ≡ x .present
+  pub absent-is : c .fixedabsent ≡ x .absent
 
 -- The record of a leaf below the leaf x in record j, where vs are the ways of x.
 abbrev pub leafBelow : List ℕ → Node → List Way → Kind → ℕ → Side → Node

@@ -26,7 +26,7 @@ pub fn leaf_record(
     requires { ⌜ overweight (now weights) ≡ false ⌝ }
     requires { ⌜ InTable (now present) (now absent) c ⌝ }
     ensures { λ r. ⌜ (r ≡ freshRecord (table (now (weights .entry)) [] [])
-        (record { set = []; present = c .present; absent = c .absent; ways = waysOf (now (present .entry)) (now (absent .entry)) c }) parent)
+        (record { set = []; present = c .fixedpresent; absent = c .fixedabsent; ways = waysOf (now (present .entry)) (now (absent .entry)) c }) parent)
         × (r .low ≤ S) × (r .high ≤ S) ⌝ }
 {
     let e = ends(weights, present, absent, c);
@@ -38,8 +38,8 @@ pub fn leaf_record(
         left: 0,
         waysa: c.waysa,
         waysb: c.waysb,
-        present: c.present,
-        absent: c.absent,
+        present: c.fixedpresent,
+        absent: c.fixedabsent,
         low: e.low,
         high: e.high,
         ownlow: e.low,

@@ -25,10 +25,10 @@ module _ (ps qs : List ℕ) (c : Clauses) (w : InTable ps qs c) where
 
   -- Its way comes first, and the numbers of the two words a and b are those of the others.
   takes : (a b n : ℕ) → First (inWords (c .waysa) (c .waysb)) (inWords a b) n → (v : Way) → v ≡ dropped (fixedOf c) (row ps qs n)
-      → Takes ps qs c (record { way = v; others = record { waysa = a; waysb = b; present = c .present; absent = c .absent } })
+      → Takes ps qs c (record { way = v; others = record { waysa = a; waysb = b; fixedpresent = c .fixedpresent; fixedabsent = c .fixedabsent } })
   unfolding waysOf
   takes a b n f v e =
-      subst (λ (u : Way). Takes ps qs c (record { way = u; others = record { waysa = a; waysb = b; present = c .present; absent = c .absent } })) (sym e)
+      subst (λ (u : Way). Takes ps qs c (record { way = u; others = record { waysa = a; waysb = b; fixedpresent = c .fixedpresent; fixedabsent = c .fixedabsent } })) (sym e)
       (record {
         first = ap (map (dropped (fixedOf c))) (select-first f ps qs (w .paired) (inside n f .0));
         way-is = refl;

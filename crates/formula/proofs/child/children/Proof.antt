@@ -28,17 +28,17 @@ fits k f e h = rw e at h
 module _ (ps qs : List ℕ) (c : Clauses) where
   -- What `part` and `staying` say of their answer: its ways, and the words of its fixed faults.
   abbrev Made : Clauses → List Way → ℕ → ℕ → Type 0
-  Made d vs p q = (waysOf ps qs d ≡ vs) × InTable ps qs d × (d .present ≡ p) × (d .absent ≡ q)
+  Made d vs p q = (waysOf ps qs d ≡ vs) × InTable ps qs d × (d .fixedpresent ≡ p) × (d .fixedabsent ≡ q)
 
   -- One child.
   one : (k : Kind) (b : Side) (d : Clauses) {vs : List Way} {p q : ℕ} → Made d vs p q → vs ≡ child k b (waysOf ps qs c)
-      → p ≡ childFixed left k b (c .present) → q ≡ childFixed right k b (c .absent) → Part ps qs c k b d
+      → p ≡ childFixed left k b (c .fixedpresent) → q ≡ childFixed right k b (c .fixedabsent) → Part ps qs c k b d
   one k b d m e f g = record { ways-are = m .0 ∙ e; present-is = m .2 ∙ f; absent-is = m .3 ∙ g; within = m .1 }
 
   module _ (x y : Clauses) where
     -- Both, by independence, where m is the group's faults.
-    by-groups : (m : ℕ) → m ≡ groupFaults (waysOf ps qs c) → Made x (part true m (waysOf ps qs c)) (c .present) (c .absent)
-        → Made y (part false m (waysOf ps qs c)) (c .present) (c .absent) → Parts ps qs c IndependentOr (record { left = x; right = y })
+    by-groups : (m : ℕ) → m ≡ groupFaults (waysOf ps qs c) → Made x (part true m (waysOf ps qs c)) (c .fixedpresent) (c .fixedabsent)
+        → Made y (part false m (waysOf ps qs c)) (c .fixedpresent) (c .fixedabsent) → Parts ps qs c IndependentOr (record { left = x; right = y })
     unfolding child childFixed
     by-groups m e s t =
         record {
@@ -47,15 +47,15 @@ module _ (ps qs : List ℕ) (c : Clauses) where
         }
 
     -- And by the fault f, whose word is m.
-    by-fault : (f m : ℕ) → m ≡ 2 ^ f → Made x (minimal (remaining m 0 (waysOf ps qs c))) (bitOr (c .present) m) (bitOr (c .absent) 0)
-        → Made y (minimal (remaining 0 m (waysOf ps qs c))) (bitOr (c .present) 0) (bitOr (c .absent) m) → Parts ps qs c (Shannon f) (record { left = x; right = y })
+    by-fault : (f m : ℕ) → m ≡ 2 ^ f → Made x (minimal (remaining m 0 (waysOf ps qs c))) (bitOr (c .fixedpresent) m) (bitOr (c .fixedabsent) 0)
+        → Made y (minimal (remaining 0 m (waysOf ps qs c))) (bitOr (c .fixedpresent) 0) (bitOr (c .fixedabsent) m) → Parts ps qs c (Shannon f) (record { left = x; right = y })
     unfolding child childFixed
     by-fault f m e s t =
         record {
           on-left =
-              one (Shannon f) left x s (ap (λ (n : ℕ). minimal (remaining n 0 (waysOf ps qs c))) e) (ap (bitOr (c .present)) e) (or-zero-r (c .absent));
+              one (Shannon f) left x s (ap (λ (n : ℕ). minimal (remaining n 0 (waysOf ps qs c))) e) (ap (bitOr (c .fixedpresent)) e) (or-zero-r (c .fixedabsent));
           on-right =
-              one (Shannon f) right y t (ap (λ (n : ℕ). minimal (remaining 0 n (waysOf ps qs c))) e) (or-zero-r (c .present)) (ap (bitOr (c .absent)) e);
+              one (Shannon f) right y t (ap (λ (n : ℕ). minimal (remaining 0 n (waysOf ps qs c))) e) (or-zero-r (c .fixedpresent)) (ap (bitOr (c .fixedabsent)) e);
         }
 
   -- What `staying` asks of the ways by the fault f, where m is its word and n the same word with the other sense's, which is 0.
