@@ -18,7 +18,7 @@ use Rattle.rules.proofs.Remaining.{dropped-twice, or-regroup}
 use Rattle.records.specs.Records.{inWords}
 use Rattle.clauses.specs.declared.Clauses.{Clauses}
 use Rattle.clauses.specs.declared.Taken.{Taken}
-use Rattle.clauses.specs.Leaves.{fixedOf, row, wayAt, waysOf, InTable, Takes, Keeps}
+use Rattle.clauses.specs.Leaves.{fixedOf, row, wayAt, waysOf, noneLeft, InTable, Takes, Keeps}
 use Rattle.clauses.proofs.Pairs.{in-none}
 use Rattle.clauses.proofs.Selected.{each-row, passing, select-passing}
 
@@ -132,12 +132,12 @@ module _ (ps qs : List ℕ) (f : Way → Bool) (c : Clauses) where
             ∙ sym (ap (λ (x : Bool). inWords (kept .waysa) (kept .waysb) i || (x && passes i)) (h .numbers i))
             ∙ s .numbers i
 
-    module _ (w : InTable ps qs c) (z : bitOr (left .waysa) (left .waysb) ≡ 0) where
+    module _ (w : InTable ps qs c) (z : noneLeft left ≡ true) where
       -- At the end the kept numbers are those of the leaf that pass.
       pub all-kept : Keeps ps qs f c kept
       all-kept i =
           sym (or-none (inWords (kept .waysa) (kept .waysb) i))
-          ∙ sym (ap (λ (x : Bool). inWords (kept .waysa) (kept .waysb) i || (x && passes i)) (in-none (left .waysa) (left .waysb) z i))
+          ∙ sym (ap (λ (x : Bool). inWords (kept .waysa) (kept .waysb) i || (x && passes i)) (in-none (left .waysa) (left .waysb) (eqb-true _ 0 z) i))
           ∙ s .numbers i
         where
           or-none : (x : Bool) → x || false ≡ x

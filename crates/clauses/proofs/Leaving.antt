@@ -20,7 +20,7 @@ use Rattle.records.specs.Records.{inWords}
 use Rattle.clauses.specs.declared.ByFault.{ByFault}
 use Rattle.clauses.specs.declared.Clauses.{Clauses}
 use Rattle.clauses.specs.declared.Taken.{Taken}
-use Rattle.clauses.specs.Leaves.{OneFault, row, wayAt, waysOf, InTable, Takes, Keeps, Covers, Divided}
+use Rattle.clauses.specs.Leaves.{OneFault, row, wayAt, waysOf, noneLeft, InTable, Takes, Keeps, Covers, Divided}
 use Rattle.clauses.proofs.Pairs.{in-none, both-numbers}
 use Rattle.clauses.proofs.Selected.{passing}
 use Rattle.clauses.proofs.Filter.{kept-ways, fixed-more}
@@ -87,8 +87,8 @@ module _ (ps qs : List ℕ) (c : Clauses) where
         by i false z false false q k = absurd (true≢false (sym k))
 
     -- At the end none is left.
-    pub all-joined : bitOr (left .waysa) (left .waysb) ≡ 0 → Covers ps qs c r
-    all-joined z i h = ap (λ (b : Bool). b || subsumes (wayAt ps qs c i) r) (sym (in-none (left .waysa) (left .waysb) z i)) ∙ s .covers i h
+    pub all-joined : noneLeft left ≡ true → Covers ps qs c r
+    all-joined z i h = ap (λ (b : Bool). b || subsumes (wayAt ps qs c i) r) (sym (in-none (left .waysa) (left .waysb) (eqb-true _ 0 z) i)) ∙ s .covers i h
 
 -- ---- the ways by a fault
 
@@ -245,7 +245,7 @@ module _ (ps qs : List ℕ) (others shorter : Clauses) where
         by false b a = refl
 
   -- At the end the kept numbers are those of the others that no way which lost the fault subsumes.
-  pub none-left-over : (kept left : Clauses) → Leaving kept left → bitOr (left .waysa) (left .waysb) ≡ 0
+  pub none-left-over : (kept left : Clauses) → Leaving kept left → noneLeft left ≡ true
       → Keeps ps qs (λ v. not (any (λ u. subsumes u v) (waysOf ps qs shorter))) others kept
   unfolding any
   none-left-over kept left s z i =

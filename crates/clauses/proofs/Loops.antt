@@ -1,12 +1,12 @@
 -- Loops over the ways of a leaf, which take them off one by one: one turn, the end, how many turns there are; and the words of their numbers.
 -- Rests on Selected.antt and Pairs.antt, and on `records`, Words, for the words of some ways.
 use mathlib.Core.Path.{_≡_, refl, sym, ap, _∙_}
-use mathlib.Core.Bool.{Bool, true, false, _&&_}
+use mathlib.Core.Bool.{Bool, true, false, not, _&&_}
 use mathlib.Core.List.{List, [], _∷_, map}
 use Prim.Native.Nat.{ℕ, _≤_, _<_, _^_}
 use native.Mathlib.Omega.{arith}
 use lib.ListN.{length, length-map}
-use lib.Bits.{bitOr}
+use borrow.Author.Tests.{eqb-true, not-true, not-false}
 use Rattle.rules.specs.declared.Way.{Way}
 use Rattle.rules.specs.Table.{rows}
 use Rattle.rules.specs.Leaf.{select, hasNumber, dropped}
@@ -16,9 +16,16 @@ use Rattle.records.specs.Records.{lowWord, highWord, inWords}
 use Rattle.records.proofs.Words.{words-number, low-fits}
 use Rattle.clauses.specs.declared.Clauses.{Clauses}
 use Rattle.clauses.specs.declared.Taken.{Taken}
-use Rattle.clauses.specs.Leaves.{fixedOf, waysOf, InTable, Takes}
+use Rattle.clauses.specs.Leaves.{fixedOf, waysOf, noneLeft, InTable, Takes}
 use Rattle.clauses.proofs.Pairs.{in-none, same-low, same-high}
 use Rattle.clauses.proofs.Selected.{rows-number, select-number, dropped-number, select-few}
+
+-- A loop that goes on has a way left, and one that ends has none: b is what `none_left` answered, n what it stands for.
+pub some-left : {n b : Bool} → b ≡ n → not b ≡ true → n ≡ false
+some-left {b = b} e h = sym e ∙ not-true b h
+
+pub no-more : {n b : Bool} → b ≡ n → not b ≡ false → n ≡ true
+no-more {b = b} e h = sym e ∙ not-false b h
 
 module _ (ps qs : List ℕ) (c : Clauses) where
   -- The test that selects the ways.
@@ -26,9 +33,9 @@ module _ (ps qs : List ℕ) (c : Clauses) where
   chosen = inWords (c .waysa) (c .waysb)
 
   -- With no number there is no way.
-  pub none-left : bitOr (c .waysa) (c .waysb) ≡ 0 → waysOf ps qs c ≡ []
+  pub none-left : noneLeft c ≡ true → waysOf ps qs c ≡ []
   unfolding waysOf
-  none-left h = ap (map (dropped (fixedOf c))) (select-none chosen (in-none (c .waysa) (c .waysb) h) (rows 0 ps qs))
+  none-left h = ap (map (dropped (fixedOf c))) (select-none chosen (in-none (c .waysa) (c .waysb) (eqb-true _ 0 h)) (rows 0 ps qs))
 
   -- There are at most 128 ways.
   pub few : InTable ps qs c → length (waysOf ps qs c) ≤ 128
@@ -46,7 +53,7 @@ module _ (ps qs : List ℕ) (c : Clauses) where
     forward t h inv = sym (ap f (h .first)) ∙ inv
 
     -- The end of it.
-    pub ended : {R : A} → bitOr (c .waysa) (c .waysb) ≡ 0 → f (waysOf ps qs c) ≡ R → f [] ≡ R
+    pub ended : {R : A} → noneLeft c ≡ true → f (waysOf ps qs c) ≡ R → f [] ≡ R
     ended h inv = sym (ap f (none-left h)) ∙ inv
 
   -- ---- the words of the ways' numbers

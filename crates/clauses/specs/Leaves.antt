@@ -36,6 +36,10 @@ wayAt ps qs c i = dropped (fixedOf c) (row ps qs i)
 unfoldable pub waysOf : List ℕ → List ℕ → Clauses → List Way
 waysOf ps qs c = map (dropped (fixedOf c)) (select (inWords (c .waysa) (c .waysb)) (rows 0 ps qs))
 
+-- There is none: both words of numbers are empty.
+abbrev pub noneLeft : Clauses → Bool
+noneLeft c = eqb (bitOr (c .waysa) (c .waysb)) 0
+
 -- The table has at most 128 ways, two words for each, and every number is that of one of them.
 pub record InTable (ps qs : List ℕ) (c : Clauses) : Type 0 where
   pub short : length ps ≤ 128

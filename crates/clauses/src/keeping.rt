@@ -15,6 +15,7 @@ use super::Clauses;
 use super::sets::select;
 use super::sets::with_number;
 use super::taking::faults;
+use super::taking::none_left;
 use super::taking::taken;
 use rules::Way;
 
@@ -39,7 +40,7 @@ pub fn restrict(present: &[u64], absent: &[u64], c: Clauses, p: u64, q: u64) -> 
         fixedabsent: c.fixedabsent | q,
     };
     let mut left = c;
-    while left.waysa | left.waysb != 0 {
+    while !none_left(left) {
         let t = taken(present, absent, left);
         let v = t.way;
         left = t.others;
@@ -81,7 +82,7 @@ pub fn part(present: &[u64], absent: &[u64], c: Clauses, m: u64, touched: bool) 
         fixedabsent: c.fixedabsent,
     };
     let mut left = c;
-    while left.waysa | left.waysb != 0 {
+    while !none_left(left) {
         let t = taken(present, absent, left);
         let v = t.way;
         left = t.others;

@@ -16,6 +16,7 @@ use super::keeping::restrict;
 use super::sets::minus;
 use super::sets::whole;
 use super::sets::with_number;
+use super::taking::none_left;
 use super::taking::taken;
 use rules::Way;
 
@@ -77,7 +78,7 @@ pub fn staying_rows(present: &[u64], absent: &[u64]) -> Clauses
         fixedabsent: 0,
     };
     let mut left = whole(present, absent);
-    while left.waysa | left.waysb != 0 {
+    while !none_left(left) {
         let t = taken(present, absent, left);
         let v = t.way;
         left = t.others;
@@ -100,7 +101,7 @@ fn subsumed(present: &[u64], absent: &[u64], c: Clauses, u: Way) -> Clauses
         fixedabsent: c.fixedabsent,
     };
     let mut left = c;
-    while left.waysa | left.waysb != 0 {
+    while !none_left(left) {
         let t = taken(present, absent, left);
         let v = t.way;
         left = t.others;
@@ -122,7 +123,7 @@ fn cover(present: &[u64], absent: &[u64], c: Clauses) -> Way
         absent: 0,
     };
     let mut left = c;
-    while left.waysa | left.waysb != 0 {
+    while !none_left(left) {
         let t = taken(present, absent, left);
         let v = t.way;
         left = t.others;
@@ -159,7 +160,7 @@ pub fn staying(present: &[u64], absent: &[u64], c: Clauses, d: ByFault, p: u64, 
     let all = d.cover;
     let mut kept = d.others;
     let mut left = shorter;
-    while left.waysa | left.waysb != 0 {
+    while !none_left(left) {
         let t = taken(present, absent, left);
         let u = t.way;
         left = t.others;

@@ -1,12 +1,12 @@
 //! The first way of a leaf and the others: the loops over a leaf's ways take them off one by one, in number order.
 //! Rests on `rules`, Leaf, and on trailing_zeros, so that a loop's cost follows the number of its ways.
 ghost use mathlib.Core.Path.{_≡_};
+ghost use mathlib.Core.Bool.{false};
 ghost use Prim.Native.Nat.{_<_};
-ghost use lib.Bits.{bitOr};
 ghost use lib.ListN.{length};
 ghost use Rattle.rules.specs.Table;
 ghost use Rattle.rules.specs.Leaf;
-ghost use Rattle.clauses.specs.Leaves.{fixedOf, row, InTable, Takes};
+ghost use Rattle.clauses.specs.Leaves.{fixedOf, row, noneLeft, InTable, Takes};
 use super::Clauses;
 use super::Taken;
 use rules::Way;
@@ -42,10 +42,17 @@ fn way_at(present: &[u64], absent: &[u64], c: Clauses, i: usize) -> Way
     dropped(c.fixedpresent | c.fixedabsent, v)
 }
 
+/// No way is left.
+pub fn none_left(c: Clauses) -> bool
+    ensures { λ r. ⌜ r ≡ noneLeft c ⌝ }
+{
+    c.waysa | c.waysb == 0
+}
+
 /// Takes the first way off.
 pub fn taken(present: &[u64], absent: &[u64], c: Clauses) -> Taken
     requires { ⌜ InTable (now present) (now absent) c ⌝ }
-    requires { ⌜ (bitOr (c .waysa) (c .waysb) ≡ 0 → ⊥) ⌝ }
+    requires { ⌜ noneLeft c ≡ false ⌝ }
     ensures { λ r. ⌜ Takes (now (present .entry)) (now (absent .entry)) c r ⌝ }
 {
     let mut others = c;

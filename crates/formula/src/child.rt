@@ -19,6 +19,7 @@ use clauses::sets::one_bit;
 use clauses::staying::by_fault;
 use clauses::staying::staying;
 use clauses::taking::faults;
+use clauses::taking::none_left;
 use clauses::taking::taken;
 use rules::Kind;
 use rules::Way;
@@ -61,7 +62,7 @@ pub fn occurs(f: usize, present: &[u64], absent: &[u64], c: Clauses) -> bool
     ensures { λ r. ⌜ (r ≡ Tree.occurs f (waysOf (now (present .entry)) (now (absent .entry)) c)) × (r ≡ true → f < 64) ⌝ }
 {
     let mut left = c;
-    while left.waysa | left.waysb != 0 {
+    while !none_left(left) {
         let t = taken(present, absent, left);
         let v = t.way;
         left = t.others;

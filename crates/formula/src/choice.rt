@@ -7,6 +7,7 @@ ghost use Rattle.rules.specs.Run.{named, mostNamed};
 ghost use Rattle.clauses.specs.Leaves.{waysOf, InTable};
 use clauses::Clauses;
 use clauses::taking::faults;
+use clauses::taking::none_left;
 use clauses::taking::taken;
 
 /// In how many of the ways each fault is named: every way adds one to the count of each fault that it names.
@@ -16,7 +17,7 @@ fn counts(present: &[u64], absent: &[u64], c: Clauses) -> [u64; 64]
 {
     let mut n = [0u64; 64];
     let mut left = c;
-    while left.waysa | left.waysb != 0 {
+    while !none_left(left) {
         let t = taken(present, absent, left);
         let v = t.way;
         left = t.others;

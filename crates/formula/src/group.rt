@@ -8,6 +8,7 @@ ghost use Rattle.clauses.specs.Leaves.{waysOf, InTable};
 use clauses::Clauses;
 use clauses::keeping::touches;
 use clauses::taking::faults;
+use clauses::taking::none_left;
 use clauses::taking::taken;
 use rules::Way;
 
@@ -28,7 +29,7 @@ fn pass(present: &[u64], absent: &[u64], c: Clauses, m: u64) -> u64
 {
     let mut word = m;
     let mut left = c;
-    while left.waysa | left.waysb != 0 {
+    while !none_left(left) {
         let t = taken(present, absent, left);
         let v = t.way;
         left = t.others;
@@ -42,7 +43,7 @@ pub fn group_faults(present: &[u64], absent: &[u64], c: Clauses) -> u64
     requires { ⌜ InTable (now present) (now absent) c ⌝ }
     ensures { λ r. ⌜ r ≡ groupFaults (waysOf (now (present .entry)) (now (absent .entry)) c) ⌝ }
 {
-    if c.waysa | c.waysb == 0 {
+    if none_left(c) {
         return 0;
     }
     let t = taken(present, absent, c);
@@ -66,7 +67,7 @@ fn leaves_one(present: &[u64], absent: &[u64], c: Clauses, m: u64) -> bool
     ensures { λ r. ⌜ r ≡ nonempty (part false m (waysOf (now (present .entry)) (now (absent .entry)) c)) ⌝ }
 {
     let mut left = c;
-    while left.waysa | left.waysb != 0 {
+    while !none_left(left) {
         let t = taken(present, absent, left);
         let v = t.way;
         left = t.others;

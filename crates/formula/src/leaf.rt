@@ -16,6 +16,7 @@ use chances::rounding::S;
 use chances::rounding::either;
 use clauses::Clauses;
 use clauses::taking::faults;
+use clauses::taking::none_left;
 use clauses::taking::taken;
 
 /// Leaf low: the kept ways as independent events. `kept` has the faults of each way that is kept.
@@ -29,7 +30,7 @@ fn leaf_low(weights: &[u32], present: &[u64], absent: &[u64], c: Clauses) -> u64
     let mut k: usize = 0;
     let mut low: u64 = 0;
     let mut left = c;
-    'ways: while left.waysa | left.waysb != 0 {
+    'ways: while !none_left(left) {
         let t = taken(present, absent, left);
         let v = t.way;
         // Before the search, since `continue` skips what follows it.
@@ -58,7 +59,7 @@ fn leaf_high(weights: &[u32], present: &[u64], absent: &[u64], c: Clauses) -> u6
 {
     let mut sum: u64 = 0;
     let mut left = c;
-    while left.waysa | left.waysb != 0 {
+    while !none_left(left) {
         let t = taken(present, absent, left);
         let v = t.way;
         left = t.others;
@@ -74,7 +75,7 @@ fn several(present: &[u64], absent: &[u64], c: Clauses) -> bool
 {
     let mut n: u64 = 0;
     let mut left = c;
-    while left.waysa | left.waysb != 0 {
+    while !none_left(left) {
         let t = taken(present, absent, left);
         let v = t.way;
         left = t.others;

@@ -7,7 +7,7 @@ use lib.ListN.{length}
 use Rattle.rules.specs.Group.{touches}
 use Rattle.clauses.specs.Leaves.{waysOf}
 use Rattle.clauses.proofs.Filter.{Sifting, numbered, begun, turn, all-kept, ended, passing-part}
-use Rattle.clauses.proofs.Loops.{fewer}
+use Rattle.clauses.proofs.Loops.{fewer, some-left, no-more}
 use Rattle.clauses.proofs.keeping.part.Statement.{statement}
 use Rattle.clauses.proofs.keeping.part.Tie as tie
 
@@ -20,8 +20,11 @@ abbrev μ-loop : tie.MeasureT-loop
 loop-holds : tie.Need-loop-holds Inv-loop μ-loop
 loop-holds c = begun _ _ _ _ _ _ (search needs)
 
+none-left-requires : tie.Need-none-left-requires Inv-loop μ-loop
+none-left-requires c κs = search needs
+
 taken-requires : tie.Need-taken-requires Inv-loop μ-loop
-taken-requires c κs = (c .before .before .loop .inv .within, c .if1 .taken)
+taken-requires c κs = (c .before .before .loop .inv .within, some-left (c .before .none-left .ensures) (c .if1 .taken))
 
 touches-requires : tie.Need-touches-requires Inv-loop μ-loop
 touches-requires c κs = search needs
@@ -56,12 +59,12 @@ returns : tie.Need-returns Inv-loop μ-loop
 returns c =
     let l = c .before .before .loop in
     let a = c .before .before .before .before .before .args in
-    let e = ended _ _ _ _ _ _ _ (l .inv) (search needs) (c .if1 .left) (λ v. v) (λ v. refl) in (
+    let e = ended _ _ _ _ _ _ _ (l .inv) (search needs) (no-more (c .before .none-left .ensures) (c .if1 .left)) (λ v. v) (λ v. refl) in (
       e .0 ∙ passing-part (a .touched) (a .m) (waysOf (a .present .now) (a .absent .now) (a .c)),
       e .1,
       l .inv .kept-present,
       l .inv .kept-absent,
-      all-kept _ _ _ _ _ _ _ (l .inv) (search needs) (c .if1 .left),
+      all-kept _ _ _ _ _ _ _ (l .inv) (search needs) (no-more (c .before .none-left .ensures) (c .if1 .left)),
     )
 
 pub part-spec : {M : Type 1} → statement M
@@ -71,6 +74,7 @@ part-spec =
     Inv-loop
     μ-loop
     loop-holds
+    none-left-requires
     taken-requires
     touches-requires
     with-number-requires

@@ -8,7 +8,7 @@ use lib.Bits.{bitOr}
 use Rattle.rules.specs.Leaf.{contradicted, dropped}
 use Rattle.clauses.specs.Leaves.{waysOf}
 use Rattle.clauses.proofs.Filter.{Sifting, numbered, begun, turn, all-kept, ended, passing-remaining, fixed-more}
-use Rattle.clauses.proofs.Loops.{fewer}
+use Rattle.clauses.proofs.Loops.{fewer, some-left, no-more}
 use Rattle.clauses.proofs.keeping.restrict.Statement.{statement}
 use Rattle.clauses.proofs.keeping.restrict.Tie as tie
 
@@ -21,8 +21,11 @@ abbrev μ-loop : tie.MeasureT-loop
 loop-holds : tie.Need-loop-holds Inv-loop μ-loop
 loop-holds c = begun _ _ _ _ _ _ (search needs)
 
+none-left-requires : tie.Need-none-left-requires Inv-loop μ-loop
+none-left-requires c κs = search needs
+
 taken-requires : tie.Need-taken-requires Inv-loop μ-loop
-taken-requires c κs = (c .before .before .loop .inv .within, c .if1 .taken)
+taken-requires c κs = (c .before .before .loop .inv .within, some-left (c .before .none-left .ensures) (c .if1 .taken))
 
 contradicted-requires : tie.Need-contradicted-requires Inv-loop μ-loop
 contradicted-requires c κs = search needs
@@ -55,8 +58,8 @@ returns : tie.Need-returns Inv-loop μ-loop
 returns c =
     let l = c .before .before .loop in
     let a = c .before .before .before .before .before .before .before .args in
-    let e = ended _ _ _ _ _ _ _ (l .inv) (search needs) (c .if1 .left) (dropped (bitOr (a .p) (a .q))) (fixed-more (a .c) (a .p) (a .q)) in
-    (e .0 ∙ passing-remaining (a .p) (a .q) _, e .1, l .inv .kept-present, l .inv .kept-absent, all-kept _ _ _ _ _ _ _ (l .inv) (search needs) (c .if1 .left))
+    let e = ended _ _ _ _ _ _ _ (l .inv) (search needs) (no-more (c .before .none-left .ensures) (c .if1 .left)) (dropped (bitOr (a .p) (a .q))) (fixed-more (a .c) (a .p) (a .q)) in
+    (e .0 ∙ passing-remaining (a .p) (a .q) _, e .1, l .inv .kept-present, l .inv .kept-absent, all-kept _ _ _ _ _ _ _ (l .inv) (search needs) (no-more (c .before .none-left .ensures) (c .if1 .left)))
 
 pub restrict-spec : {M : Type 1} → statement M
 restrict-spec =
@@ -65,6 +68,7 @@ restrict-spec =
     Inv-loop
     μ-loop
     loop-holds
+    none-left-requires
     taken-requires
     contradicted-requires
     with-number-requires

@@ -5,7 +5,7 @@ use borrow.Author.Needs.{needs}
 use lib.ListN.{length}
 use Rattle.clauses.specs.Leaves.{waysOf}
 use Rattle.clauses.proofs.Leaving.{Leaving, none-left-out, skips, leaves, none-left-over, left-out}
-use Rattle.clauses.proofs.Loops.{fewer}
+use Rattle.clauses.proofs.Loops.{fewer, some-left, no-more}
 use Rattle.clauses.proofs.staying.staying.Statement.{statement}
 use Rattle.clauses.proofs.staying.staying.Tie as tie
 
@@ -21,8 +21,11 @@ restrict-requires c κs = c .before .before .pre .1 .0 .named-within
 loop-holds : tie.Need-loop-holds Inv-loop μ-loop
 loop-holds c = none-left-out _ _ _ _ (c .before .before .before .before .before .pre .1 .0 .others-within) (c .before .before .restrict .ensures .1)
 
+none-left-requires : tie.Need-none-left-requires Inv-loop μ-loop
+none-left-requires c κs = search needs
+
 taken-requires : tie.Need-taken-requires Inv-loop μ-loop
-taken-requires c κs = (c .before .before .loop .inv .left-within, c .if1 .taken)
+taken-requires c κs = (c .before .before .loop .inv .left-within, some-left (c .before .none-left .ensures) (c .if1 .taken))
 
 subsumes-requires : tie.Need-subsumes-requires Inv-loop μ-loop
 subsumes-requires c κs = search needs
@@ -62,7 +65,7 @@ returns c =
     let k = r .restrict .ensures in
     left-out _ _ (s .args .c) (s .args .p) (s .args .q) (s .args .d) (s .pre .1 .0) (s .pre .1 .1) (s .pre .0)
     (r .restrict .result) (k .0) (k .2) (k .3) (k .4) (l .loop .kept)
-    (none-left-over _ _ _ _ _ _ (l .loop .inv) (e .if1 .left))
+    (none-left-over _ _ _ _ _ _ (l .loop .inv) (no-more (e .before .none-left .ensures) (e .if1 .left)))
 
 pub staying-spec : {M : Type 1} → statement M
 staying-spec =
@@ -72,6 +75,7 @@ staying-spec =
     μ-loop
     restrict-requires
     loop-holds
+    none-left-requires
     taken-requires
     subsumes-requires
     subsumed-requires

@@ -11,7 +11,7 @@ use Rattle.rules.specs.Table.{rows}
 use Rattle.rules.specs.Leaf.{dropped, sift, redundant, minimal}
 use Rattle.clauses.specs.Leaves.{waysOf}
 use Rattle.clauses.proofs.Filter.{Sifting, numbered, begun, turn, ended}
-use Rattle.clauses.proofs.Loops.{fewer}
+use Rattle.clauses.proofs.Loops.{fewer, some-left, no-more}
 use Rattle.clauses.proofs.Rows.{passing-sift}
 use Rattle.clauses.proofs.staying.staying_rows.Statement.{statement}
 use Rattle.clauses.proofs.staying.staying_rows.Tie as tie
@@ -28,8 +28,11 @@ whole-requires c κs = search needs
 loop-holds : tie.Need-loop-holds Inv-loop μ-loop
 loop-holds c = begun _ _ _ _ _ _ (c .whole .ensures .1)
 
+none-left-requires : tie.Need-none-left-requires Inv-loop μ-loop
+none-left-requires c κs = search needs
+
 taken-requires : tie.Need-taken-requires Inv-loop μ-loop
-taken-requires c κs = (c .before .before .loop .inv .within, c .if1 .taken)
+taken-requires c κs = (c .before .before .loop .inv .within, some-left (c .before .none-left .ensures) (c .if1 .taken))
 
 outdone-requires : tie.Need-outdone-requires Inv-loop μ-loop
 outdone-requires c κs = search needs
@@ -65,7 +68,7 @@ returns c =
     let s = l .before .before .before .before in
     let w = l .before .whole .ensures in
     let g : Way → Bool = λ v. not (redundant (rows 0 (s .args .present .now) (s .args .absent .now)) v) in
-    let e = ended _ _ _ _ _ _ _ (l .loop .inv) (w .1) (c .if1 .left) (λ v. v) (λ v. ap (λ (m : ℕ). dropped m v) (ap₂ bitOr (w .2) (w .3))) in
+    let e = ended _ _ _ _ _ _ _ (l .loop .inv) (w .1) (no-more (c .before .none-left .ensures) (c .if1 .left)) (λ v. v) (λ v. ap (λ (m : ℕ). dropped m v) (ap₂ bitOr (w .2) (w .3))) in
     (e .0 ∙ passing-sift g _ ∙ ap (sift g) (w .0), e .1, l .loop .inv .kept-present, l .loop .inv .kept-absent)
 
 pub staying-rows-spec : {M : Type 1} → statement M
@@ -76,6 +79,7 @@ staying-rows-spec =
     μ-loop
     whole-requires
     loop-holds
+    none-left-requires
     taken-requires
     outdone-requires
     with-number-requires

@@ -7,7 +7,7 @@ use lib.ListN.{length}
 use Rattle.rules.specs.Leaf.{subsumes}
 use Rattle.clauses.specs.Leaves.{waysOf}
 use Rattle.clauses.proofs.Filter.{Sifting, numbered, begun, turn, all-kept}
-use Rattle.clauses.proofs.Loops.{fewer}
+use Rattle.clauses.proofs.Loops.{fewer, some-left, no-more}
 use Rattle.clauses.proofs.staying.subsumed.Statement.{statement}
 use Rattle.clauses.proofs.staying.subsumed.Tie as tie
 
@@ -20,8 +20,11 @@ abbrev μ-loop : tie.MeasureT-loop
 loop-holds : tie.Need-loop-holds Inv-loop μ-loop
 loop-holds c = begun _ _ _ _ _ _ (search needs)
 
+none-left-requires : tie.Need-none-left-requires Inv-loop μ-loop
+none-left-requires c κs = search needs
+
 taken-requires : tie.Need-taken-requires Inv-loop μ-loop
-taken-requires c κs = (c .before .before .loop .inv .within, c .if1 .taken)
+taken-requires c κs = (c .before .before .loop .inv .within, some-left (c .before .none-left .ensures) (c .if1 .taken))
 
 subsumes-requires : tie.Need-subsumes-requires Inv-loop μ-loop
 subsumes-requires c κs = search needs
@@ -51,7 +54,7 @@ loop-again-2 c =
     (sym (c .before .subsumes .ensures) ∙ c .if2 .left) _ (λ i. refl) refl refl
 
 returns : tie.Need-returns Inv-loop μ-loop
-returns c = all-kept _ _ _ _ _ _ _ (c .before .before .loop .inv) (search needs) (c .if1 .left)
+returns c = all-kept _ _ _ _ _ _ _ (c .before .before .loop .inv) (search needs) (no-more (c .before .none-left .ensures) (c .if1 .left))
 
 pub subsumed-spec : {M : Type 1} → statement M
 subsumed-spec =
@@ -60,6 +63,7 @@ subsumed-spec =
     Inv-loop
     μ-loop
     loop-holds
+    none-left-requires
     taken-requires
     subsumes-requires
     with-number-requires

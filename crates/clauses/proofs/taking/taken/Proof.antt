@@ -6,6 +6,7 @@ use mathlib.Core.List.{List, map}
 use Prim.Native.Nat.{ℕ, _<_}
 use native.Mathlib.Omega.{arith}
 use borrow.Author.Needs.{needs}
+use borrow.Author.Tests.{eqb-false}
 use lib.ListN.{length}
 use lib.Count.{trailing-le}
 use Rattle.rules.specs.declared.Way.{Way}
@@ -66,7 +67,7 @@ sub-others-2 : tie.Need-sub-others-2
 sub-others-2 c =
     let e = c .before .before in
     let s = e .before .before .before .before in
-    second (s .args .c .waysa) (s .args .c .waysb) (s .pre .1) (e .if1 .left)
+    second (s .args .c .waysa) (s .args .c .waysb) (eqb-false _ 0 (s .pre .1)) (e .if1 .left)
 
 way-at-requires-2 : tie.Need-way-at-requires-2
 way-at-requires-2 c κs =
@@ -74,7 +75,7 @@ way-at-requires-2 c κs =
     let s = e .before .before .before .before in
     let a = s .args in
     inside (a .present .now) (a .absent .now) (a .c) (s .pre .0) _
-    (first-high (a .c .waysa) (a .c .waysb) (s .pre .1) (e .if1 .left) (search needs))
+    (first-high (a .c .waysa) (a .c .waysb) (eqb-false _ 0 (s .pre .1)) (e .if1 .left) (search needs))
 
 returns-2 : tie.Need-returns-2
 returns-2 c =
@@ -82,7 +83,7 @@ returns-2 c =
     let s = e .before .before .before .before in
     let a = s .args in
     takes (a .present .now) (a .absent .now) (a .c) (s .pre .0) _ _ _
-    (first-high (a .c .waysa) (a .c .waysb) (s .pre .1) (e .if1 .left) (search needs)) (c .way-at2 .result) (c .way-at2 .ensures)
+    (first-high (a .c .waysa) (a .c .waysb) (eqb-false _ 0 (s .pre .1)) (e .if1 .left) (search needs)) (c .way-at2 .result) (c .way-at2 .ensures)
 
 pub taken-spec : {M : Type 1} → statement M
 taken-spec =

@@ -10,7 +10,7 @@ use Rattle.rules.specs.Table.{bit, faults}
 use Rattle.rules.specs.Leaf.{any}
 use Rattle.rules.specs.Tree.{occurs}
 use Rattle.clauses.specs.Leaves.{waysOf, InTable}
-use Rattle.clauses.proofs.Loops.{forward, ended, fewer}
+use Rattle.clauses.proofs.Loops.{forward, ended, fewer, some-left, no-more}
 use Rattle.formula.proofs.Some.{any-first, any-rest}
 use Rattle.formula.proofs.child.occurs.Statement.{statement}
 use Rattle.formula.proofs.child.occurs.Tie as tie
@@ -29,8 +29,11 @@ abbrev μ-loop : tie.MeasureT-loop
 loop-holds : tie.Need-loop-holds Inv-loop μ-loop
 loop-holds c = (c .before .before .pre, refl)
 
+none-left-requires : tie.Need-none-left-requires Inv-loop μ-loop
+none-left-requires c κs = search needs
+
 taken-requires : tie.Need-taken-requires Inv-loop μ-loop
-taken-requires c κs = (c .before .before .loop .inv .0, c .if1 .taken)
+taken-requires c κs = (c .before .before .loop .inv .0, some-left (c .before .none-left .ensures) (c .if1 .taken))
 
 names-requires : tie.Need-names-requires Inv-loop μ-loop
 names-requires c κs = search needs
@@ -67,7 +70,7 @@ returns-2 : tie.Need-returns-2 Inv-loop μ-loop
 unfolding occurs any
 returns-2 c =
     let l = c .before .before .loop in
-    (ended _ _ (l .left) (any (names (c .before .before .before .before .before .args .f))) (c .if1 .left) (l .inv .1), λ t. absurd (true≢false (sym t)))
+    (ended _ _ (l .left) (any (names (c .before .before .before .before .before .args .f))) (no-more (c .before .none-left .ensures) (c .if1 .left)) (l .inv .1), λ t. absurd (true≢false (sym t)))
 
 pub occurs-spec : {M : Type 1} → statement M
 occurs-spec =
@@ -76,6 +79,7 @@ occurs-spec =
     Inv-loop
     μ-loop
     loop-holds
+    none-left-requires
     taken-requires
     names-requires
     returns

@@ -10,7 +10,7 @@ use lib.Bits.{and-le-r}
 use lib.Count.{trailingZeros, trailing-le}
 use Rattle.rules.specs.declared.Way.{Way}
 use Rattle.clauses.specs.Leaves.{waysOf, InTable}
-use Rattle.clauses.proofs.Loops.{none-left, few, fewer}
+use Rattle.clauses.proofs.Loops.{none-left, few, fewer, some-left, no-more}
 use Rattle.clauses.proofs.First.{lowest-below}
 use Rattle.formula.proofs.Counted.{Counting, begun, small, taken-up, counted, all-counted}
 use Rattle.formula.proofs.choice.counts.Statement.{statement}
@@ -51,8 +51,11 @@ below c = lowest-below 64 (c .before .loop2 .m) (omega arith) (inside (c .before
 loop-holds : tie.Need-loop-holds Inv-loop2 μ-loop2 Inv-loop μ-loop
 loop-holds c = (c .before .before .pre, begun _)
 
+none-left-requires : tie.Need-none-left-requires Inv-loop2 μ-loop2 Inv-loop μ-loop
+none-left-requires c κs = search needs
+
 taken-requires : tie.Need-taken-requires Inv-loop2 μ-loop2 Inv-loop μ-loop
-taken-requires c κs = search needs
+taken-requires c κs = (c .before .before .loop .inv .0, some-left (c .before .none-left .ensures) (c .if1 .taken))
 
 faults-requires : tie.Need-faults-requires Inv-loop2 μ-loop2 Inv-loop μ-loop
 faults-requires c κs = search needs
@@ -96,7 +99,7 @@ loop2-again c = λ all inv. let l = c .before .loop2 in counted _ _ (l .n) (l .m
 returns : tie.Need-returns Inv-loop2 μ-loop2 Inv-loop μ-loop
 returns c =
     let l = c .before .before .loop in
-    all-counted _ _ (l .n) (none-left _ _ (l .left) (c .if1 .left)) (l .inv .1)
+    all-counted _ _ (l .n) (none-left _ _ (l .left) (no-more (c .before .none-left .ensures) (c .if1 .left))) (l .inv .1)
 
 pub counts-spec : {M : Type 1} → statement M
 counts-spec =
@@ -107,6 +110,7 @@ counts-spec =
     Inv-loop
     μ-loop
     loop-holds
+    none-left-requires
     taken-requires
     faults-requires
     loop2-holds

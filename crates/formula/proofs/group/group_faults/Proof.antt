@@ -74,11 +74,14 @@ Inv-loop present absent c word₀ left₀ word left = passes left word (waysOf p
 abbrev μ-loop : tie.MeasureT-loop
 μ-loop present absent c word₀ left₀ word left = left
 
+none-left-requires : tie.Need-none-left-requires Inv-loop μ-loop
+none-left-requires c κs = search needs
+
 returns : tie.Need-returns Inv-loop μ-loop
-returns c = sym (ap groupFaults (none-left _ _ (c .before .before .before .before .args .c) (c .if1 .taken)))
+returns c = sym (ap groupFaults (none-left _ _ (c .before .before .before .before .args .c) (sym (c .before .none-left .ensures) ∙ c .if1 .taken)))
 
 taken-requires : tie.Need-taken-requires Inv-loop μ-loop
-taken-requires c κs = (c .before .before .before .before .pre, c .if1 .left)
+taken-requires c κs = (c .before .before .before .before .pre, sym (c .before .none-left .ensures) ∙ c .if1 .left)
 
 faults-requires : tie.Need-faults-requires Inv-loop μ-loop
 faults-requires c κs = search needs
@@ -120,6 +123,7 @@ group-faults-spec =
     (tie.spec
     Inv-loop
     μ-loop
+    none-left-requires
     returns
     taken-requires
     faults-requires

@@ -10,7 +10,7 @@ use lib.ListN.{length}
 use Rattle.rules.specs.declared.Way.{Way}
 use Rattle.rules.specs.Group.{touches, part, nonempty}
 use Rattle.clauses.specs.Leaves.{waysOf, InTable}
-use Rattle.clauses.proofs.Loops.{forward, ended, fewer}
+use Rattle.clauses.proofs.Loops.{forward, ended, fewer, some-left, no-more}
 use Rattle.formula.proofs.group.leaves_one.Statement.{statement}
 use Rattle.formula.proofs.group.leaves_one.Tie as tie
 
@@ -37,8 +37,11 @@ abbrev μ-loop : tie.MeasureT-loop
 loop-holds : tie.Need-loop-holds Inv-loop μ-loop
 loop-holds c = (c .before .before .pre, refl)
 
+none-left-requires : tie.Need-none-left-requires Inv-loop μ-loop
+none-left-requires c κs = search needs
+
 taken-requires : tie.Need-taken-requires Inv-loop μ-loop
-taken-requires c κs = (c .before .before .loop .inv .0, c .if1 .taken)
+taken-requires c κs = (c .before .before .loop .inv .0, some-left (c .before .none-left .ensures) (c .if1 .taken))
 
 touches-requires : tie.Need-touches-requires Inv-loop μ-loop
 touches-requires c κs = search needs
@@ -73,7 +76,7 @@ returns-2 : tie.Need-returns-2 Inv-loop μ-loop
 unfolding nonempty
 returns-2 c =
     let l = c .before .before .loop in
-    ended _ _ (l .left) (one-left (c .before .before .before .before .before .args .m)) (c .if1 .left) (l .inv .1)
+    ended _ _ (l .left) (one-left (c .before .before .before .before .before .args .m)) (no-more (c .before .none-left .ensures) (c .if1 .left)) (l .inv .1)
 
 pub leaves-one-spec : {M : Type 1} → statement M
 leaves-one-spec =
@@ -82,6 +85,7 @@ leaves-one-spec =
     Inv-loop
     μ-loop
     loop-holds
+    none-left-requires
     taken-requires
     touches-requires
     returns

@@ -5,7 +5,7 @@ use borrow.Author.Needs.{needs}
 use lib.ListN.{length}
 use Rattle.rules.specs.Group.{pass}
 use Rattle.clauses.specs.Leaves.{waysOf, InTable}
-use Rattle.clauses.proofs.Loops.{forward, ended, fewer}
+use Rattle.clauses.proofs.Loops.{forward, ended, fewer, some-left, no-more}
 use Rattle.formula.proofs.group.pass.Statement.{statement}
 use Rattle.formula.proofs.group.pass.Tie as tie
 
@@ -19,8 +19,11 @@ abbrev μ-loop : tie.MeasureT-loop
 loop-holds : tie.Need-loop-holds Inv-loop μ-loop
 loop-holds c = (c .before .before .pre, refl)
 
+none-left-requires : tie.Need-none-left-requires Inv-loop μ-loop
+none-left-requires c κs = search needs
+
 taken-requires : tie.Need-taken-requires Inv-loop μ-loop
-taken-requires c κs = (c .before .before .loop .inv .0, c .if1 .taken)
+taken-requires c κs = (c .before .before .loop .inv .0, some-left (c .before .none-left .ensures) (c .if1 .taken))
 
 absorb-requires : tie.Need-absorb-requires Inv-loop μ-loop
 absorb-requires c κs = search needs
@@ -38,7 +41,7 @@ loop-again c =
     (t .ensures .within, rw (c .absorb .ensures) (forward _ _ (l .left) (pass (l .word)) (t .result) (t .ensures) (l .inv .1)))
 
 returns : tie.Need-returns Inv-loop μ-loop
-returns c = let l = c .before .before .loop in ended _ _ (l .left) (pass (l .word)) (c .if1 .left) (l .inv .1)
+returns c = let l = c .before .before .loop in ended _ _ (l .left) (pass (l .word)) (no-more (c .before .none-left .ensures) (c .if1 .left)) (l .inv .1)
 
 pub pass-spec : {M : Type 1} → statement M
 pass-spec =
@@ -47,6 +50,7 @@ pass-spec =
     Inv-loop
     μ-loop
     loop-holds
+    none-left-requires
     taken-requires
     absorb-requires
     loop-less

@@ -8,7 +8,7 @@ use lib.ListN.{length}
 use Rattle.rules.specs.Rounding.{S}
 use Rattle.rules.specs.Leaf.{chances}
 use Rattle.clauses.specs.Leaves.{waysOf, InTable}
-use Rattle.clauses.proofs.Loops.{few, fewer, forward, ended}
+use Rattle.clauses.proofs.Loops.{few, fewer, forward, ended, some-left, no-more}
 use Rattle.formula.proofs.leaf.leaf_high.Statement.{statement}
 use Rattle.formula.proofs.leaf.leaf_high.Tie as tie
 
@@ -27,15 +27,18 @@ whole : (c : tie.Else1 Inv-loop μ-loop)
 whole c =
     let l = c .before .before .loop in
     let a = c .before .before .before .before .before .before .args in
-    ended (a .present .now) (a .absent .now) (l .left) (λ vs. l .sum + chances (a .weights .now) vs) (c .if1 .left) (l .inv .2)
+    ended (a .present .now) (a .absent .now) (l .left) (λ vs. l .sum + chances (a .weights .now) vs) (no-more (c .before .none-left .ensures) (c .if1 .left)) (l .inv .2)
 
 loop-holds : tie.Need-loop-holds Inv-loop μ-loop
 loop-holds c =
     let w = c .before .before .before .pre .1 .1 in
     (w, omega (arith, few _ _ _ w), omega arith)
 
+none-left-requires : tie.Need-none-left-requires Inv-loop μ-loop
+none-left-requires c κs = search needs
+
 taken-requires : tie.Need-taken-requires Inv-loop μ-loop
-taken-requires c κs = search needs
+taken-requires c κs = (c .before .before .loop .inv .0, some-left (c .before .none-left .ensures) (c .if1 .taken))
 
 chance-requires : tie.Need-chance-requires Inv-loop μ-loop
 chance-requires c κs = search needs
@@ -72,6 +75,7 @@ leaf-high-spec =
     Inv-loop
     μ-loop
     loop-holds
+    none-left-requires
     taken-requires
     chance-requires
     add-sum

@@ -14,8 +14,8 @@ use Rattle.rules.specs.Table.{faults}
 use Rattle.rules.specs.Leaf.{chance, either, eitherAll, leafLow}
 use Rattle.clauses.specs.declared.Clauses.{Clauses}
 use Rattle.clauses.specs.declared.Taken.{Taken}
-use Rattle.clauses.specs.Leaves.{waysOf, InTable, Takes}
-use Rattle.clauses.proofs.Loops.{few, fewer, forward, ended}
+use Rattle.clauses.specs.Leaves.{waysOf, noneLeft, InTable, Takes}
+use Rattle.clauses.proofs.Loops.{few, fewer, forward, ended, some-left, no-more}
 use Rattle.formula.proofs.KeptWords.{hits, keepWords, kept-words, keep-passed, keep-taken, hit, miss, stored}
 use Rattle.formula.proofs.leaf.leaf_low.Statement.{statement}
 use Rattle.formula.proofs.leaf.leaf_low.Tie as tie
@@ -42,7 +42,7 @@ module _ (ws ps qs : List ℕ) (c : Clauses) where
 
   module _ (kept : List ℕ) (k low : ℕ) (left : Clauses) (inv : Keeping ws ps qs c kept k low left) where
     -- No way is left.
-    finished : bitOr (left .waysa) (left .waysb) ≡ 0 → low ≡ leafLow ws (waysOf ps qs c)
+    finished : noneLeft left ≡ true → low ≡ leafLow ws (waysOf ps qs c)
     finished h = ended ps qs left (λ vs. eitherAll ws (keepWords (take k kept) vs) low) h (inv .rest)
 
     -- One turn, with the word m of the way that is taken off.
@@ -97,8 +97,11 @@ abbrev μ-ways : tie.MeasureT-ways
 ways-holds : tie.Need-ways-holds Inv-loop μ-loop Inv-ways μ-ways
 ways-holds c = start _ _ _ _ (c .before .before .before .pre .1 .1)
 
+none-left-requires : tie.Need-none-left-requires Inv-loop μ-loop Inv-ways μ-ways
+none-left-requires c κs = search needs
+
 taken-requires : tie.Need-taken-requires Inv-loop μ-loop Inv-ways μ-ways
-taken-requires c κs = search needs
+taken-requires c κs = (c .before .before .ways .inv .within, some-left (c .before .none-left .ensures) (c .if1 .taken))
 
 faults-requires : tie.Need-faults-requires Inv-loop μ-loop Inv-ways μ-ways
 faults-requires c κs = search needs
@@ -169,7 +172,7 @@ ways-again-2 c =
 returns : tie.Need-returns Inv-loop μ-loop Inv-ways μ-ways
 returns c =
     let w = c .before .before .ways in
-    (finished _ _ _ _ (w .kept) (w .k) (w .low) (w .left) (w .inv) (c .if1 .left), w .inv .small)
+    (finished _ _ _ _ (w .kept) (w .k) (w .low) (w .left) (w .inv) (no-more (c .before .none-left .ensures) (c .if1 .left)), w .inv .small)
 
 pub leaf-low-spec : {M : Type 1} → statement M
 leaf-low-spec =
@@ -180,6 +183,7 @@ leaf-low-spec =
     Inv-ways
     μ-ways
     ways-holds
+    none-left-requires
     taken-requires
     faults-requires
     loop-holds

@@ -14,7 +14,7 @@ use Rattle.rules.specs.Table.{faults}
 use Rattle.rules.specs.Leaf.{any, isEmpty}
 use Rattle.rules.proofs.Booleans.{and-false, and-true}
 use Rattle.clauses.specs.Leaves.{waysOf, InTable}
-use Rattle.clauses.proofs.Loops.{few, fewer, forward, ended}
+use Rattle.clauses.proofs.Loops.{few, fewer, forward, ended, some-left, no-more}
 use Rattle.formula.proofs.Some.{any-first, any-rest}
 use Rattle.formula.proofs.leaf.several.Statement.{statement}
 use Rattle.formula.proofs.leaf.several.Tie as tie
@@ -37,8 +37,11 @@ none vs n l e = ap (leb 2) l ∙ sym (ap (λ (b : Bool). leb 2 (length vs) && no
 loop-holds : tie.Need-loop-holds Inv-loop μ-loop
 loop-holds c = (c .before .before .pre, omega arith, refl)
 
+none-left-requires : tie.Need-none-left-requires Inv-loop μ-loop
+none-left-requires c κs = search needs
+
 taken-requires : tie.Need-taken-requires Inv-loop μ-loop
-taken-requires c κs = search needs
+taken-requires c κs = (c .before .before .loop .inv .0, some-left (c .before .none-left .ensures) (c .if1 .taken))
 
 faults-requires : tie.Need-faults-requires Inv-loop μ-loop
 faults-requires c κs = search needs
@@ -86,8 +89,8 @@ returns-2 c =
     let ps = a .present .now in
     let qs = a .absent .now in
     none (waysOf ps qs (a .c)) (l .n)
-    (omega (arith, ended ps qs (l .left) (λ vs. l .n + length vs) (c .if1 .left) (l .inv .1)))
-    (sym (ended ps qs (l .left) (any isEmpty) (c .if1 .left) (l .inv .2)))
+    (omega (arith, ended ps qs (l .left) (λ vs. l .n + length vs) (no-more (c .before .none-left .ensures) (c .if1 .left)) (l .inv .1)))
+    (sym (ended ps qs (l .left) (any isEmpty) (no-more (c .before .none-left .ensures) (c .if1 .left)) (l .inv .2)))
 
 pub several-spec : {M : Type 1} → statement M
 several-spec =
@@ -96,6 +99,7 @@ several-spec =
     Inv-loop
     μ-loop
     loop-holds
+    none-left-requires
     taken-requires
     faults-requires
     returns
