@@ -62,8 +62,8 @@ fn answer(best: Best) -> Spot
 
 /// The first position with the widest open leaf in lent records, or that there is none.
 pub fn widest(records: &[Node]) -> Spot
-    ensures { λ r. ⌜ r ≡ widestOf (now (records .entry)) ⌝ }
-    ensures { λ r. ⌜ WidestLaw (now (records .entry)) r ⌝ }
+    ensures answer { λ r. ⌜ r ≡ widestOf (now (records .entry)) ⌝ }
+    ensures law { λ r. ⌜ WidestLaw (now (records .entry)) r ⌝ }
 {
     let mut best = start();
     let mut i: usize = 0;
@@ -76,16 +76,16 @@ pub fn widest(records: &[Node]) -> Spot
 
 /// The same of records by value.
 pub fn widest_in(records: [Node; 511]) -> Spot
-    ensures { λ r. ⌜ r ≡ widestOf records ⌝ }
-    ensures { λ r. ⌜ WidestLaw records r ⌝ }
+    ensures answer { λ r. ⌜ r ≡ widestOf records ⌝ }
+    ensures law { λ r. ⌜ WidestLaw records r ⌝ }
 {
     widest(&records)
 }
 
 /// The same of a tree.
 pub fn widest_of(tree: Tree) -> Spot
-    ensures { λ r. ⌜ r ≡ widestOf (tree .nodes) ⌝ }
-    ensures { λ r. ⌜ WidestLaw (tree .nodes) r ⌝ }
+    ensures answer { λ r. ⌜ r ≡ widestOf (tree .nodes) ⌝ }
+    ensures law { λ r. ⌜ WidestLaw (tree .nodes) r ⌝ }
 {
     let records = tree.nodes;
     widest_in(records)
