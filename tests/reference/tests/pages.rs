@@ -1,5 +1,6 @@
-//! What the pages cite is there: every path is a file or a folder of the repository, and every name that stands before a path in
-//! parentheses, as in `leafLow` (rules/specs/Leaf.antt), is a word of that file. Paths are from the root, from crates/ or from the page.
+//! What the pages cite is there: every path is a file of the repository, and every name that stands before one, as in
+//! `leafLow` (rules/specs/Leaf.antt) or (`leafLow`, rules/specs/Leaf.antt), is a word of it. Paths are from the root, from crates/ or
+//! from the page.
 
 use std::fs;
 use std::path::{Path, PathBuf};
@@ -69,35 +70,45 @@ fn names_before(text: &str) -> Vec<&str> {
     }
 }
 
+/// The paths of a page, those side by side together: where the first starts, and each.
+fn paths(text: &str) -> Vec<(usize, Vec<&str>)> {
+    let mut groups: Vec<(usize, Vec<&str>)> = Vec::new();
+    let mut end = 0;
+    for word in text.split(|letter| !of_path(letter)) {
+        let at = word.as_ptr() as usize - text.as_ptr() as usize;
+        let path = word.trim_end_matches('.');
+        if !is_path(path) {
+            continue;
+        }
+        match groups.last_mut() {
+            Some((_, group)) if text[end..at].trim() == "," => group.push(path),
+            _ => groups.push((at, vec![path])),
+        }
+        end = at + path.len();
+    }
+    groups
+}
+
 /// What is wrong with the citations of one page, and how many it has.
 fn amiss(root: &Path, page: &Path) -> (usize, Vec<String>) {
     let text = fs::read_to_string(page).expect("a page");
     let (mut cited, mut said) = (0, Vec::new());
-    for (at, _) in text.match_indices('(') {
-        let Some(end) = text[at..].find(')') else { continue };
-        let inside = &text[at + 1..at + end];
-        let paths: Vec<&str> = inside.split([',', ' ', '\n']).filter(|word| !word.is_empty()).collect();
-        if paths.is_empty() || !paths.iter().all(|path| is_path(path)) || text[..at].ends_with(']') {
-            continue;
-        }
-        let files: Vec<String> = paths
-            .iter()
-            .filter_map(|path| resolved(root, page, path))
-            .filter_map(|file| fs::read_to_string(file).ok())
-            .collect();
-        for name in names_before(&text[..at]) {
+    for (at, group) in paths(&text) {
+        let mut files = Vec::new();
+        for path in group.iter().filter(|path| !path.starts_with("target/")) {
             cited += 1;
-            if !files.iter().any(|file| has_word(file, name)) {
-                said.push(format!("{}: no `{name}` in {inside}", page.display()));
+            match resolved(root, page, path) {
+                Some(file) => files.extend(fs::read_to_string(file)),
+                None => said.push(format!("{}: no file {path}", page.display())),
             }
         }
-    }
-    for word in text.split(|letter| !of_path(letter)).filter(|word| is_path(word.trim_matches('.'))) {
-        cited += 1;
-        let path = word.trim_end_matches('.');
-        let made = path.starts_with("target/");
-        if !made && resolved(root, page, path).is_none() {
-            said.push(format!("{}: no file {path}", page.display()));
+        // A path that stands in backquotes itself cites no name.
+        let names = if text[..at].ends_with('`') { Vec::new() } else { names_before(&text[..at]) };
+        for name in names {
+            cited += 1;
+            if !files.iter().any(|file| has_word(file, name)) {
+                said.push(format!("{}: no `{name}` in {}", page.display(), group.join(", ")));
+            }
         }
     }
     (cited, said)
@@ -122,6 +133,7 @@ fn a_name_or_path_that_is_gone_is_noticed() {
     assert!(!has_word("low-le", "low") && has_word("(`low-le`)", "low-le"));
     assert_eq!(names_before("shown by `a`, `b` (`c`) and `d` "), ["d", "c", "b", "a"]);
     assert!(names_before("`a` by ").is_empty());
+    assert_eq!(paths("(`a`, x/y.rt, x/z.rt; `b` x/y.rt)."), [(6, vec!["x/y.rt", "x/z.rt"]), (26, vec!["x/y.rt"])]);
     assert!(is_path("rules/specs/Leaf.antt") && !is_path("rules/specs") && !is_path("Leaf.antt"));
     assert!(resolved(&root(), &root().join("docs/CLAIMS.md"), "rules/specs/Nowhere.antt").is_none());
 }
