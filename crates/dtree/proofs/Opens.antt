@@ -33,7 +33,7 @@ one-layout t = refl
 root-certain : (t : Table) → Accepted t → Certain t (answerReply (Answer.Accepted (figures t leaf [])))
 unfolding figures low high grow subtree seriesFrom descend
 root-certain t ok =
-    let c : rules-enclosure.Certain (t .weights) (record { node = root t; below = leaf }) = enclosure t ok [] refl [] _ refl in
+    let c : rules-enclosure.CertainAt (t .weights) (record { node = root t; below = leaf }) = enclosure t ok [] refl [] _ refl in
     record { encloses = root-encloses t ok [] refl; ordered = c .ordered; bounded = c .bounded }
 
 -- A number that is not 0 refuses.

@@ -7,7 +7,7 @@ use mathlib.Core.Option.{Option, none, some, Option·some-injective, Option·non
 use Rattle.rules.specs.Table.{Table}
 use Rattle.rules.specs.Tree.{Place, Refinement, tree, series, Subtree, subtree, Interval, interval, intervalAt}
 use Rattle.rules.specs.Refusals.{Accepted}
-use Rattle.rules.proofs.Enclosure.{Certain, enclosure}
+use Rattle.rules.proofs.Enclosure.{CertainAt, enclosure}
 use Rattle.records.specs.Records.{history, treeInterval, Good}
 use Rattle.records.specs.declared.Tree.{Tree}
 use Rattle.records.proofs.History.{history-layout}
@@ -20,7 +20,7 @@ pub record Stored (t : Table) (x : Tree) (p : Place) (i : Interval) : Type 0 whe
   pub there : subtree t p (tree (history x)) ≡ some node
   -- The interval is the rules' one there, and certain: it encloses the exact sum over the place's remaining ways, in order and at most S.
   pub by-the-rules : i ≡ interval (t .weights) node
-  pub certain : Certain (t .weights) node
+  pub certain : CertainAt (t .weights) node
 
 -- An interval that the tree of a series has at a place is what Stored says, for every tree of records that tells this series.
 on-series : (t : Table) → Accepted t → (ns : List Refinement) → series t ns ≡ true → (x : Tree) → history x ≡ ns → (p : Place) (i : Interval)
