@@ -1,0 +1,65 @@
+-- A promise of `dtree` about an answer, and the numbers of that answer, are the promise told in numbers.
+-- Rests on specs/Told.antt: a promise says which answer it is about.
+use mathlib.Core.Path.{_≡_, refl, ap, subst, _∙_}
+use mathlib.Core.List.{List}
+use Prim.Native.Nat.{ℕ, zero, suc}
+use Rattle.rules.specs.Answers.{countedBy}
+use Rattle.rules.specs.Table.{Table}
+use Rattle.rules.specs.Calls.{Outcome, handed, ran}
+use Rattle.rules.specs.declared.Kind.{Kind}
+use Rattle.rules.specs.declared.Limits.{Limits}
+use Rattle.rules.specs.declared.Answer.{Answer}
+use Rattle.rules.specs.declared.RunAnswer.{RunAnswer}
+use Rattle.records.specs.Library.{callOutcome}
+use Rattle.records.specs.declared.Tree.{Tree}
+use Rattle.dtree.specs.Promises.{Opening, Refining, Running}
+use Rattle.cuerisk.specs.Numbers.{flatAnswer, flatRun}
+use Rattle.cuerisk.specs.Told.{refineAnswer, runOnAnswer, OpeningTold, RefiningTold, RunningTold}
+use Rattle.cuerisk.specs.declared.CueAnswer.{CueAnswer}
+
+-- The answer that an outcome is of.
+abbrev answerIn : Outcome → Answer → Answer
+answerIn (handed a) b = a
+answerIn (ran a) b = b
+
+-- And the run's answer.
+abbrev runAnswerIn : Outcome → RunAnswer → RunAnswer
+runAnswerIn (handed a) b = b
+runAnswerIn (ran a) b = a
+
+-- An opening told in numbers.
+pub opening-told : (t : Table) (y : Tree) (a : Answer) (r : CueAnswer) → Opening t y a → r ≡ flatAnswer a → OpeningTold t y r
+opening-told t y a r p e =
+    record {
+      numbers = e ∙ ap flatAnswer (p .answer-is);
+      promise = subst (λ (b : Answer). Opening t y b) (p .answer-is) p;
+    }
+
+-- A hand refinement told in numbers.
+pub refining-told : (t : Table) (x : Tree) (bs : List ℕ) (k : Kind) (y : Tree) (a : Answer) (r : CueAnswer) → Refining t x bs k y a → r ≡ flatAnswer a
+    → RefiningTold t x bs k y r
+unfolding callOutcome
+refining-told t x bs k y a r p e =
+    record {
+      numbers = e ∙ ap flatAnswer same;
+      promise = subst (λ (b : Answer). Refining t x bs k y b) same p;
+    } where
+      same : a ≡ refineAnswer t x bs k
+      same = ap (λ (o : Outcome). answerIn o a) (p .call .outcome-is)
+
+-- A run told in numbers.
+pub running-told : (t : Table) (x : Tree) (m : Limits) (y : Tree) (a : RunAnswer) (r : CueAnswer) → Running t x m y a → r ≡ flatRun a → RunningTold t x m y r
+unfolding callOutcome
+running-told t x m y a r p e =
+    record {
+      numbers = e ∙ ap flatRun same;
+      promise = subst (λ (b : RunAnswer). Running t x m y b) same p;
+    } where
+      same : a ≡ runOnAnswer t x m
+      same = ap (λ (o : Outcome). runAnswerIn o a) (p .call .outcome-is)
+
+-- The number of a call on a sheet, in the reply that goes by it.
+pub counted-number : (n k : ℕ) → countedBy n k .number ≡ n
+unfolding countedBy
+counted-number zero k = refl
+counted-number (suc n) k = refl

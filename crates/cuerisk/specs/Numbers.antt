@@ -1,0 +1,88 @@
+-- The numbers that stand for each answer, and the refinement that numbers ask for.
+-- Every answer goes through `rules`, Answers: what is told is the reply of 01, with a code for the verdict.
+use mathlib.Core.Bool.{true, false}
+use mathlib.Core.Option.{Option, none, some}
+use Prim.Native.Nat.{ℕ}
+use lib.Dec.{eqb}
+use Rattle.rules.specs.Answers.{Reply, answerReply, runReply, runVerdict, readReply, entryReply, handedOver, writeReply}
+use Rattle.rules.specs.declared.Kind.{Kind}
+use Rattle.rules.specs.declared.Verdict.{Verdict}
+use Rattle.rules.specs.declared.Answer.{Answer}
+use Rattle.rules.specs.declared.RunAnswer.{RunAnswer}
+use Rattle.rules.specs.declared.Head.{Head}
+use Rattle.rules.specs.declared.ReadAnswer.{ReadAnswer}
+use Rattle.rules.specs.declared.EntryAnswer.{EntryAnswer}
+use Rattle.rules.specs.declared.WriteAnswer.{WriteAnswer}
+use Rattle.cuerisk.specs.declared.CueAnswer.{CueAnswer}
+use Rattle.page.specs.declared.Spot.{Spot}
+use Rattle.cuerisk.specs.declared.CueSpot.{CueSpot}
+use Rattle.cuerisk.specs.declared.CueSheet.{CueSheet}
+use Rattle.cuerisk.specs.declared.CueEntry.{CueEntry}
+
+-- The refinement asked for: 0 is independence, 1 the fault named. Any other number asks for fault 64, which no accepted table has.
+unfoldable pub kindAsked : ℕ → ℕ → Kind
+kindAsked what fault =
+    elim (eqb what 0) as (λ b. Kind)
+    [ true ↦ Kind.IndependentOr | false ↦ elim (eqb what 1) as (λ b. Kind) [ true ↦ Kind.Shannon fault | false ↦ Kind.Shannon 64 ] ]
+
+-- A verdict's code; 0 where there is none.
+abbrev pub verdictCode : Option Verdict → ℕ
+verdictCode none = 0
+verdictCode (some Verdict.Met) = 1
+verdictCode (some Verdict.Done) = 2
+verdictCode (some Verdict.Full) = 3
+verdictCode (some Verdict.Spent) = 4
+
+-- A reply and a verdict as numbers.
+abbrev pub flat : Reply → Option Verdict → CueAnswer
+flat r v = record { number = r .number; low = r .low; high = r .high; count = r .count; verdict = verdictCode v }
+
+-- The answer of an opening or a hand refinement.
+abbrev pub flatAnswer : Answer → CueAnswer
+flatAnswer a = flat (answerReply a) none
+
+-- The answer of a run.
+abbrev pub flatRun : RunAnswer → CueAnswer
+flatRun a = flat (runReply a) (runVerdict a)
+
+-- The answer of the writer and of the report.
+abbrev pub flatWrite : WriteAnswer → CueAnswer
+flatWrite a = flat (writeReply a) none
+
+-- What the search of lent records finds.
+abbrev pub flatSpot : Spot → CueSpot
+flatSpot (Spot.At i) = record { found = 1; at = i }
+flatSpot Spot.Nothing = record { found = 0; at = 0 }
+
+-- The head that reading a whole sheet hands over; refused, zeros.
+abbrev pub headHanded : ReadAnswer → Head
+headHanded (ReadAnswer.Sheet h) = h
+headHanded (ReadAnswer.Refused n) = record { faults = 0; cues = 0; limits = record { allowance = 0; budget = 0 } }
+
+-- The answer of reading a whole sheet.
+abbrev pub flatSheet : ReadAnswer → CueSheet
+flatSheet a =
+    record {
+      number = readReply a .number;
+      faults = headHanded a .faults;
+      cues = headHanded a .cues;
+      allowance = headHanded a .limits .allowance;
+      budget = headHanded a .limits .budget;
+    }
+
+-- Whether a reader's call was past the last cue.
+abbrev pub pastCode : EntryAnswer → ℕ
+pastCode (EntryAnswer.Cue e) = 0
+pastCode EntryAnswer.Past = 1
+pastCode (EntryAnswer.Refused n) = 0
+
+-- The answer of a reader's call.
+abbrev pub flatEntry : EntryAnswer → CueEntry
+flatEntry a =
+    record {
+      number = entryReply a .number;
+      past = pastCode a;
+      cue = handedOver a .cue;
+      ways = handedOver a .ways;
+      start = handedOver a .start;
+    }

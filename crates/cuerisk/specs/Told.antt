@@ -1,0 +1,78 @@
+-- What each call promises whose answer is told in numbers: the promise of the call that it stands for, whole, and the numbers of that very
+-- answer. Rests on Numbers.antt and Into.antt, on `dtree`, Promises, on `page`, Widest, and on `rules`, Sheet.
+use mathlib.Core.Path.{_≡_}
+use mathlib.Core.List.{List}
+use mathlib.Core.Option.{none}
+use Prim.Native.Nat.{ℕ}
+use lib.ListN.{length}
+use Rattle.rules.specs.Answers.{countedBy}
+use Rattle.rules.specs.Table.{Table}
+use Rattle.rules.specs.Tree.{tree}
+use Rattle.rules.specs.Calls.{openAnswer, handAnswer, runAnswer}
+use Rattle.rules.specs.Sheet.{Lists, sheetOf, encode, readNumber, readAnswer, entryAnswer, writeNumber, writeAnswer, written}
+use Rattle.rules.specs.Text.{text}
+use Rattle.rules.specs.declared.Kind.{Kind}
+use Rattle.rules.specs.declared.Limits.{Limits}
+use Rattle.rules.specs.declared.Answer.{Answer}
+use Rattle.rules.specs.declared.RunAnswer.{RunAnswer}
+use Rattle.records.specs.Records.{history, bad}
+use Rattle.records.specs.declared.Node.{Node}
+use Rattle.records.specs.declared.Tree.{Tree}
+use Rattle.dtree.specs.Promises.{Opening, Refining, Running}
+use Rattle.page.specs.Widest.{widestOf, WidestLaw}
+use Rattle.cuerisk.specs.Numbers.{flat, flatAnswer, flatRun, flatWrite, flatSpot, flatSheet, flatEntry}
+use Rattle.cuerisk.specs.Into.{reportNumber, reportAnswer, reported}
+use Rattle.cuerisk.specs.declared.CueAnswer.{CueAnswer}
+use Rattle.cuerisk.specs.declared.CueSpot.{CueSpot}
+use Rattle.cuerisk.specs.declared.CueSheet.{CueSheet}
+use Rattle.cuerisk.specs.declared.CueEntry.{CueEntry}
+
+-- The answer of a hand refinement on any tree, 16 judged by the records.
+abbrev pub refineAnswer : Table → Tree → List ℕ → Kind → Answer
+refineAnswer t x bs k = handAnswer t (bad t x) (tree (history x)) bs k
+
+-- The answer of a run on any tree.
+abbrev pub runOnAnswer : Table → Tree → Limits → RunAnswer
+runOnAnswer t x m = runAnswer t (bad t x) (tree (history x)) m
+
+-- AN OPENING of any table: the tree after it, and the numbers handed back.
+pub record OpeningTold (t : Table) (y : Tree) (r : CueAnswer) : Type 0 where
+  pub numbers : r ≡ flatAnswer (openAnswer t)
+  pub promise : Opening t y (openAnswer t)
+
+-- A HAND REFINEMENT on any table and any tree x.
+pub record RefiningTold (t : Table) (x : Tree) (bs : List ℕ) (k : Kind) (y : Tree) (r : CueAnswer) : Type 0 where
+  pub numbers : r ≡ flatAnswer (refineAnswer t x bs k)
+  pub promise : Refining t x bs k y (refineAnswer t x bs k)
+
+-- A RUN on any table and any tree x.
+pub record RunningTold (t : Table) (x : Tree) (m : Limits) (y : Tree) (r : CueAnswer) : Type 0 where
+  pub numbers : r ≡ flatRun (runOnAnswer t x m)
+  pub promise : Running t x m y (runOnAnswer t x m)
+
+-- THE SEARCH of any records.
+pub record SearchTold (xs : List Node) (r : CueSpot) : Type 0 where
+  pub numbers : r ≡ flatSpot (widestOf xs)
+  pub promise : WidestLaw xs (widestOf xs)
+
+-- READING a whole sheet: the numbers, and which number it is.
+pub record ReadingTold (bs : List ℕ) (r : CueSheet) : Type 0 where
+  pub numbers : r ≡ flatSheet (readAnswer bs)
+  pub number-is : r .number ≡ readNumber bs
+
+-- A READER'S CALL at any position.
+pub record EntryTold (bs : List ℕ) (i : ℕ) (r : CueEntry) : Type 0 where
+  pub numbers : r ≡ flatEntry (entryAnswer bs i)
+  pub number-is : r .number ≡ readNumber bs
+
+-- WRITING the sheet that lists give into a space: the numbers, the number and the bytes that they count, and the space afterwards.
+pub record WritingTold (x : Lists) (before after : List ℕ) (r : CueAnswer) : Type 0 where
+  pub numbers : r ≡ flatWrite (writeAnswer x (length before))
+  pub counts : r ≡ flat (countedBy (writeNumber x (length before)) (length (encode (sheetOf x)))) none
+  pub space : after ≡ written x before
+
+-- REPORTING on a sheet into a space.
+pub record ReportingTold (bs before after : List ℕ) (r : CueAnswer) : Type 0 where
+  pub numbers : r ≡ flatWrite (reportAnswer bs (length before))
+  pub counts : r ≡ flat (countedBy (reportNumber bs (length before)) (length (text bs))) none
+  pub space : after ≡ reported bs before

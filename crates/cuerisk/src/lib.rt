@@ -1,0 +1,161 @@
+//! The C interface (include/cue_risk.h): trees, slices and spaces are lent and written where they are, answers are handed back as plain numbers.
+//! Each export is one call of `dtree`, `page`, `sheet`, `writer` or `report`, and carries its promise whole (specs/Told.antt); specs/Numbers.antt
+//! says which numbers stand for which answer. No enum crosses this border.
+mod numbers;
+mod reports;
+
+ghost use mathlib.Core.Path.{_≡_};
+ghost use Rattle.rules.specs.Table.{table};
+ghost use Rattle.store.specs.Lent.{treeOf};
+ghost use Rattle.writer.specs.Given.{given};
+ghost use Rattle.cuerisk.specs.Numbers.{kindAsked};
+ghost use Rattle.cuerisk.specs.Told.{OpeningTold, RefiningTold, RunningTold, SearchTold, ReadingTold, EntryTold, WritingTold, ReportingTold};
+use numbers::kind_asked;
+use numbers::of_answer;
+use numbers::of_entry;
+use numbers::of_read;
+use numbers::of_run;
+use numbers::of_spot;
+use numbers::of_write;
+use records::Node;
+use reports::put_text;
+use rules::Limits;
+use store::Words;
+
+/// The answer of a call on a tree, of the writer and of the report. `verdict` is 0 none, 1 met, 2 done, 3 full, 4 spent.
+#[repr(C)]
+pub struct CueAnswer {
+    pub number: u64,
+    pub low: u64,
+    pub high: u64,
+    pub count: u64,
+    pub verdict: u64,
+}
+
+/// The answer of the search of lent records: 1 and the position, or 0 and 0.
+#[repr(C)]
+pub struct CueSpot {
+    pub found: u64,
+    pub at: usize,
+}
+
+/// The answer of reading a whole sheet: its head, or the number that refuses it and zeros.
+#[repr(C)]
+pub struct CueSheet {
+    pub number: u64,
+    pub faults: u64,
+    pub cues: u64,
+    pub allowance: u64,
+    pub budget: u64,
+}
+
+/// The answer of a reader's call: a cue; past the last cue `past` is 1 and the rest 0; refused, the number and zeros.
+#[repr(C)]
+pub struct CueEntry {
+    pub number: u64,
+    pub past: u64,
+    pub cue: u64,
+    pub ways: u64,
+    pub start: u64,
+}
+
+/// Opens a table. What the tree held before does not matter; refused, it is left without nodes.
+#[no_mangle]
+pub extern "C" fn cue_open(
+    tree: &mut Words,
+    weights: &[u32],
+    present: &[u64],
+    absent: &[u64],
+) -> CueAnswer
+    ensures promise { λ r. ⌜ OpeningTold (table (now (weights .entry)) (now (present .entry)) (now (absent .entry)))
+        (treeOf (now (tree .exit))) r ⌝ }
+{
+    of_answer(dtree::opening::open(weights, present, absent, tree))
+}
+
+/// Refines one leaf of the tree. The place is a list of steps from the root, 0 for left and 1 for right; `what` is 0 for
+/// independence and 1 for the fault.
+#[no_mangle]
+pub extern "C" fn cue_refine(
+    tree: &mut Words,
+    weights: &[u32],
+    present: &[u64],
+    absent: &[u64],
+    place: &[u8],
+    what: u8,
+    fault: u32,
+) -> CueAnswer
+    ensures promise { λ r. ⌜ RefiningTold (table (now (weights .entry)) (now (present .entry)) (now (absent .entry)))
+        (treeOf (now (tree .entry))) (now (place .entry)) (kindAsked what fault) (treeOf (now (tree .exit))) r ⌝ }
+{
+    let kind = kind_asked(what, fault);
+    of_answer(dtree::refining::refine(weights, present, absent, tree, place, kind))
+}
+
+/// Makes a run on the tree.
+#[no_mangle]
+pub extern "C" fn cue_run(
+    tree: &mut Words,
+    weights: &[u32],
+    present: &[u64],
+    absent: &[u64],
+    allowance: u32,
+    budget: u16,
+) -> CueAnswer
+    ensures promise { λ r. ⌜ RunningTold (table (now (weights .entry)) (now (present .entry)) (now (absent .entry)))
+        (treeOf (now (tree .entry))) (record { allowance = allowance; budget = budget }) (treeOf (now (tree .exit))) r ⌝ }
+{
+    let limits = Limits { allowance, budget };
+    of_run(dtree::runs::run(weights, present, absent, tree, limits))
+}
+
+/// The first position with the widest open leaf in any records.
+#[no_mangle]
+pub extern "C" fn cue_widest(records: &[Node]) -> CueSpot
+    ensures promise { λ r. ⌜ SearchTold (now (records .entry)) r ⌝ }
+{
+    of_spot(page::widest(records))
+}
+
+/// Reads a whole sheet.
+#[no_mangle]
+pub extern "C" fn cue_sheet_check(sheet: &[u8]) -> CueSheet
+    ensures promise { λ r. ⌜ ReadingTold (now (sheet .entry)) r ⌝ }
+{
+    of_read(sheet::reader::read(sheet))
+}
+
+/// The cue at a position of a sheet's contents.
+#[no_mangle]
+pub extern "C" fn cue_sheet_cue(sheet: &[u8], position: usize) -> CueEntry
+    ensures promise { λ r. ⌜ EntryTold (now (sheet .entry)) position r ⌝ }
+{
+    of_entry(sheet::reader::cue_at(sheet, position))
+}
+
+/// Writes the sheet that the lists give to the front of the space.
+#[no_mangle]
+pub extern "C" fn cue_sheet_write(
+    weights: &[u32],
+    numbers: &[u16],
+    counts: &[u16],
+    present: &[u64],
+    absent: &[u64],
+    allowance: u32,
+    budget: u16,
+    space: &mut [u8],
+) -> CueAnswer
+    ensures promise { λ r. ⌜ WritingTold (given (now (weights .entry)) (now (numbers .entry)) (now (counts .entry)) (now (present .entry)) (now (absent .entry))
+        (record { allowance = allowance; budget = budget })) (now (space .entry)) (now (space .exit)) r ⌝ }
+{
+    let limits = Limits { allowance, budget };
+    of_write(writer::write(weights, numbers, counts, present, absent, limits, space))
+}
+
+/// Puts the text that is printed for the bytes, read as a sheet, to the front of the space.
+#[no_mangle]
+pub extern "C" fn cue_sheet_report(sheet: &[u8], space: &mut [u8]) -> CueAnswer
+    ensures promise { λ r. ⌜ ReportingTold (now (sheet .entry)) (now (space .entry)) (now (space .exit)) r ⌝ }
+{
+    of_write(put_text(sheet, space))
+}

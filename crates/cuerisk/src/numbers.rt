@@ -1,0 +1,170 @@
+//! The numbers of each answer, and the refinement that numbers ask for.
+//! Rests on the definitions of specs/Numbers.antt, which go through `rules`, Answers.
+ghost use mathlib.Core.Path.{_≡_};
+ghost use mathlib.Core.Option.{some, none};
+ghost use Rattle.rules.specs.Answers.{refused};
+ghost use Rattle.cuerisk.specs.Numbers.{verdictCode, kindAsked, flat, flatAnswer, flatRun, flatSpot, flatSheet, flatEntry, flatWrite};
+use super::CueAnswer;
+use super::CueEntry;
+use super::CueSheet;
+use super::CueSpot;
+use page::Spot;
+use rules::Answer;
+use rules::EntryAnswer;
+use rules::Figures;
+use rules::Kind;
+use rules::ReadAnswer;
+use rules::RunAnswer;
+use rules::Verdict;
+use rules::WriteAnswer;
+
+/// The refinement asked for: 0 is independence, 1 the fault. Any other number asks for fault 64, which no table has: 20.
+pub fn kind_asked(what: u8, fault: u32) -> Kind
+    ensures { λ r. ⌜ r ≡ kindAsked what fault ⌝ }
+{
+    if what == 0 {
+        return Kind::IndependentOr;
+    }
+    if what == 1 {
+        return Kind::Shannon(fault);
+    }
+    Kind::Shannon(64)
+}
+
+/// A verdict's code.
+fn verdict_code(v: Verdict) -> u64
+    ensures { λ r. ⌜ r ≡ verdictCode (some v) ⌝ }
+{
+    match v {
+        Verdict::Met => 1,
+        Verdict::Done => 2,
+        Verdict::Full => 3,
+        Verdict::Spent => 4,
+    }
+}
+
+/// A refused call.
+fn refused(n: u8) -> CueAnswer
+    ensures { λ r. ⌜ r ≡ flat (refused n) none ⌝ }
+{
+    CueAnswer {
+        number: n as u64,
+        low: 0,
+        high: 1000000000,
+        count: 0,
+        verdict: 0,
+    }
+}
+
+/// An accepted call on a tree, with its verdict's code.
+fn accepted(f: Figures, verdict: u64) -> CueAnswer
+    ensures { λ r. ⌜ r ≡ record { number = 0; low = f .low; high = f .high; count = f .count; verdict = verdict } ⌝ }
+{
+    CueAnswer {
+        number: 0,
+        low: f.low,
+        high: f.high,
+        count: f.count,
+        verdict,
+    }
+}
+
+/// The numbers of an opening's or a hand refinement's answer.
+pub fn of_answer(a: Answer) -> CueAnswer
+    ensures { λ r. ⌜ r ≡ flatAnswer a ⌝ }
+{
+    match a {
+        Answer::Accepted(f) => accepted(f, 0),
+        Answer::Refused(n) => refused(n),
+    }
+}
+
+/// The numbers of a run's answer.
+pub fn of_run(a: RunAnswer) -> CueAnswer
+    ensures { λ r. ⌜ r ≡ flatRun a ⌝ }
+{
+    match a {
+        RunAnswer::Ended(v, f) => accepted(f, verdict_code(v)),
+        RunAnswer::Refused(n) => refused(n),
+    }
+}
+
+/// The numbers of what the search finds.
+pub fn of_spot(s: Spot) -> CueSpot
+    ensures { λ r. ⌜ r ≡ flatSpot s ⌝ }
+{
+    match s {
+        Spot::At(i) => CueSpot { found: 1, at: i },
+        Spot::Nothing => CueSpot { found: 0, at: 0 },
+    }
+}
+
+/// The numbers of reading a whole sheet.
+pub fn of_read(a: ReadAnswer) -> CueSheet
+    ensures { λ r. ⌜ r ≡ flatSheet a ⌝ }
+{
+    match a {
+        ReadAnswer::Sheet(h) => {
+            let m = h.limits;
+            CueSheet {
+                number: 0,
+                faults: h.faults as u64,
+                cues: h.cues as u64,
+                allowance: m.allowance as u64,
+                budget: m.budget as u64,
+            }
+        }
+        ReadAnswer::Refused(n) => CueSheet {
+            number: n as u64,
+            faults: 0,
+            cues: 0,
+            allowance: 0,
+            budget: 0,
+        },
+    }
+}
+
+/// The numbers of a reader's call.
+pub fn of_entry(a: EntryAnswer) -> CueEntry
+    ensures { λ r. ⌜ r ≡ flatEntry a ⌝ }
+{
+    match a {
+        EntryAnswer::Cue(e) => CueEntry {
+            number: 0,
+            past: 0,
+            cue: e.cue as u64,
+            ways: e.ways as u64,
+            start: e.start as u64,
+        },
+        EntryAnswer::Past => CueEntry {
+            number: 0,
+            past: 1,
+            cue: 0,
+            ways: 0,
+            start: 0,
+        },
+        EntryAnswer::Refused(n) => CueEntry {
+            number: n as u64,
+            past: 0,
+            cue: 0,
+            ways: 0,
+            start: 0,
+        },
+    }
+}
+
+/// The numbers of the writer's answer.
+pub fn of_write(a: WriteAnswer) -> CueAnswer
+    ensures { λ r. ⌜ r ≡ flatWrite a ⌝ }
+{
+    match a {
+        WriteAnswer::Written(n) => CueAnswer {
+            number: 0,
+            low: 0,
+            high: 1000000000,
+            count: n,
+            verdict: 0,
+        },
+        WriteAnswer::Refused(n) => refused(n),
+    }
+}
