@@ -1,29 +1,33 @@
 -- What a hand refinement and a run promise, shown of their definitions, for every table and tree.
--- Rests on `records`, ByTheRules: on a good tree a call goes by the rules.
+-- Rests on `records`, ByTheRules: on a good tree a call goes by the rules; and on Stored.antt for every place.
 use mathlib.Core.Path.{_≡_, refl, sym, ap, ap₂, subst, _∙_}
 use mathlib.Core.Bool.{Bool, true, false}
 use mathlib.Core.List.{List, [], _∷_, _++_}
+use mathlib.Core.Option.{some}
 use Prim.Native.Nat.{ℕ, zero, suc}
 use native.Mathlib.Omega.{arith}
 use borrow.Author.Tests.{not-false}
 use lib.ListN.{length-append}
 use Rattle.rules.specs.Table.{Table}
-use Rattle.rules.specs.Tree.{Refinement, tree, low, high, series, subtree, descend}
+use Rattle.rules.specs.Tree.{DTree, leaf, Refinement, tree, low, high, series, subtree, descend}
 use Rattle.rules.specs.Run.{verdict}
 use Rattle.rules.specs.Refusals.{Refusal, refusal, first, tableRefusals, wayRefusals, limitRefusals, tableNumber, Accepted}
-use Rattle.rules.specs.Answers.{Reply, refused, answerReply, runReply}
-use Rattle.rules.specs.Calls.{handNumber, runNumber, handRefusals, runRefusals, handAnswer, runAnswer, answerBy, runAnswerBy, Call, byHand, byRun, Outcome, handed, ran, reply, callNumber, outcome, makes, handMakes, runMakes, figures}
+use Rattle.rules.specs.Answers.{Reply, refused, accepted, answerReply, runReply}
+use Rattle.rules.specs.Calls.{handNumber, runNumber, handRefusals, runRefusals, handAnswer, runAnswer, answerBy, runAnswerBy, Call, byHand, byRun, Outcome, handed, ran, reply, callNumber, outcome, makes, makesBy, wouldMake, handMakes, runMakes, figures}
 use Rattle.rules.proofs.First.{numbered, none-applies, first-here, first-after, first-before}
+use Rattle.rules.proofs.Series.{grow-append}
 use Rattle.rules.proofs.Demand3.{HandsBack, hands-back, report-is}
 use Rattle.rules.specs.declared.Answer.{Answer}
 use Rattle.rules.specs.declared.RunAnswer.{RunAnswer}
-use Rattle.records.specs.Records.{layout, recordsOf, recordAt, subtreeOr, places, history, isGood, bad, Good}
+use Rattle.records.specs.Records.{layout, recordsOf, recordAt, subtreeOr, places, history, isGood, bad, treeInterval, Good}
 use Rattle.records.specs.Library.{treeBy, handTree, runTree, callTree, callOutcome}
 use Rattle.records.specs.declared.Tree.{Tree}
 use Rattle.records.proofs.History.{layout-count, history-layout}
 use Rattle.records.proofs.Sixteen.{good-sure}
-use Rattle.records.proofs.ByTheRules.{call-tree, call-outcome}
+use Rattle.records.proofs.ByTheRules.{call-tree, call-outcome, still-series}
+use Rattle.records.proofs.Demand.{root-read}
 use Rattle.dtree.specs.Promises.{rootOf, numberOf, Worked, Called}
+use Rattle.dtree.proofs.Stored.{every-place}
 
 -- The root's record has the low end of the tree.
 pub root-low : (t : Table) (ns : List Refinement) → rootOf (layout t ns) .low ≡ low t (tree ns)
@@ -55,7 +59,7 @@ sixteen-free true xs h = absurd (omega (arith, h, first-here (refusal 16 true) x
 sixteen-free false xs h = refl
 
 -- Nothing is refused only on an accepted table and a good tree.
-free : (t : Table) (x : Tree) (c : Call) → numberOf t x c ≡ 0 → (Accepted t) × (bad t x ≡ false)
+pub free : (t : Table) (x : Tree) (c : Call) → numberOf t x c ≡ 0 → (Accepted t) × (bad t x ≡ false)
 unfolding numberOf handNumber runNumber handRefusals runRefusals tableNumber tableRefusals wayRefusals limitRefusals
 free t x (byHand bs k) h = (front-free (tableRefusals t) _ h, sixteen-free (bad t x) _ (back-free (tableRefusals t) _ refl h))
 free t x (byRun m) h =
@@ -83,17 +87,34 @@ by-the-rules t c P on x e =
     subst (λ (z : Tree). P z (callTree t z c) (callOutcome t z c)) (sym (g .is))
     (rw (call-tree t (g .made) (g .accepted) c, call-outcome t (g .made) (g .accepted) c) (on (f .0) (g .made) (g .accepted) n))
 
+-- An accepted call hands back the interval then at the root, and the number of refinements that it made.
+accepted-reply : (t : Table) (s : DTree) (c : Call) → callNumber t s c ≡ 0 → reply (outcome t s c) ≡ accepted (figures t s (makes t s c))
+unfolding outcome handAnswer runAnswer makes makesBy callNumber wouldMake answerBy runAnswerBy
+accepted-reply t s (byHand bs k) e = rw e
+accepted-reply t s (byRun m) e = rw e
+
+-- That interval is the one that the root's record shows.
+root-shown : (t : Table) (ns : List Refinement) (c : Call) → callNumber t (tree ns) c ≡ 0
+    → treeInterval (layout t (ns ++ makes t (tree ns) c)) []
+    ≡ some (record { low = reply (outcome t (tree ns) c) .low; high = reply (outcome t (tree ns) c) .high })
+unfolding figures
+root-shown t ns c e =
+    root-read t (ns ++ makes t (tree ns) c)
+    ∙ ap (λ (s : DTree). some (record { low = low t s; high = high t s })) (grow-append ns (makes t (tree ns) c) leaf)
+    ∙ ap (λ (r : Reply). some (record { low = r .low; high = r .high })) (sym (accepted-reply t (tree ns) c e))
+
 -- On the tree of a series an accepted call does what Worked says.
 on-layout : (t : Table) (c : Call) → Accepted t → (ns : List Refinement) → series t ns ≡ true → callNumber t (tree ns) c ≡ 0
     → Worked t (layout t ns) (layout t (ns ++ makes t (tree ns) c)) (reply (outcome t (tree ns) c))
 on-layout t c ok ns h e =
     let b : HandsBack t (tree ns) c = hands-back t ok ns h c e in
     record {
-      certain = record { encloses = b .encloses; ordered = b .ordered; bounded = b .bounded };
+      certain = record { at-root = root-shown t ns c e; encloses = b .encloses; ordered = b .ordered; bounded = b .bounded };
       no-wider = (rw (root-low t ns) (b .low-rises), rw (root-high t ns) (b .high-falls));
       counts =
           omega
           (arith, layout-count t ns, layout-count t (ns ++ makes t (tree ns) c), length-append ns (makes t (tree ns) c), report-is t ok (tree ns) c);
+      places = every-place t ok _ (record { made = ns ++ makes t (tree ns) c; accepted = still-series t ok ns h c; is = refl });
     }
 
 -- And so on every tree.

@@ -1,5 +1,6 @@
 -- What the definitions of the calls come to; each function's proof stands in its own directory.
 -- Rests on the theorems of `rules` and `records`, and on the contracts below.
+mod Stored
 mod Opens
 mod Fresh
 mod Again
@@ -10,4 +11,3 @@ mod ByRun
 mod One
 mod Verdicts
 mod TwoRuns
-mod Stored

@@ -58,6 +58,10 @@ before-sixteen t x m (suc n) e f =
     let found : first ahead ≡ suc n = sym (ap first (split false) ∙ first-end ahead (refusal 16 false ∷ []) refl) ∙ sym e in
     ap first (split (bad t x)) ∙ first-before ahead (refusal 16 (bad t x) ∷ []) n found
 
+-- What `run_number` found to be 0 lets the run through.
+pub let-through : (t : Table) (m : Limits) (n : ℕ) → n ≡ runNumber t false m → n ≡ 0 → runNumber t false m ≡ 0
+let-through t m n e z = sym e ∙ z
+
 -- Where none of them applies the table is accepted.
 pub run-accepted : (t : Table) (m : Limits) → runNumber t false m ≡ 0 → Accepted t
 unfolding runNumber runRefusals tableNumber

@@ -25,8 +25,8 @@ use Rattle.dtree.specs.Promises.{rootOf, numberOf, Called, Running}
 use Rattle.dtree.proofs.Calling.{by-the-rules, root-low, root-high}
 use Rattle.dtree.proofs.ByRun.{made-picks}
 
--- The verdict of what a call hands back.
-abbrev verdictOf : Outcome → Option Verdict
+-- The verdict of what a call hands back; a hand refinement has none.
+abbrev pub verdictOf : Outcome → Option Verdict
 verdictOf (handed a) = none
 verdictOf (ran a) = runVerdict a
 
@@ -35,7 +35,8 @@ record Says (m : Limits) (y : Tree) (o : Outcome) : Type 0 where
   in-budget : reply o .count ≤ m .budget
   met : (verdictOf o ≡ some Met) ↔ (rootOf y .high - rootOf y .low ≤ m .allowance)
 
-said : (t : Table) (s : DTree) (m : Limits) → runNumber t false m ≡ 0
+-- An accepted run hands back its verdict, the interval then at the root, and the number of refinements that it made.
+pub said : (t : Table) (s : DTree) (m : Limits) → runNumber t false m ≡ 0
     → outcome t s (byRun m) ≡ ran (RunAnswer.Ended (verdict t (m .allowance) (m .budget) s) (figures t s (picks t (m .allowance) (m .budget) s)))
 unfolding outcome runAnswer runAnswerBy runMakes
 said t s m z =

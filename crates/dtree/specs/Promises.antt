@@ -9,16 +9,18 @@ use Prim.Native.Nat.{ℕ, _+_, _-_, _≤_}
 use lib.ListN.{set}
 use Rattle.rules.specs.Rounding.{S}
 use Rattle.rules.specs.Table.{Table, ways, Encloses}
+use Rattle.rules.specs.Leaf.{ofSet, remaining, minimal}
 use Rattle.rules.specs.Refusals.{tableNumber, Accepted}
 use Rattle.rules.specs.Answers.{Reply, refused, answerReply, runReply, runVerdict}
-use Rattle.rules.specs.Tree.{left, right, Place, Interval, tree, onPath}
+use Rattle.rules.specs.Tree.{left, right, Place, Subtree, subtree, kindAt, Interval, interval, intervalAt, tree, onPath}
 use Rattle.rules.specs.Calls.{openAnswer, handNumber, runNumber, Call, byHand, byRun, Outcome, handed, ran, reply, placeOf}
+use Rattle.rules.specs.declared.Way.{Way}
 use Rattle.rules.specs.declared.Kind.{Kind}
 use Rattle.rules.specs.declared.Limits.{Limits}
 use Rattle.rules.specs.declared.Verdict.the-variants.{Met}
 use Rattle.rules.specs.declared.Answer.{Answer}
 use Rattle.rules.specs.declared.RunAnswer.{RunAnswer}
-use Rattle.records.specs.Records.{recordIn, noNodes, history, treeCount, bad, treeKind, treeInterval}
+use Rattle.records.specs.Records.{recordIn, noNodes, history, treeCount, bad, Good, treeKind, treeInterval}
 use Rattle.records.specs.Library.{openTree, callTree, callOutcome}
 use Rattle.records.specs.declared.Node.{Node}
 use Rattle.records.specs.declared.Tree.{Tree}
@@ -27,11 +29,45 @@ use Rattle.records.specs.declared.Tree.{Tree}
 unfoldable pub oneRecord : Node → Tree
 oneRecord x = record { nodes = set (noNodes .nodes) 0 x; used = 1 }
 
--- The interval of a reply encloses the exact sum over the table's ways, in order and at most S.
-pub record Certain (t : Table) (r : Reply) : Type 0 where
+-- The interval of a reply is the one at the root of the tree y; it encloses the exact sum over the table's ways, in order and at most S.
+pub record Certain (t : Table) (y : Tree) (r : Reply) : Type 0 where
+  pub at-root : treeInterval y [] ≡ some (record { low = r .low; high = r .high })
   pub encloses : Encloses (t .weights) (ways t) (r .low) (r .high)
   pub ordered : r .low ≤ r .high
   pub bounded : r .high ≤ S
+
+-- ---- every place of a tree that a call leaves
+
+-- All ways that remain where x stands: those of its set that no fixed fault contradicts, with the fixed faults dropped. None is left out yet.
+abbrev pub allRemaining : Table → Subtree → List Way
+allRemaining t x = remaining (x .node .present) (x .node .absent) (ofSet (x .node .set) (ways t))
+
+-- What the interval i is that the records of the tree y show at place p.
+pub record Stored (t : Table) (y : Tree) (p : Place) (i : Interval) : Type 0 where
+  -- What the rules have at this place of the tree that the refinements in the records grow.
+  pub here : Subtree
+  pub there : subtree t p (tree (history y)) ≡ some here
+  -- Its remaining ways: those that say nothing new are left out.
+  pub ways-are : here .node .ways ≡ minimal (allRemaining t here)
+  -- The interval is the rules' interval there, in order and from 0 to S.
+  pub by-the-rules : i ≡ interval (t .weights) here
+  pub ordered : i .low ≤ i .high
+  pub bounded : i .high ≤ S
+  -- It encloses the exact sum over these remaining ways, and the one over all that remain before any is left out.
+  pub encloses : Encloses (t .weights) (here .node .ways) (i .low) (i .high)
+  pub over-all : Encloses (t .weights) (allRemaining t here) (i .low) (i .high)
+
+-- EVERY PLACE of the tree y: what is promised of each, not of the root alone.
+pub record EveryPlace (t : Table) (y : Tree) : Type 0 where
+  -- Some series of accepted refinements from a single root leaf gives the tree, so that 16 does not refuse it.
+  pub good : Good t y
+  -- Its records show the places that its refinements grow by the rules, and no others: what was done at each, and the interval there.
+  pub kinds : (p : Place) → treeKind y p ≡ kindAt p (tree (history y))
+  pub intervals : (p : Place) → treeInterval y p ≡ intervalAt t p (tree (history y))
+  -- The interval at each place that they show encloses that place's exact sum.
+  pub stored : (p : Place) (i : Interval) → treeInterval y p ≡ some i → Stored t y p i
+
+-- ---- an opening
 
 -- AN OPENING of any table.
 pub record Opening (t : Table) (x : Tree) (a : Answer) : Type 0 where
@@ -40,8 +76,8 @@ pub record Opening (t : Table) (x : Tree) (a : Answer) : Type 0 where
   pub answer-is : a ≡ openAnswer t
   -- The number is that of the first of 9 to 13 that applies, 0 if none does.
   pub numbered : answerReply a .number ≡ tableNumber t
-  -- Accepted: a certain interval, and no refinement made.
-  pub accepted : Accepted t → Certain t (answerReply a) × (answerReply a .count ≡ 0)
+  -- Accepted: a certain interval, no refinement made, and what is promised of every place.
+  pub accepted : Accepted t → Certain t x (answerReply a) × (answerReply a .count ≡ 0) × EveryPlace t x
   -- Refused: nought to the full billion, count 0, and a tree without nodes.
   pub otherwise : (Accepted t → ⊥) → (answerReply a ≡ refused (tableNumber t)) × (x ≡ noNodes)
 
@@ -59,10 +95,12 @@ numberOf t x (byRun m) = runNumber t (bad t x) m
 -- What an accepted call does that is lent x and leaves y, with the reply r.
 pub record Worked (t : Table) (x y : Tree) (r : Reply) : Type 0 where
   -- A certain interval, no wider than the one that stood at the root before.
-  pub certain : Certain t r
+  pub certain : Certain t y r
   pub no-wider : (rootOf x .low ≤ r .low) × (r .high ≤ rootOf x .high)
   -- The count is the refinements after less those before.
   pub counts : treeCount y ≡ treeCount x + r .count
+  -- What is promised of every place of the tree left.
+  pub places : EveryPlace t y
 
 -- A HAND REFINEMENT OR A RUN on any table and any tree.
 pub record Called (t : Table) (x : Tree) (c : Call) (y : Tree) (o : Outcome) : Type 0 where

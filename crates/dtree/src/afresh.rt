@@ -14,7 +14,7 @@ use rules::RunAnswer;
 
 /// What one run with the limits answers on the root leaf of a table.
 pub fn run_afresh(weights: &[u32], present: &[u64], absent: &[u64], limits: Limits) -> RunAnswer
-    ensures { λ r. ⌜ r ≡ runAnswer (table (now (weights .entry)) (now (present .entry)) (now (absent .entry)))
+    ensures answer { λ r. ⌜ r ≡ runAnswer (table (now (weights .entry)) (now (present .entry)) (now (absent .entry)))
         false leaf limits ⌝ }
 {
     let number = run_number(weights, present, absent, limits);

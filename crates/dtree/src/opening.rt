@@ -37,7 +37,7 @@ pub fn put_alone(tree: &mut Words, x: Node)
 
 /// Opens a table. What the tree held before does not matter.
 pub fn open(weights: &[u32], present: &[u64], absent: &[u64], tree: &mut Words) -> Answer
-    ensures { λ r. ⌜ Opening (table (now (weights .entry)) (now (present .entry)) (now (absent .entry))) (treeOf (now (tree .exit))) r ⌝ }
+    ensures promise { λ r. ⌜ Opening (table (now (weights .entry)) (now (present .entry)) (now (absent .entry))) (treeOf (now (tree .exit))) r ⌝ }
 {
     clear(tree);
     let number = table_number(weights, present, absent);

@@ -24,7 +24,8 @@ pub fn refine(
     place: &[u8],
     kind: Kind,
 ) -> Answer
-    ensures { λ r. ⌜ Refining (table (now (weights .entry)) (now (present .entry)) (now (absent .entry))) (treeOf (now (tree .entry))) (now (place .entry)) kind (treeOf (now (tree .exit))) r ⌝ }
+    ensures promise { λ r. ⌜ Refining (table (now (weights .entry)) (now (present .entry)) (now (absent .entry)))
+        (treeOf (now (tree .entry))) (now (place .entry)) kind (treeOf (now (tree .exit))) r ⌝ }
 {
     let number = table_number(weights, present, absent);
     if number != 0 {

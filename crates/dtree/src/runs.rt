@@ -40,7 +40,7 @@ pub fn run_good(
     requires { ⌜ runNumber (table (now weights) (now present) (now absent)) false limits ≡ 0 ⌝ }
     requires { ⌜ Good (table (now weights) (now present) (now absent)) (treeOf (now tree)) ⌝ }
     requires { ⌜ Safe (treeOf (now tree) .nodes) ⌝ }
-    ensures { λ r. ⌜ Running (table (now (weights .entry)) (now (present .entry)) (now (absent .entry)))
+    ensures promise { λ r. ⌜ Running (table (now (weights .entry)) (now (present .entry)) (now (absent .entry)))
         (treeOf (now (tree .entry))) limits (treeOf (now (tree .exit))) r ⌝ }
 {
     let e = run_on(weights, present, absent, tree, limits);
@@ -63,7 +63,8 @@ pub fn run(
     tree: &mut Words,
     limits: Limits,
 ) -> RunAnswer
-    ensures { λ r. ⌜ Running (table (now (weights .entry)) (now (present .entry)) (now (absent .entry))) (treeOf (now (tree .entry))) limits (treeOf (now (tree .exit))) r ⌝ }
+    ensures promise { λ r. ⌜ Running (table (now (weights .entry)) (now (present .entry)) (now (absent .entry)))
+        (treeOf (now (tree .entry))) limits (treeOf (now (tree .exit))) r ⌝ }
 {
     let number = run_number(weights, present, absent, limits);
     if number != 0 {

@@ -53,7 +53,7 @@ module _ (t : Table) (ns : List Refinement) (h : series t ns ≡ true) where
 
 module _ (t : Table) (ok : Accepted t) where
   -- After a call the refinements made are a series again.
-  still-series : (ns : List Refinement) → series t ns ≡ true → (c : Call) → series t (ns ++ makes t (tree ns) c) ≡ true
+  pub still-series : (ns : List Refinement) → series t ns ≡ true → (c : Call) → series t (ns ++ makes t (tree ns) c) ≡ true
   still-series ns h c = series-append t ns (makes t (tree ns) c) leaf h (makes-series t ok (tree ns) c)
 
   -- From the tree of a series on, the trees and what the calls hand back go by the rules.

@@ -72,7 +72,7 @@ pub record Demand-3-library (t : Table) : Type 0 where
   pub call-never-widens : (cs : List Call) (c : Call) → RootWithin (after t cs) (callTree t (after t cs) c)
 
 -- At the root of a layout the interval is the one that the rules give.
-root-read : (t : Table) (ns : List Refinement) → treeInterval (layout t ns) [] ≡ some (record { low = low t (tree ns); high = high t (tree ns) })
+pub root-read : (t : Table) (ns : List Refinement) → treeInterval (layout t ns) [] ≡ some (record { low = low t (tree ns); high = high t (tree ns) })
 unfolding intervalAt subtree descend low high
 root-read t ns = seen-interval t ns []
 
