@@ -1,7 +1,7 @@
 -- What holds of a table that none of 9 to 13 refuses.
 -- Rests on First.antt.
 use mathlib.Core.Path.{_≡_, refl, sym, ap, _∙_}
-use mathlib.Core.Bool.{true, false, not}
+use mathlib.Core.Bool.{true, false, not, _||_}
 use mathlib.Core.List.{List, [], _∷_}
 use Prim.Native.Nat.{ℕ, zero, suc, _^_, _≤_, _<_, max}
 use native.Mathlib.Omega.{arith}
@@ -10,7 +10,8 @@ use lib.Dec.{eqb, ltb, leb}
 use borrow.Author.Tests.{ltb-false, le-ltb, leb-false, lt-leb, eqb-true, eqb-false, eq-eqb, ne-eqb, not-false}
 use Rattle.rules.specs.Rounding.{S}
 use Rattle.rules.specs.Table.{bit, Way, Table, absentRows, rows, ways, faults}
-use Rattle.rules.specs.Refusals.{faultsOutside, someAbove, overweight, wordsAmiss, namesBeyond, namesBoth, wayRefusals, tableRefusals, tableNumber, Accepted}
+use Rattle.rules.specs.Refusals.{faultsOutside, someAbove, overweight, wordsAmiss, namesBeyond, namesBoth}
+use Rattle.rules.specs.Refusals.{wayRefusals, tableRefusals, tableNumber, Accepted}
 use Rattle.rules.proofs.Booleans.{or-left, or-right, or-neither, or-split}
 use Rattle.rules.proofs.Bits.{bit-or, bit-high, below-pow, apart-bit, apart-test}
 use Rattle.rules.proofs.First.{none-applies, first-later, first-none}
@@ -19,6 +20,18 @@ use Rattle.rules.proofs.Groups.{none-passes, each-fails}
 use Rattle.rules.proofs.Sum.{Weights}
 use Rattle.rules.specs.Tree.{rootWays}
 use Rattle.rules.proofs.Minimal.{minimal-any}
+
+-- What 2 and 9 let through: a number from 1 up to a limit.
+pub not-outside : (m n : ℕ) → eqb n 0 || ltb m n ≡ false → (0 < n) × (n ≤ m)
+not-outside m n h = (above-zero n (eqb-false n 0 (or-left (eqb n 0) _ h)), ltb-false m n (or-right (eqb n 0) _ h))
+  where
+    above-zero : (k : ℕ) → (k ≡ 0 → ⊥) → 0 < k
+    above-zero zero f = absurd (f refl)
+    above-zero (suc k) f = omega arith
+
+-- The other way.
+pub from-one : (m n : ℕ) → 0 < n → n ≤ m → eqb n 0 || ltb m n ≡ false
+from-one m n some few = or-neither (eqb n 0) (ltb m n) (ne-eqb n 0 (λ e. omega arith)) (le-ltb m n few)
 
 -- What 10 lets through: every weight is at most S.
 pub weights-of : (ws : List ℕ) → overweight ws ≡ false → Weights ws
@@ -44,15 +57,11 @@ module _ (t : Table) (ok : Accepted t) where
   -- At most 64 faults, and at least one.
   pub few-faults : length (t .weights) ≤ 64
   unfolding faultsOutside
-  few-faults = ltb-false 64 (length (t .weights)) (or-right (eqb (length (t .weights)) 0) _ (passes t ok .nine))
+  few-faults = not-outside 64 (length (t .weights)) (passes t ok .nine) .1
 
   pub some-fault : 0 < length (t .weights)
   unfolding faultsOutside
-  some-fault = above-zero (length (t .weights)) (eqb-false (length (t .weights)) 0 (or-left (eqb (length (t .weights)) 0) _ (passes t ok .nine)))
-    where
-      above-zero : (n : ℕ) → (n ≡ 0 → ⊥) → 0 < n
-      above-zero zero f = absurd (f refl)
-      above-zero (suc n) f = omega arith
+  some-fault = not-outside 64 (length (t .weights)) (passes t ok .nine) .0
 
   -- At most 128 ways, with as many absent words as present words.
   pub few-ways : length (t .present) ≤ 128
@@ -121,7 +130,8 @@ accepted-inside t ok =
     known v m i l =
         let e = or-split (leb (2 ^ n) (v .present)) (leb (2 ^ n) (v .absent)) (none-passes _ (ways t) v (inside t ok) m) in
         bit-or i (v .present) (v .absent)
-        ∙ or-neither _ _ (bit-high n i (v .present) l (leb-false (2 ^ n) (v .present) (e .0))) (bit-high n i (v .absent) l (leb-false (2 ^ n) (v .absent) (e .1)))
+        ∙ or-neither _ _ (bit-high n i (v .present) l (leb-false (2 ^ n) (v .present) (e .0)))
+        (bit-high n i (v .absent) l (leb-false (2 ^ n) (v .absent) (e .1)))
 
 weights-test : (ws : List ℕ) → Weights ws → overweight ws ≡ false
 unfolding overweight someAbove
@@ -132,21 +142,23 @@ weights-test (w ∷ ws) k = or-neither _ _ (le-ltb S w (k .0)) (weights-test ws 
 pub inside-accepted : (t : Table) → Inside t → Accepted t
 unfolding tableNumber tableRefusals wayRefusals faultsOutside wordsAmiss namesBeyond namesBoth
 inside-accepted t k =
-    first-later _ _ (or-neither _ _ (ne-eqb n 0 (nonzero n (k .some-faults))) (le-ltb 64 n (k .few-faults)))
+    first-later _ _ (from-one 64 n (k .some-faults) (k .few-faults))
     ∙ first-later _ _ (weights-test (t .weights) (k .weights))
     ∙ first-later _ _ (or-neither _ _ (le-ltb 128 (length (t .present)) (k .few-ways)) (ap not (eq-eqb (length (t .present)) (length (t .absent)) (k .paired))))
-    ∙ first-later _ _ (each-fails _ (ways t) (λ v m. or-neither _ _ (lt-leb (2 ^ n) (v .present) (below-pow n (v .present) (λ i l. off v m i l .0))) (lt-leb (2 ^ n) (v .absent) (below-pow n (v .absent) (λ i l. off v m i l .1)))))
+    ∙ first-later _ _ (each-fails _ (ways t) below)
     ∙ first-later _ _ (each-fails _ (ways t) (λ v m. apart-test (v .present) (v .absent) (k .one-sense-each v m)))
     ∙ first-none
   where
     n : ℕ
     n = length (t .weights)
 
-    nonzero : (m : ℕ) → 0 < m → m ≡ 0 → ⊥
-    nonzero m h e = omega arith
-
     off : (v : Way) → In v (ways t) → (i : ℕ) → n ≤ i → (bit i (v .present) ≡ false) × (bit i (v .absent) ≡ false)
     off v m i l = or-split (bit i (v .present)) (bit i (v .absent)) (sym (bit-or i (v .present) (v .absent)) ∙ k .faults-known v m i l)
+
+    below : (v : Way) → In v (ways t) → leb (2 ^ n) (v .present) || leb (2 ^ n) (v .absent) ≡ false
+    below v m =
+        or-neither _ _ (lt-leb (2 ^ n) (v .present) (below-pow n (v .present) (λ i l. off v m i l .0)))
+        (lt-leb (2 ^ n) (v .absent) (below-pow n (v .absent) (λ i l. off v m i l .1)))
 
 -- ---- the number of ways
 

@@ -73,7 +73,8 @@ chance-bound : (d : Dir) (ws : List ℕ) (p q c : ℕ) → bitAnd p q ≡ 0 → 
 chance-bound d [] p q c e = le-self d refl
 chance-bound d (w ∷ ws) p q c e =
     rw pow-suc
-    (chain d (chanceFrom d ws (p / 2) (q / 2) (step d w (odd p) (odd q) c)) (S ^ length ws) (step d w (odd p) (odd q) c) (factors ws (p / 2) (q / 2)) c (factor w (odd p) (odd q))
+    (chain d (chanceFrom d ws (p / 2) (q / 2) (step d w (odd p) (odd q) c)) (S ^ length ws) (step d w (odd p) (odd q) c)
+    (factors ws (p / 2) (q / 2)) c (factor w (odd p) (odd q))
     (chance-bound d ws (p / 2) (q / 2) (step d w (odd p) (odd q) c) (apart-rest p q e))
     (step-bound d w (odd p) (odd q) (apart-digit p q e) c))
 

@@ -97,7 +97,9 @@ decimal-value = decimal-by (λ n bs. decimalValue bs ≡ n) (λ n h. omega arith
 
 -- Every byte is a digit.
 pub decimal-digits : (n : ℕ) → AllDigits (decimal n)
-decimal-digits = decimal-by (λ n bs. AllDigits bs) (λ n h. (omega arith, omega arith, tt)) (λ n bs h rest. digits-snoc bs (48 + n % 10) rest (omega arith) (omega arith))
+decimal-digits =
+    decimal-by (λ n bs. AllDigits bs) (λ n h. (omega arith, omega arith, tt))
+    (λ n bs h rest. digits-snoc bs (48 + n % 10) rest (omega arith) (omega arith))
 
 -- There is a digit, and the first is 0 for the number 0 only.
 pub decimal-leading : (n : ℕ) → (0 < length (decimal n)) × (getD (decimal n) 0 0 ≡ 48 → n ≡ 0)
@@ -112,7 +114,8 @@ decimal-leading =
 pub decimal-length : (n d : ℕ) → n < 10 ^ suc d → length (decimal n) ≤ suc d
 decimal-length = decimal-by (λ n bs. (d : ℕ) → n < 10 ^ suc d → length bs ≤ suc d) (λ n h d l. omega arith) more
   where
-    more : (n : ℕ) (bs : List ℕ) → 10 ≤ n → ((d : ℕ) → n / 10 < 10 ^ suc d → length bs ≤ suc d) → (d : ℕ) → n < 10 ^ suc d → length (bs ++ (48 + n % 10) ∷ []) ≤ suc d
+    more : (n : ℕ) (bs : List ℕ) → 10 ≤ n → ((d : ℕ) → n / 10 < 10 ^ suc d → length bs ≤ suc d) → (d : ℕ) → n < 10 ^ suc d
+        → length (bs ++ (48 + n % 10) ∷ []) ≤ suc d
     more n bs h rest zero l = absurd (omega (arith, pow-suc 10 0))
     more n bs h rest (suc d) l =
         let tenth : n / 10 < 10 ^ suc d = omega (arith, pow-suc 10 (suc d)) in

@@ -11,10 +11,13 @@ use borrow.Author.Tests.{not-false, le-ltb, lt-ltb}
 use Rattle.rules.specs.Rounding.{S}
 use Rattle.rules.specs.Table.{Way, Table, ways, Encloses}
 use Rattle.rules.specs.Leaf.{isOpen}
-use Rattle.rules.specs.Tree.{rootWays, left, right, Place, DTree, leaf, possible, low, high, inners, Refinement, grow, tree, kindAt, leafWays, roomy, intervalAt, acceptable, seriesFrom, series}
+use Rattle.rules.specs.Tree.{rootWays, left, right, Place, DTree, leaf, possible, low, high, inners, Refinement}
+use Rattle.rules.specs.Tree.{grow, tree, kindAt, leafWays, roomy, intervalAt, acceptable, seriesFrom, series}
 use Rattle.rules.specs.Run.{picks, verdict}
 use Rattle.rules.specs.Refusals.{Refusal, refusal, first, tableRefusals, tableNumber, wayRefusals, limitRefusals, Accepted}
-use Rattle.rules.specs.Calls.{stepTo, placeOf, placeBytes, leafNamed, noLeaf, ofLeaf, leafRefusals, handRefusals, runRefusals, handNumber, runNumber, handMakes, runMakes, figures, answerBy, runAnswerBy, handAnswer, runAnswer, makesBy, Call, byHand, byRun, handed, ran, reply, callNumber, outcome, wouldMake, makes, notedFrom, noted, outcomesFrom, outcomes, reports}
+use Rattle.rules.specs.Calls.{stepTo, placeOf, placeBytes, leafNamed, noLeaf, ofLeaf, leafRefusals, handRefusals, runRefusals, handNumber, runNumber}
+use Rattle.rules.specs.Calls.{handMakes, runMakes, figures, answerBy, runAnswerBy, handAnswer, runAnswer, makesBy, Call, byHand, byRun, handed}
+use Rattle.rules.specs.Calls.{ran, reply, callNumber, outcome, wouldMake, makes, notedFrom, noted, outcomesFrom, outcomes, reports}
 use Rattle.rules.specs.declared.Kind.{Kind}
 use Rattle.rules.specs.declared.Limits.{Limits}
 use Rattle.rules.proofs.Booleans.{and-both}
@@ -35,7 +38,9 @@ module _ (t : Table) (ok : Accepted t) where
 
   pub hand-number : (s : DTree) (bs : List ℕ) (k : Kind) → handNumber t false s bs k ≡ first (leafRefusals t s bs k (leafNamed t s bs))
   unfolding handNumber handRefusals
-  hand-number s bs k = table-passed (refusal 16 false ∷ leafRefusals t s bs k (leafNamed t s bs)) ∙ first-later (refusal 16 false) (leafRefusals t s bs k (leafNamed t s bs)) refl
+  hand-number s bs k =
+      let rest : List Refusal = leafRefusals t s bs k (leafNamed t s bs) in
+      table-passed (refusal 16 false ∷ rest) ∙ first-later (refusal 16 false) rest refl
 
   pub run-number : (m : Limits) → runNumber t false m ≡ first (limitRefusals m)
   unfolding runNumber runRefusals first
@@ -113,7 +118,8 @@ pub by-hand : (t : Table) → Accepted t → (ns : List Refinement) → series t
     → handNumber t false (tree ns) (placeBytes (n .place)) (n .kind) ≡ 0
 by-hand t ok ns h n a =
     hand-number t ok (tree ns) (placeBytes (n .place)) (n .kind)
-    ∙ acceptable-leaf t (tree ns) (placeBytes (n .place)) (n .kind) (n .place) (place-bytes (n .place)) (omega (arith, bytes-length (n .place), refined-above t ok ns h n a)) a
+    ∙ acceptable-leaf t (tree ns) (placeBytes (n .place)) (n .kind) (n .place) (place-bytes (n .place))
+    (omega (arith, bytes-length (n .place), refined-above t ok ns h n a)) a
 
 module _ (t : Table) (ok : Accepted t) where
   -- What a call makes is a series, from any tree.
@@ -125,7 +131,8 @@ module _ (t : Table) (ok : Accepted t) where
           → seriesFrom t s (makesBy n (elim o as (λ o. List Refinement) [ none ↦ [] | some p ↦ record { place = p; kind = k } ∷ [] ])) ≡ true
       by o e (suc n) h = refl
       by none e zero h = refl
-      by (some p) e zero h = and-both (acceptable t s (record { place = p; kind = k })) _ (leaf-acceptable t s bs k p e (sym (hand-number t ok s bs k) ∙ h)) refl
+      by (some p) e zero h =
+          and-both (acceptable t s (record { place = p; kind = k })) _ (leaf-acceptable t s bs k p e (sym (hand-number t ok s bs k) ∙ h)) refl
   makes-series s (byRun m) = by (runNumber t false m)
     where
       by : (n : ℕ) → seriesFrom t s (makesBy n (picks t (m .allowance) (m .budget) s)) ≡ true
@@ -153,7 +160,8 @@ module _ (t : Table) (ok : Accepted t) where
       by (suc n) = refl
   report-is s (byRun m) = by (runNumber t false m)
     where
-      by : (n : ℕ) → reply (ran (runAnswerBy n (verdict t (m .allowance) (m .budget) s) (figures t s (runMakes t s m)))) .count ≡ length (makesBy n (runMakes t s m))
+      by : (n : ℕ) → reply (ran (runAnswerBy n (verdict t (m .allowance) (m .budget) s) (figures t s (runMakes t s m)))) .count
+          ≡ length (makesBy n (runMakes t s m))
       by zero = refl
       by (suc n) = refl
 

@@ -10,7 +10,8 @@ use native.Mathlib.Omega.{arith}
 use lib.ListN.{length, take}
 use Rattle.rules.specs.Table.{Way, Table, ways, Encloses}
 use Rattle.rules.specs.Leaf.{ofSet, remaining, Lean}
-use Rattle.rules.specs.Tree.{Side, Place, DTree, inners, nodes, Refinement, refine, tree, leafAt, onPath, kindAt, Subtree, subtree, root, intervalAt, Interval, interval, acceptable, series}
+use Rattle.rules.specs.Tree.{Side, Place, DTree, inners, nodes, Refinement, refine, tree, leafAt, onPath, kindAt}
+use Rattle.rules.specs.Tree.{Subtree, subtree, root, intervalAt, Interval, interval, acceptable, series}
 use Rattle.rules.specs.Run.{next, picks, verdict, ran}
 use Rattle.rules.specs.Refusals.{Accepted}
 use Rattle.rules.specs.declared.Kind.{Kind}
@@ -29,9 +30,9 @@ use Rattle.rules.proofs.Levels.{levels, few-nodes}
 use Rattle.rules.proofs.Runs.{TooWide, Exactly, verdict-exactly, OneRun, two-runs, picks-budget, report-inners, one-step}
 use Rattle.rules.proofs.Demand3.{Share, same-share, never-wider, noted-series, HandsBack, hands-back, HandMade, hand-made}
 use Rattle.rules.proofs.Accepted.{Inside, accepted-inside, inside-accepted}
-use Rattle.rules.proofs.CueTables as cue-tables
+use Rattle.rules.proofs.WithinLimits.{Tested, tested-within, within-tested, cue-inside}
 use Rattle.rules.proofs.CueTables.{LineCertain, printed-certain}
-use Rattle.rules.proofs.RoundTrip.{bytesOf, Put, write-read, read-write}
+use Rattle.rules.proofs.RoundTrip.{bytesOf, OfSheet, write-exactly, Put, write-read, read-write}
 use Rattle.rules.proofs.Sheets.{IsSheet, accepted-exactly, accepts-encoded, decode-encode, encode-decode, within-decoded, longest, attained, first-bytes}
 
 -- ---- "The interval at each point of the tree .. always contains the exact weighted sum over all combinations of faults that satisfy some way of that point."
@@ -52,7 +53,8 @@ pub record AtPlace (t : Table) (p : Place) (x : Subtree) : Type 0 where
   -- "Each refinement removes a fault from both sides, so there are at most 64 levels."
   pub level : length p ≤ 64
 
-pub at-place : (t : Table) → Accepted t → (ns : List Refinement) → series t ns ≡ true → (p : Place) (x : Subtree) → subtree t p (tree ns) ≡ some x → AtPlace t p x
+pub at-place : (t : Table) → Accepted t → (ns : List Refinement) → series t ns ≡ true → (p : Place) (x : Subtree) → subtree t p (tree ns) ≡ some x
+    → AtPlace t p x
 unfolding subtree
 at-place t ok ns h p x e =
     record {
@@ -96,7 +98,9 @@ one-refinement t s n a =
       of-its-kind = refined-kind (n .place) (n .kind) s l;
       with-two-leaves = λ b. refined-leaves (n .place) b (n .kind) s l;
       ways-stay = stays;
-      intervals-stay = λ q g h. ap (λ (o : Option Subtree). elim o as (λ o. Option Interval) [ none ↦ none | some x ↦ some (interval (t .weights) x) ]) (stays q g h);
+      intervals-stay =
+          λ q g h. ap (λ (o : Option Subtree). elim o as (λ o. Option Interval) [ none ↦ none | some x ↦ some (interval (t .weights) x) ])
+          (stays q g h);
       root-within = refined-within t n s;
       no-wider = no-place-widens t n s;
     }
@@ -148,6 +152,18 @@ by-hand-one = hand-made
 
 pub inside-exactly : (t : Table) → Accepted t ↔ Inside t
 inside-exactly t = (accepted-inside t, inside-accepted t)
+
+-- Of sheets: `Within` says the limits in plain terms, and the tests of the refusals let through just these.
+pub within-exactly : (s : Sheet) → Tested s ↔ Within s
+within-exactly s = (tested-within s, within-tested s)
+
+-- The table of each of its cues is then inside the limits.
+pub within-cues : (s : Sheet) → Within s → (c : Cue) → In c (s .cues) → Inside (tableOf (s .weights) c)
+within-cues = cue-inside
+
+-- The writer accepts exactly the lists of a sheet within the limits, into a space that is long enough.
+pub writes-exactly : (x : Lists) (n : ℕ) → AllBelow 65536 (x .numbers) → (writeNumber x n ≡ 0) ↔ OfSheet x n
+writes-exactly = write-exactly
 
 -- ---- DEMAND 3. "Two operators work from one accepted table, each from its fresh opening. For every two lists of hand refinements and runs, refused ones
 -- ---- included, in whatever orders: if both end with the same places refined and the same thing done at each, they share the interval at every place, the
@@ -214,6 +230,8 @@ read-written = read-write
 
 -- ---- "The program .. prints an interval for each cue": every printed line is certain.
 
--- Each cue of an accepted sheet is an accepted table, its printed interval encloses the exact sum over its ways, and met is printed exactly if it is narrow enough.
-pub line-shown : (bs : List ℕ) → AllBelow 256 bs → readNumber bs ≡ 0 → (c : Cue) → In c (decode bs .cues) → LineCertain (decode bs .limits) (tableOf (decode bs .weights) c)
+-- Each cue of an accepted sheet is an accepted table, its printed interval encloses the exact sum over its ways, and met is printed exactly if it is
+-- narrow enough.
+pub line-shown : (bs : List ℕ) → AllBelow 256 bs → readNumber bs ≡ 0 → (c : Cue) → In c (decode bs .cues)
+    → LineCertain (decode bs .limits) (tableOf (decode bs .weights) c)
 line-shown = printed-certain

@@ -4,7 +4,7 @@ use mathlib.Core.Path.{_≡_, refl, sym, ap₂, _∙_, subst}
 use mathlib.Core.Bool.{Bool, true, false, not, _&&_, _||_, true≢false}
 use mathlib.Core.List.{List, [], _∷_}
 use mathlib.Core.Option.{some, Option·some-injective, Option·none-ne-some}
-use Prim.Native.Nat.{ℕ, _-_, _*_, _^_, _≤_, min}
+use Prim.Native.Nat.{ℕ, _*_, _^_, _≤_, min}
 use native.Mathlib.Nat.{le-trans, le-of-mul-le-mul-right}
 use native.Mathlib.Omega.{arith}
 use lib.ListN.{length}
@@ -14,7 +14,8 @@ use borrow.Author.Tests.{eqb-true, leb-false, lt-leb}
 use Rattle.rules.specs.Rounding.{S, Dir, down, up, Le}
 use Rattle.rules.specs.Table.{bit, Way, Table, ways, faults, Assignment, fitsAll, satisfies, happens, exact, Encloses}
 use Rattle.rules.specs.Leaf.{any, without, minimal, isEmpty, leafEnd}
-use Rattle.rules.specs.Tree.{rootWays, Side, left, right, Place, DTree, leaf, inner, child, end, low, high, Refinement, tree, Node, Subtree, childNode, descend, subtree, root, interval, series}
+use Rattle.rules.specs.Tree.{rootWays, Side, left, right, Place, DTree, leaf, inner, child, end, low, high, Refinement}
+use Rattle.rules.specs.Tree.{tree, Node, Subtree, childNode, descend, subtree, root, interval, series}
 use Rattle.rules.specs.Refusals.{namesBeyond, namesBoth, Accepted}
 use Rattle.rules.specs.declared.Kind.{Kind}
 use Rattle.rules.proofs.Booleans.{and-left, or-left, or-right, or-neither, or-first, or-second, or-cases}
@@ -41,7 +42,9 @@ beyond-stable n m v h =
 both-stable : Stable (λ v. not (eqb (bitAnd (v .present) (v .absent)) 0))
 both-stable m v h =
     apart-test (without m (v .present)) (without m (v .absent))
-    (λ i b. bit-without i m (v .absent) ∙ gone (bit i (v .absent)) (not (bit i m)) (apart-bit (v .present) (v .absent) i h (and-left (bit i (v .present)) (not (bit i m)) (sym (bit-without i m (v .present)) ∙ b))))
+    (λ i b.
+    let present : bit i (v .present) ≡ true = and-left (bit i (v .present)) (not (bit i m)) (sym (bit-without i m (v .present)) ∙ b) in
+    bit-without i m (v .absent) ∙ gone (bit i (v .absent)) (not (bit i m)) (apart-bit (v .present) (v .absent) i h present))
   where
     gone : (x y : Bool) → x ≡ false → x && y ≡ false
     gone true y e = absurd (true≢false e)
@@ -104,7 +107,8 @@ certain ws k x f c o =
     let e = tree-encloses ws k (x .node .ways) f c (x .below) o in
     record { encloses = e; ordered = enclosing-order ws (x .node .ways) _ _ e; bounded = end-le ws (x .node .ways) (x .below) }
 
-certain-below : (ws : List ℕ) → Weights ws → (p : Place) (x : Node) (s : DTree) (y : Subtree) → namesBeyond (length ws) (x .ways) ≡ false → namesBoth (x .ways) ≡ false
+certain-below : (ws : List ℕ) → Weights ws → (p : Place) (x : Node) (s : DTree) (y : Subtree) → namesBeyond (length ws) (x .ways) ≡ false
+    → namesBoth (x .ways) ≡ false
     → Sound ws (x .ways) s → descend p x s ≡ some y → CertainAt ws y
 unfolding descend Sound
 certain-below ws k [] x s y f c o e = subst (CertainAt ws) (Option·some-injective _ y e) (certain ws k (record { node = x; below = s }) f c o)
@@ -115,7 +119,8 @@ certain-below ws k (right ∷ p) x (inner j l r) y f c o e =
     certain-below ws k p (childNode j right x) r y (child-inside j (length ws) right (x .ways) f) (child-one-sense j right (x .ways) c) (o .3) e
 
 -- ENCLOSURE: an accepted table, a series of acceptable refinements, any place of the tree.
-pub enclosure : (t : Table) → Accepted t → (ns : List Refinement) → series t ns ≡ true → (p : Place) (x : Subtree) → subtree t p (tree ns) ≡ some x → CertainAt (t .weights) x
+pub enclosure : (t : Table) → Accepted t → (ns : List Refinement) → series t ns ≡ true → (p : Place) (x : Subtree) → subtree t p (tree ns) ≡ some x
+    → CertainAt (t .weights) x
 unfolding subtree
 enclosure t ok ns h p x e =
     certain-below (t .weights) (weights-fit t ok) p (root t) (tree ns) x (root-inside t ok) (root-one-sense t ok) (series-sound t ns h) e

@@ -62,7 +62,8 @@ module _ (f P A : ℕ) (only : bitOr P A ≡ 2 ^ f) where
   clash-off : (v : Way) → contradicted P A v ≡ false → (bit f (v .present) && bit f A) || (bit f (v .absent) && bit f P) ≡ false
   clash-off v h =
       sym (bit-or f (bitAnd (v .present) A) (bitAnd (v .absent) P) ∙ ap₂ (λ (x y : Bool). x || y) (bit-and f (v .present) A) (bit-and f (v .absent) P))
-      ∙ ap (bit f) (eqb-true (bitOr (bitAnd (v .present) A) (bitAnd (v .absent) P)) 0 (not-false (eqb (bitOr (bitAnd (v .present) A) (bitAnd (v .absent) P)) 0) h)) ∙ bit-zero f
+      ∙ ap (bit f) (eqb-true (bitOr (bitAnd (v .present) A) (bitAnd (v .absent) P)) 0 (not-false _ h))
+      ∙ bit-zero f
 
   -- A way that does not name it is not contradicted.
   pub unnamed-free : (v : Way) → touches m v ≡ false → contradicted P A v ≡ false
@@ -70,7 +71,8 @@ module _ (f P A : ℕ) (only : bitOr P A ≡ 2 ^ f) where
       ap (λ (k : ℕ). not (eqb k 0))
       (bits-zero (bitOr (bitAnd (v .present) A) (bitAnd (v .absent) P))
       (λ i. bit-or i (bitAnd (v .present) A) (bitAnd (v .absent) P) ∙ ap₂ (λ (x y : Bool). x || y) (bit-and i (v .present) A) (bit-and i (v .absent) P)
-      ∙ off (bit i P) (bit i A) (bit i (v .present)) (bit i (v .absent)) (λ e. sym (bit-or i (v .present) (v .absent)) ∙ apart-bit m (faults v) i n (bit-or i P A ∙ e))))
+      ∙ off (bit i P) (bit i A) (bit i (v .present)) (bit i (v .absent))
+      (λ e. sym (bit-or i (v .present) (v .absent)) ∙ apart-bit m (faults v) i n (bit-or i P A ∙ e))))
     where
       off : (p a x y : Bool) → (p || a ≡ true → x || y ≡ false) → (x && a) || (y && p) ≡ false
       off p a false false h = refl
@@ -158,7 +160,8 @@ module _ (f P A : ℕ) (only : bitOr P A ≡ 2 ^ f) where
       off : bit f (v .present) || bit f (v .absent) ≡ false
       off = sym (bit-or f (v .present) (v .absent)) ∙ sym (names v) ∙ o
 
-      there : subsumes u v ≡ true → (x y : Bool) → bit f (u .present) ≡ x → bit f (u .absent) ≡ y → x || y ≡ true → bit f (v .present) || bit f (v .absent) ≡ true
+      there : subsumes u v ≡ true → (x y : Bool) → bit f (u .present) ≡ x → bit f (u .absent) ≡ y → x || y ≡ true
+          → bit f (v .present) || bit f (v .absent) ≡ true
       there h true y e g k = or-first (bit f (v .present)) (bit f (v .absent)) (subsumes-inside u v h .0 f e)
       there h false true e g k = or-second (bit f (v .present)) (bit f (v .absent)) (subsumes-inside u v h .1 f g)
       there h false false e g k = absurd (true≢false (sym k))
@@ -228,7 +231,9 @@ module _ (f P A : ℕ) (only : bitOr P A ≡ 2 ^ f) where
             by : (x : Bool) → contradicted P A u ≡ x → (y : Bool) → touches m u ≡ y
                 → any (λ u. outdoes u (dropped m v)) (remaining P A us) ≡ not (touches m v) && any (λ u. subsumes u v) rest
                 → any (λ u. outdoes u (dropped m v)) (elim x as (λ b. List Way) [ true ↦ remaining P A us | false ↦ dropped m u ∷ remaining P A us ])
-                ≡ not (touches m v) && any (λ u. subsumes u v) (remaining P A (elim (Bool·beq true y) as (λ c. List Way) [ true ↦ u ∷ part true m us | false ↦ part true m us ]))
+                ≡ not (touches m v)
+                && any (λ u. subsumes u v)
+                (remaining P A (elim (Bool·beq true y) as (λ c. List Way) [ true ↦ u ∷ part true m us | false ↦ part true m us ]))
             by true e true g ih = rw (e, remaining) ih
             by true e false g ih = ih
             by false e true g ih =

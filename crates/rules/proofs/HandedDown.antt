@@ -7,7 +7,8 @@ use mathlib.Core.Option.{some, Option·some-injective, Option·none-ne-some}
 use Prim.Native.Nat.{ℕ}
 use Rattle.rules.specs.Table.{Way, Table, ways}
 use Rattle.rules.specs.Leaf.{hasNumber, ofSet, remaining, redundant, minimal, Lean}
-use Rattle.rules.specs.Tree.{rootWays, possible, Side, left, right, Place, DTree, leaf, inner, Refinement, tree, Node, Subtree, childNode, descend, subtree, root, series}
+use Rattle.rules.specs.Tree.{rootWays, possible, Side, left, right, Place, DTree, leaf, inner, Refinement}
+use Rattle.rules.specs.Tree.{tree, Node, Subtree, childNode, descend, subtree, root, series}
 use Rattle.rules.specs.declared.Kind.{Kind}
 use Rattle.rules.proofs.Remaining.{fix-none}
 use Rattle.rules.proofs.Sets.{Rising, ways-rising, select-rising, remaining-rising, part-told, whole-set}
@@ -57,7 +58,8 @@ unfolding subtree
 placed t ns h p x e = placed-from (ways t) (ways-rising t) (t .weights) p (root t) (tree ns) x (series-sound t ns h) (root-placed t) e
 
 -- At every place, the ways handed down are the remaining ways of the node's set.
-pub handed-down : (t : Table) (ns : List Refinement) → series t ns ≡ true → (p : Place) (x : Subtree) → subtree t p (tree ns) ≡ some x → Handed (ways t) (x .node)
+pub handed-down : (t : Table) (ns : List Refinement) → series t ns ≡ true → (p : Place) (x : Subtree) → subtree t p (tree ns) ≡ some x
+    → Handed (ways t) (x .node)
 handed-down t ns h p x e = placed t ns h p x e .handed
 
 -- And of its own numbers: a node's set may as well be its own remaining ways.
@@ -66,7 +68,8 @@ pub handed-own : (t : Table) (ns : List Refinement) → series t ns ≡ true →
 handed-own t ns h p x e = placed t ns h p x e .told
 
 -- The ways at every place stand in number order.
-pub handed-rising : (t : Table) (ns : List Refinement) → series t ns ≡ true → (p : Place) (x : Subtree) → subtree t p (tree ns) ≡ some x → Rising 0 (x .node .ways)
+pub handed-rising : (t : Table) (ns : List Refinement) → series t ns ≡ true → (p : Place) (x : Subtree) → subtree t p (tree ns) ≡ some x
+    → Rising 0 (x .node .ways)
 handed-rising t ns h p x e =
     subst (Rising 0) (handed-own t ns h p x e)
     (remaining-rising 0 (x .node .present) (x .node .absent) (ofSet (x .node .ways) (ways t))

@@ -198,11 +198,13 @@ independent-or-laws =
 
 -- The exact sum is the weighted mean of those with the fault present and with it absent, and leaving ways out changes neither.
 fault-bound : (d : Dir) (ws : List ℕ) → Weights ws → (vs : List Way) (f : ℕ) → f < length ws → (x y : ℕ)
-    → Le d (x * S ^ length ws) (S * mass ws (happens (minimal (remaining (2 ^ f) 0 vs)))) → Le d (y * S ^ length ws) (S * mass ws (happens (minimal (remaining 0 (2 ^ f) vs))))
+    → Le d (x * S ^ length ws) (S * mass ws (happens (minimal (remaining (2 ^ f) 0 vs))))
+    → Le d (y * S ^ length ws) (S * mass ws (happens (minimal (remaining 0 (2 ^ f) vs))))
     → Le d (combine (Shannon f) d ws x y * S ^ length ws) (S * mass ws (happens vs))
 unfolding combine
 fault-bound d ws k vs f l x y p q =
-    mean-bound d (getD ws f 0) x y (S ^ length ws) (mass ws (happens (remaining (2 ^ f) 0 vs))) (mass ws (happens (remaining 0 (2 ^ f) vs))) (mass ws (happens vs))
+    mean-bound d (getD ws f 0) x y (S ^ length ws)
+    (mass ws (happens (remaining (2 ^ f) 0 vs))) (mass ws (happens (remaining 0 (2 ^ f) vs))) (mass ws (happens vs))
     (mass-split ws k f l (happens vs)
     ∙ ap₂ (λ (m n : ℕ). getD ws f 0 * m + (S - getD ws f 0) * n)
     (sym (mass-cong ws (happens (remaining (2 ^ f) 0 vs)) (λ a. happens vs (set a f true)) (λ a e. fix-present f vs a (omega (arith, l, e)))))
@@ -242,7 +244,8 @@ shannon-laws f =
     handed all left x e p = ap minimal (rw or-zero-r at (fix-more all x f (2 ^ f) 0 e p (or-zero-r (2 ^ f))))
     handed all right x e p = ap minimal (rw or-zero-r at (fix-more all x f 0 (2 ^ f) e p (or-zero-l (2 ^ f))))
 
-    told : (all : List Way) → Rising 0 all → (b : Side) (x : Node) → ByNumbers all x → possible (Shannon f) (x .ways) ≡ true → ByNumbers all (childNode (Shannon f) b x)
+    told : (all : List Way) → Rising 0 all → (b : Side) (x : Node) → ByNumbers all x → possible (Shannon f) (x .ways) ≡ true
+        → ByNumbers all (childNode (Shannon f) b x)
     told all r b x e p = rw (handed all b x e p) (part-told all r (hasNumber (x .ways)) _ _ _ refl _)
 
     itself : bit f (2 ^ f) ≡ true
@@ -258,8 +261,12 @@ shannon-laws f =
 
     removes : (n : ℕ) (b : Side) (vs : List Way) → namesBeyond n vs ≡ false → any isEmpty vs ≡ false → nonempty vs ≡ true → possible (Shannon f) vs ≡ true
         → (g : ℕ) × (g < n) × (occurs g vs ≡ true) × (occurs g (child (Shannon f) b vs) ≡ false)
-    removes n left vs h e o p = (f, occurs-below n f vs h p, p, minimal-any _ (remaining (2 ^ f) 0 vs) (fixed-gone f (2 ^ f) 0 vs (ap (bit f) (or-zero-r (2 ^ f)) ∙ itself)))
-    removes n right vs h e o p = (f, occurs-below n f vs h p, p, minimal-any _ (remaining 0 (2 ^ f) vs) (fixed-gone f 0 (2 ^ f) vs (ap (bit f) (or-zero-l (2 ^ f)) ∙ itself)))
+    removes n left vs h e o p =
+        let gone = fixed-gone f (2 ^ f) 0 vs (ap (bit f) (or-zero-r (2 ^ f)) ∙ itself) in
+        (f, occurs-below n f vs h p, p, minimal-any _ (remaining (2 ^ f) 0 vs) gone)
+    removes n right vs h e o p =
+        let gone = fixed-gone f 0 (2 ^ f) vs (ap (bit f) (or-zero-l (2 ^ f)) ∙ itself) in
+        (f, occurs-below n f vs h p, p, minimal-any _ (remaining 0 (2 ^ f) vs) gone)
 
 -- Every kind has the laws.
 pub laws : (k : Kind) → Laws k

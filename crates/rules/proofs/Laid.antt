@@ -1,12 +1,15 @@
 -- A sheet's bytes as they follow from its lists: `laidOut`, which is what `encode` writes, and which reading undoes both ways.
 -- Rests on Bytes.antt. Nothing here knows of refusals: `Fits` holds what the fields' widths ask of the lists.
 use mathlib.Core.Path.{_≡_, refl, sym, ap, ap₂, _∙_}
-use mathlib.Core.List.{List, [], _∷_, _++_, append-assoc}
+use mathlib.Core.List.{List, [], _∷_, _++_, append-assoc, List·Memᴰ·head, List·Memᴰ·tail, List·Memᴰ·not-nil}
 use Prim.Native.Nat.{ℕ, zero, suc, _+_, _*_, _^_, _<_, _≤_}
 use native.Mathlib.Omega.{arith}
 use lib.ListN.{length, take, drop, length-append, length-drop, take-append-drop}
 use lib.Seq.{take-add, drop-at, take-all}
-use Rattle.rules.specs.Sheet.{little, value, field, column, Cue, Sheet, Lists, total, numbersOf, countsOf, presentOf, absentOf, listsOf, weightsStart, bodiesStart, starts, headBytes, contentsBytes, weightsBytes, bodyBytes, bodiesBytes, encode, faultsIn, cuesIn, limitsIn, zeroIn, numbersIn, countsIn, placesIn, weightsIn, bodiesIn, presentIn, absentIn, listsIn, AllBelow, Paired}
+use Rattle.rules.specs.Members.{In}
+use Rattle.rules.specs.Sheet.{little, value, field, column, AllBelow, Cue, Sheet, Lists, total, numbersOf, countsOf, presentOf, absentOf, listsOf}
+use Rattle.rules.specs.Sheet.{weightsStart, bodiesStart, starts, headBytes, contentsBytes, weightsBytes, bodyBytes, bodiesBytes, encode}
+use Rattle.rules.specs.Sheet.{faultsIn, cuesIn, limitsIn, zeroIn, numbersIn, countsIn, placesIn, weightsIn, bodiesIn, presentIn, absentIn, listsIn}
 use Rattle.rules.proofs.Bytes.{below-drop, value-little, length-column, column-drop, column-at, front-field, front-row}
 
 -- The contents: a number, a count and a place for each cue.
@@ -114,7 +117,7 @@ length-numbers [] = refl
 length-numbers (c ∷ cs) = ap suc (length-numbers cs)
 
 -- A count for each cue.
-length-counts : (cs : List Cue) → length (countsOf cs) ≡ length cs
+pub length-counts : (cs : List Cue) → length (countsOf cs) ≡ length cs
 unfolding countsOf
 length-counts [] = refl
 length-counts (c ∷ cs) = ap suc (length-counts cs)
@@ -125,11 +128,30 @@ unfolding presentOf countsOf total
 length-present [] = refl
 length-present (c ∷ cs) = omega (arith, length-append (c .present) (presentOf cs), length-present cs)
 
+-- Every cue has as many absent words as present words.
+abbrev pub Paired : List Cue → Type 0
+Paired cs = (c : Cue) → In c cs → length (c .absent) ≡ length (c .present)
+
+-- Cues are so, one by one.
+pub paired-none : Paired []
+paired-none c i = absurd (List·Memᴰ·not-nil i)
+
+pub paired-cons : (c : Cue) (cs : List Cue) → length (c .absent) ≡ length (c .present) → Paired cs → Paired (c ∷ cs)
+paired-cons c cs e h d (List·Memᴰ·head same) = rw same e
+paired-cons c cs e h d (List·Memᴰ·tail i) = h d i
+
 -- As many absent as present words, if they come in pairs.
 length-absent : (cs : List Cue) → Paired cs → length (absentOf cs) ≡ length (presentOf cs)
 unfolding presentOf absentOf
 length-absent [] h = refl
-length-absent (c ∷ cs) h = omega (arith, length-append (c .absent) (absentOf cs), length-append (c .present) (presentOf cs), length-absent cs (h .1))
+length-absent (c ∷ cs) h =
+    omega (
+      arith,
+      length-append (c .absent) (absentOf cs),
+      length-append (c .present) (presentOf cs),
+      h c (List·Memᴰ·head refl),
+      length-absent cs (λ d i. h d (List·Memᴰ·tail i)),
+    )
 
 -- The lists of a sheet with its words in pairs agree in length.
 pub paired-agree : (s : Sheet) → Paired (s .cues) → Agree (listsOf s)
@@ -158,8 +180,8 @@ bodies-body : (cs : List Cue) → Paired cs → bodiesBytes cs ≡ bodyBytes (pr
 unfolding bodiesBytes bodyBytes presentOf absentOf
 bodies-body [] h = refl
 bodies-body (c ∷ cs) h =
-    ap (λ (r : List ℕ). bodyBytes (c .present) (c .absent) ++ r) (bodies-body cs (h .1))
-    ∙ sym (body-append (c .present) (c .absent) (presentOf cs) (absentOf cs) (h .0))
+    ap (λ (r : List ℕ). bodyBytes (c .present) (c .absent) ++ r) (bodies-body cs (λ d i. h d (List·Memᴰ·tail i)))
+    ∙ sym (body-append (c .present) (c .absent) (presentOf cs) (absentOf cs) (h c (List·Memᴰ·head refl)))
 
 -- The contents of cues are the entries of their lists.
 contents-entries : (i : ℕ) (cs : List Cue) → contentsBytes i cs ≡ entries (numbersOf cs) (countsOf cs) (starts i (countsOf cs))
@@ -400,7 +422,8 @@ module _ (bs : List ℕ) (h : AllBelow 256 bs) (s : Settled bs) where
   unfolding weightsStart
   weights-found =
       let start : ℕ = weightsStart (cuesIn bs) in
-      rw (column-at 4 4 start (faultsIn bs) bs) (weights-column (faultsIn bs) (drop start bs) (below-drop 256 start bs h) (omega (arith, length-drop start bs, long)))
+      rw (column-at 4 4 start (faultsIn bs) bs)
+      (weights-column (faultsIn bs) (drop start bs) (below-drop 256 start bs h) (omega (arith, length-drop start bs, long)))
 
   -- The bodies.
   bodies-found : bodyBytes (presentIn bs) (absentIn bs) ≡ drop (bodiesIn bs) bs

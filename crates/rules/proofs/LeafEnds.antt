@@ -4,7 +4,7 @@ use mathlib.Core.Path.{_≡_, refl, sym, _∙_}
 use mathlib.Core.Bool.{Bool, true, false, not, true≢false}
 use mathlib.Core.List.{List, [], _∷_}
 use mathlib.Core.Logic.{_⊎_, inl, inr}
-use Prim.Native.Nat.{ℕ, _-_, _*_, _^_, _≤_}
+use Prim.Native.Nat.{ℕ, _*_, _^_, _≤_}
 use native.Mathlib.Nat.{mul-comm}
 use native.Mathlib.Omega.{arith}
 use lib.ListN.{length}
@@ -49,7 +49,8 @@ unshared : (v : Way) (us : List Way) (i : ℕ) → sharesAny v us ≡ false → 
 unfolding occurs any
 unshared v [] i h b = refl
 unshared v (u ∷ us) i h b =
-    or-neither (bit i (faults u)) _ (apart-bit (faults v) (faults u) i (or-left (shares v u) (sharesAny v us) h) b) (unshared v us i (or-right (shares v u) (sharesAny v us) h) b)
+    or-neither (bit i (faults u)) _ (apart-bit (faults v) (faults u) i (or-left (shares v u) (sharesAny v us) h) b)
+    (unshared v us i (or-right (shares v u) (sharesAny v us) h) b)
 
 -- Such a way is independent of them.
 kept-independent : (v : Way) (us : List Way) → sharesAny v us ≡ false → Apart (satisfies v) (happens us)
@@ -96,7 +97,8 @@ low-bound : (ws : List ℕ) → Weights ws → (vs : List Way) → namesBoth vs 
 low-bound ws k vs c = keep-bound ws k (happens vs) vs [] 0 c (λ x t. t) (λ x t. absurd (true≢false (sym t))) (omega arith)
 
 -- LEAF: both ends bound the exact sum of the leaf's ways.
-pub leaf-bound : (d : Dir) (ws : List ℕ) → Weights ws → (vs : List Way) → namesBoth vs ≡ false → Le d (leafEnd d ws vs * S ^ length ws) (S * mass ws (happens vs))
+pub leaf-bound : (d : Dir) (ws : List ℕ) → Weights ws → (vs : List Way) → namesBoth vs ≡ false
+    → Le d (leafEnd d ws vs * S ^ length ws) (S * mass ws (happens vs))
 leaf-bound down ws k vs c = low-bound ws k vs c
 leaf-bound up ws k vs c = high-bound ws k vs c
 

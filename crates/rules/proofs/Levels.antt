@@ -13,7 +13,8 @@ use borrow.Author.Tests.{not-true}
 use Rattle.rules.specs.Table.{bit, Way, Table, faults}
 use Rattle.rules.specs.Leaf.{any, isEmpty, isOpen}
 use Rattle.rules.specs.Group.{nonempty}
-use Rattle.rules.specs.Tree.{rootWays, Side, left, right, Place, DTree, leaf, inner, occurs, possible, child, nodes, Refinement, tree, hasAt, leafWays, acceptable, series}
+use Rattle.rules.specs.Tree.{rootWays, Side, left, right, Place, DTree, leaf, inner, occurs, possible}
+use Rattle.rules.specs.Tree.{child, nodes, Refinement, tree, hasAt, leafWays, acceptable, series}
 use Rattle.rules.specs.Refusals.{namesBeyond, Accepted}
 use Rattle.rules.specs.declared.Kind.{Kind}
 use Rattle.rules.proofs.Booleans.{and-left, and-right}
@@ -89,7 +90,8 @@ unfolding occurs
 child-fewer k b vs g e = laws k .keeps (λ v. bit g (faults v)) (λ m v. unnamed-stays g m v) b vs e
 
 -- A REFINEMENT REMOVES A FAULT FROM BOTH SIDES: fewer faults occur in either child.
-pub child-less : (k : Kind) (n : ℕ) (b : Side) (ws : List ℕ) (vs : List Way) → namesBeyond n vs ≡ false → isOpen ws vs ≡ true → possible k vs ≡ true → span n (child k b vs) < span n vs
+pub child-less : (k : Kind) (n : ℕ) (b : Side) (ws : List ℕ) (vs : List Way) → namesBeyond n vs ≡ false → isOpen ws vs ≡ true → possible k vs ≡ true
+    → span n (child k b vs) < span n vs
 child-less k n b ws vs h o p =
     let r = laws k .removes n b vs h (open-full ws vs o) (open-some ws vs o) p in
     span-lt n (child k b vs) vs (r .0) (child-fewer k b vs) (r .1) (r .2) (r .3)
@@ -126,11 +128,17 @@ depth-open n ws (right ∷ p) vs (inner k l r) us f o e q =
     omega (arith, depth-open n ws p (child k right vs) r us (child-inside k n right vs f) (o .3) e q, child-less k n right ws vs f (o .0) (o .1))
 
 -- An acceptable refinement is made above level 64: the length of a place never decides.
-pub refined-above : (t : Table) → Accepted t → (ns : List Refinement) → series t ns ≡ true → (n : Refinement) → acceptable t (tree ns) n ≡ true → length (n .place) < 64
+pub refined-above : (t : Table) → Accepted t → (ns : List Refinement) → series t ns ≡ true → (n : Refinement) → acceptable t (tree ns) n ≡ true
+    → length (n .place) < 64
 refined-above t ok ns h n a =
     let f = acceptable-found t (tree ns) n a in
     let c : ℕ = length (t .weights) in
-    omega (arith, depth-open c (t .weights) (n .place) (rootWays t) (tree ns) (f .found) (root-inside t ok) (series-sound t ns h) (f .there) (f .opened), span-most c (rootWays t), few-faults t ok)
+    omega (
+      arith,
+      depth-open c (t .weights) (n .place) (rootWays t) (tree ns) (f .found) (root-inside t ok) (series-sound t ns h) (f .there) (f .opened),
+      span-most c (rootWays t),
+      few-faults t ok,
+    )
 
 -- At most 511 nodes.
 pub few-nodes : (t : Table) (ns : List Refinement) → series t ns ≡ true → nodes (tree ns) ≤ 511

@@ -26,11 +26,13 @@ pub mod Levels
 pub mod Widest
 pub mod Runs
 pub mod Demand3
+pub mod Computing
 pub mod Paper
 pub mod Refused
 pub mod Bytes
 pub mod Laid
 pub mod WriterLists
+pub mod WithinLimits
 pub mod Sheets
 pub mod CueTables
 pub mod RoundTrip

@@ -8,7 +8,8 @@ use native.Mathlib.Omega.{arith}
 use Rattle.rules.specs.Rounding.{Dir, down, up, Le}
 use Rattle.rules.specs.Table.{Way, Table}
 use Rattle.rules.specs.Leaf.{leafEnd}
-use Rattle.rules.specs.Tree.{rootWays, left, right, Place, DTree, leaf, inner, child, end, low, high, refineAt, Refinement, refine, grow, Node, Subtree, childNode, descend, subtree, root, interval}
+use Rattle.rules.specs.Tree.{rootWays, left, right, Place, DTree, leaf, inner, child, end, low, high, refineAt, Refinement}
+use Rattle.rules.specs.Tree.{refine, grow, Node, Subtree, childNode, descend, subtree, root, interval}
 use Rattle.rules.specs.declared.Kind.{Kind}
 use Rattle.rules.proofs.Rounding.{le-self, overlap-left, overlap-mono}
 use Rattle.rules.proofs.KindLaws.{laws}
@@ -52,7 +53,8 @@ pub record Narrower (ws : List ℕ) (x y : Subtree) : Type 0 where
   pub high-falls : interval ws y .high ≤ interval ws x .high
 
 -- What stands at a place of a tree still stands there when the tree has grown, with no wider interval.
-pub grown-at : (ws : List ℕ) (p : Place) (x : Node) {s s′ : DTree} → Grows s s′ → (y : Subtree) → descend p x s ≡ some y → (z : Subtree) × (descend p x s′ ≡ some z) × Narrower ws y z
+pub grown-at : (ws : List ℕ) (p : Place) (x : Node) {s s′ : DTree} → Grows s s′ → (y : Subtree) → descend p x s ≡ some y
+    → (z : Subtree) × (descend p x s′ ≡ some z) × Narrower ws y z
 unfolding descend
 grown-at ws [] x {s} {s′} g y e = (
   record { node = x; below = s′ },

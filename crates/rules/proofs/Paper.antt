@@ -1,5 +1,6 @@
--- The cases on paper, P1 to P9, as one list with one claim about the list, and the whole sheet that 01 prints (01, "On paper first"); A1 to A10 likewise,
--- on ways that say nothing new (02, a). The checker computes all of them from the definitions.
+-- The cases on paper (01, "On paper first"): P1 to P9 as one list with one claim about the list, the runs that 01 names, A1 to A10 on ways that
+-- say nothing new (02, a), and the whole sheet that 01 prints. Each list of cases stands above the claim that settles it.
+-- The checker computes all of them from the definitions. Rests on Computing.antt, which names those.
 use mathlib.Core.Path.{_≡_, refl}
 use mathlib.Core.Bool.{Bool, true, false, _&&_, Bool·beq}
 use mathlib.Core.List.{List, [], _∷_}
@@ -7,18 +8,12 @@ use Prim.Native.Nat.{ℕ}
 use lib.ListN.{length}
 use lib.Dec.{eqb}
 use Rattle.rules.specs.Rounding.{S}
-use Rattle.rules.specs.Table.{Way, Table, ways, rows, absentRows}
-use Rattle.rules.specs.Leaf.{sift, redundant, minimal, any, remaining, isOpen}
-use Rattle.rules.specs.Group.{nonempty, fallApart}
-use Rattle.rules.specs.Tree.{rootWays, left, leaf, occurs, possible, child, combine, end, low, high, refineAt, inners, Refinement, grow, tree, leafWays, acceptable, seriesFrom, series}
-use Rattle.rules.specs.Run
-use Rattle.rules.specs.Refusals
-use Rattle.rules.specs.Calls
-use Rattle.rules.specs.Calls.{Call, byHand, byRun, Outcome, handed, ran, openAnswer, runAnswer, outcome}
+use Rattle.rules.specs.Table.{Way, Table, table}
+use Rattle.rules.specs.Leaf.{isOpen}
+use Rattle.rules.specs.Tree.{rootWays, left, leaf, low, high, Refinement, tree, series}
 use Rattle.rules.specs.Refusals.{tableNumber}
-use Rattle.rules.specs.Sheet
+use Rattle.rules.specs.Calls.{Call, byHand, byRun, Outcome, handed, ran, openAnswer, runAnswer, outcome}
 use Rattle.rules.specs.Sheet.{Sheet, encode}
-use Rattle.rules.specs.Text
 use Rattle.rules.specs.Text.{bytes, text}
 use Rattle.rules.specs.declared.Limits.{Limits}
 use Rattle.rules.specs.declared.Answer.{Answer}
@@ -27,6 +22,7 @@ use Rattle.rules.specs.declared.Verdict.{Verdict}
 use Rattle.rules.specs.declared.Verdict.the-variants.{Met, Done, Spent}
 use Rattle.rules.specs.declared.Kind.{Kind}
 use Rattle.rules.specs.declared.Kind.the-variants.{IndependentOr, Shannon}
+use Rattle.rules.proofs.Computing.{of-trees, of-refusals, of-calls, of-bytes, of-text}
 
 -- ---- P1 to P9
 
@@ -39,9 +35,6 @@ record Case : Type 0 where
   made : List Refinement
   afterLow : ℕ
   afterHigh : ℕ
-
-abbrev table : List ℕ → List ℕ → List ℕ → Table
-table ws ps qs = record { weights = ws; present = ps; absent = qs }
 
 -- A case without refinements.
 abbrev plain : Table → ℕ → ℕ → Bool → Case
@@ -86,7 +79,7 @@ allHold (c ∷ cs) = holds c && allHold cs
 
 -- P1 TO P9 HOLD.
 pub on-paper : allHold cases ≡ true
-unfolding ways rows absentRows any remaining sift redundant minimal rootWays isOpen nonempty fallApart occurs possible child combine end low high refineAt inners grow leafWays acceptable seriesFrom tableNumber Refusals.tableRefusals Refusals.wayRefusals Refusals.first Refusals.faultsOutside Refusals.someAbove Refusals.overweight Refusals.wordsAmiss Refusals.namesBeyond Refusals.namesBoth
+unfolding of-trees of-refusals
 on-paper = refl
 
 -- ---- runs that 01 names: P3 with allowance 0 is done, with 1 is met, 0 refinements each; P4 with the printed sheet's limits
@@ -117,7 +110,7 @@ AllEqual [] = Unit {0}
 AllEqual (x ∷ xs) = (x .0 ≡ x .1) × AllEqual xs
 
 pub runs-on-paper : AllEqual runs
-unfolding absentRows rows ways any remaining sift redundant minimal rootWays isOpen nonempty fallApart occurs possible child combine end low high refineAt inners grow leafWays Run.from Run.wider Run.widest Run.named Run.mostNamed Run.choice Run.next Run.narrow Run.turn Run.picks Run.verdict Refusals.first Refusals.faultsOutside Refusals.someAbove Refusals.overweight Refusals.namesBeyond Refusals.namesBoth Refusals.allowanceAbove Refusals.budgetAbove Refusals.wayRefusals Refusals.limitRefusals Calls.runAnswer Calls.runAnswerBy Calls.runNumber Calls.runRefusals Calls.runMakes Calls.figures tableNumber Refusals.tableRefusals Refusals.wordsAmiss
+unfolding of-calls
 runs-on-paper = (refl, (refl, (refl, (refl, (refl, (refl, (refl, tt)))))))
 
 -- ---- ways that say nothing new: A1 to A10 (02, a)
@@ -198,7 +191,7 @@ redundancies =
 
 -- A1 TO A10 HOLD.
 pub redundant-on-paper : AllEqual redundancies
-unfolding absentRows rows ways any remaining sift redundant minimal rootWays isOpen nonempty fallApart occurs possible child combine end low high refineAt inners grow leafWays Run.from Run.wider Run.widest Run.named Run.mostNamed Run.choice Run.next Run.narrow Run.turn Run.picks Run.verdict Refusals.first Refusals.faultsOutside Refusals.someAbove Refusals.overweight Refusals.namesBeyond Refusals.namesBoth Refusals.allowanceAbove Refusals.budgetAbove Refusals.wayRefusals Refusals.limitRefusals Calls.runAnswer Calls.runAnswerBy Calls.runNumber Calls.runRefusals Calls.runMakes Calls.figures tableNumber Refusals.tableRefusals Refusals.wordsAmiss Calls.openAnswer Calls.answerBy Calls.outcome Calls.handAnswer Calls.handNumber Calls.handRefusals Calls.leafRefusals Calls.leafNamed Calls.noLeaf Calls.ofLeaf Calls.handMakes Calls.placeOf
+unfolding of-calls
 redundant-on-paper = (refl, (refl, (refl, (refl, (refl, (refl, (refl, (refl, (refl, (refl, tt))))))))))
 
 -- ---- the whole sheet
@@ -214,14 +207,14 @@ show budget =
 
 -- Its 72 bytes.
 pub show-length : length (encode (show 40)) ≡ 72
-unfolding encode Sheet.headBytes Sheet.contentsBytes Sheet.weightsBytes Sheet.bodyBytes Sheet.bodiesBytes Sheet.bodiesStart Sheet.weightsStart Sheet.little
+unfolding of-bytes
 show-length = refl
 
 -- WHAT THE PROGRAM PRINTS for them, with budget 40 and with budget 1.
 pub sheet-text : text (encode (show 40)) ≡ bytes "cue low high steps verdict\n7 300000000 300000000 2 met\n9 0 0 0 met\n"
-unfolding absentRows rows ways any remaining sift redundant minimal rootWays isOpen nonempty fallApart occurs possible child combine end low high refineAt inners grow leafWays Run.from Run.wider Run.widest Run.named Run.mostNamed Run.choice Run.next Run.narrow Run.turn Run.picks Run.verdict Refusals.first Refusals.faultsOutside Refusals.cuesOutside Refusals.someAbove Refusals.rising Refusals.notRising Refusals.crowded Refusals.overweight Refusals.namesBeyond Refusals.namesBoth Refusals.allowanceAbove Refusals.budgetAbove Refusals.wayRefusals Refusals.limitRefusals Sheet.little Sheet.value Sheet.field Sheet.column Sheet.total Sheet.deal Sheet.sheetOf Sheet.weightsStart Sheet.bodiesStart Sheet.starts Sheet.headBytes Sheet.contentsBytes Sheet.weightsBytes Sheet.bodyBytes Sheet.bodiesBytes encode Sheet.listsIn Sheet.decode Sheet.sameNumbers Sheet.readRefusals Sheet.readNumber bytes Text.digits Text.decimal Text.word Text.line Text.lines Text.sheetText Text.textBy text
+unfolding of-text
 sheet-text = refl
 
 pub sheet-text-1 : text (encode (show 1)) ≡ bytes "cue low high steps verdict\n7 300000000 350000000 1 spent\n9 0 0 0 met\n"
-unfolding absentRows rows ways any remaining sift redundant minimal rootWays isOpen nonempty fallApart occurs possible child combine end low high refineAt inners grow leafWays Run.from Run.wider Run.widest Run.named Run.mostNamed Run.choice Run.next Run.narrow Run.turn Run.picks Run.verdict Refusals.first Refusals.faultsOutside Refusals.cuesOutside Refusals.someAbove Refusals.rising Refusals.notRising Refusals.crowded Refusals.overweight Refusals.namesBeyond Refusals.namesBoth Refusals.allowanceAbove Refusals.budgetAbove Refusals.wayRefusals Refusals.limitRefusals Sheet.little Sheet.value Sheet.field Sheet.column Sheet.total Sheet.deal Sheet.sheetOf Sheet.weightsStart Sheet.bodiesStart Sheet.starts Sheet.headBytes Sheet.contentsBytes Sheet.weightsBytes Sheet.bodyBytes Sheet.bodiesBytes encode Sheet.listsIn Sheet.decode Sheet.sameNumbers Sheet.readRefusals Sheet.readNumber bytes Text.digits Text.decimal Text.word Text.line Text.lines Text.sheetText Text.textBy text
+unfolding of-text
 sheet-text-1 = refl

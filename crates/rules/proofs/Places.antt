@@ -8,7 +8,8 @@ use mathlib.Core.Logic.{_⊎_, inl, inr}
 use Prim.Native.Nat.{suc, _+_}
 use native.Mathlib.Omega.{arith}
 use Rattle.rules.specs.Table.{Way}
-use Rattle.rules.specs.Tree.{Side, left, right, Place, DTree, leaf, inner, child, refineAt, inners, nodes, hasAt, leafAt, onPath, kindAt, leafWays, Node, Subtree, childNode, descend}
+use Rattle.rules.specs.Tree.{Side, left, right, Place, DTree, leaf, inner, child, refineAt, inners, nodes}
+use Rattle.rules.specs.Tree.{hasAt, leafAt, onPath, kindAt, leafWays, Node, Subtree, childNode, descend}
 use Rattle.rules.specs.declared.Kind.{Kind}
 
 -- ---- two trees with the same done at each place are one
@@ -223,7 +224,8 @@ subtree-kind (left ∷ p) x (inner k l r) y e = subtree-kind p (childNode k left
 subtree-kind (right ∷ p) x (inner k l r) y e = subtree-kind p (childNode k right x) r y e
 
 -- The ways of a leaf are those of what stands there.
-pub leaf-subtree : (p : Place) (x : Node) (s : DTree) (us : List Way) → leafWays p (x .ways) s ≡ some us → (y : Subtree) × (descend p x s ≡ some y) × (y .node .ways ≡ us) × (y .below ≡ leaf)
+pub leaf-subtree : (p : Place) (x : Node) (s : DTree) (us : List Way) → leafWays p (x .ways) s ≡ some us
+    → (y : Subtree) × (descend p x s ≡ some y) × (y .node .ways ≡ us) × (y .below ≡ leaf)
 unfolding leafWays descend
 leaf-subtree [] x leaf us e = (record { node = x; below = leaf }, refl, Option·some-injective (x .ways) us e, refl)
 leaf-subtree [] x (inner k l r) us e = absurd (Option·none-ne-some _ e)
@@ -243,7 +245,8 @@ elsewhere (left ∷ q) (right ∷ p) k x (inner j l r) h g = refl
 elsewhere (right ∷ q) (right ∷ p) k x (inner j l r) h g = elsewhere q p k (childNode j right x) r h g
 
 -- Off the path to the refined leaf a place that the tree had keeps what stood there.
-pub off-path : (q p : Place) (k : Kind) (x : Node) (s : DTree) → onPath q p ≡ false → hasAt q s ≡ true → leafAt p s ≡ true → descend q x (refineAt p k s) ≡ descend q x s
+pub off-path : (q p : Place) (k : Kind) (x : Node) (s : DTree) → onPath q p ≡ false → hasAt q s ≡ true → leafAt p s ≡ true
+    → descend q x (refineAt p k s) ≡ descend q x s
 unfolding onPath hasAt leafAt descend refineAt
 off-path [] p k x s h g l = absurd (true≢false h)
 off-path (c ∷ q) p k x leaf h g l = absurd (true≢false (sym g))
@@ -281,9 +284,11 @@ pub subtree-child : (p : Place) (b : Side) (k : Kind) (x : Node) (s : DTree) (y 
 unfolding kindAt descend
 subtree-child [] b k x leaf y d e = absurd (Option·none-ne-some _ d)
 subtree-child [] left k x (inner j l r) y d e =
-    ap₂ (λ (i : Kind) (z : Subtree). some (record { node = childNode i left (z .node); below = branch left (z .below) })) (Option·some-injective j k d) (Option·some-injective _ y e)
+    ap₂ (λ (i : Kind) (z : Subtree). some (record { node = childNode i left (z .node); below = branch left (z .below) }))
+    (Option·some-injective j k d) (Option·some-injective _ y e)
 subtree-child [] right k x (inner j l r) y d e =
-    ap₂ (λ (i : Kind) (z : Subtree). some (record { node = childNode i right (z .node); below = branch right (z .below) })) (Option·some-injective j k d) (Option·some-injective _ y e)
+    ap₂ (λ (i : Kind) (z : Subtree). some (record { node = childNode i right (z .node); below = branch right (z .below) }))
+    (Option·some-injective j k d) (Option·some-injective _ y e)
 subtree-child (c ∷ p) b k x leaf y d e = absurd (Option·none-ne-some _ d)
 subtree-child (left ∷ p) b k x (inner j l r) y d e = subtree-child p b k (childNode j left x) l y d e
 subtree-child (right ∷ p) b k x (inner j l r) y d e = subtree-child p b k (childNode j right x) r y d e
@@ -317,7 +322,8 @@ nothing-below (left ∷ p) b q x (inner j l r) h = nothing-below p b q (childNod
 nothing-below (right ∷ p) b q x (inner j l r) h = nothing-below p b q (childNode j right x) r h
 
 -- Where something stands and nothing was done there is a leaf, with the ways that stand there.
-pub undone-leaf : (p : Place) (x : Node) (s : DTree) (y : Subtree) → descend p x s ≡ some y → kindAt p s ≡ none → (leafWays p (x .ways) s ≡ some (y .node .ways)) × (y .below ≡ leaf)
+pub undone-leaf : (p : Place) (x : Node) (s : DTree) (y : Subtree) → descend p x s ≡ some y → kindAt p s ≡ none
+    → (leafWays p (x .ways) s ≡ some (y .node .ways)) × (y .below ≡ leaf)
 unfolding descend kindAt leafWays
 undone-leaf [] x leaf y e d = let q = Option·some-injective _ y e in (ap (λ (z : Subtree). some (z .node .ways)) q, sym (ap (λ (z : Subtree). z .below) q))
 undone-leaf [] x (inner j l r) y e d = absurd (Option·none-ne-some _ (sym d))

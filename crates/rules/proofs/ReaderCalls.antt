@@ -2,16 +2,19 @@
 -- A refused sheet is refused at every position; at and past the last cue of an accepted one there is nothing to hand over.
 -- Rests on RoundTrip.antt for the lists found in bytes, on Laid.antt for where the bodies lie.
 use mathlib.Core.Path.{_≡_, refl, sym, ap, ap₂, _∙_}
-use mathlib.Core.List.{List, [], _∷_, _++_, append-assoc}
+use mathlib.Core.List.{List, [], _∷_, _++_, append-assoc, List·Memᴰ·head, List·Memᴰ·tail}
 use Prim.Native.Nat.{ℕ, zero, suc, _+_, _*_, _≤_, _<_}
 use native.Mathlib.Omega.{arith}
 use lib.ListN.{length, take, drop, getD, length-append}
 use lib.Seq.{take-at, drop-at}
 use borrow.Author.Tests.{lt-ltb, le-ltb}
-use Rattle.rules.specs.Sheet.{Cue, Sheet, Lists, total, sheetOf, numbersOf, countsOf, listsOf, weightsStart, bodiesStart, starts, headBytes, contentsBytes, weightsBytes, bodyBytes, bodiesBytes, encode, faultsIn, cuesIn, numbersIn, countsIn, placesIn, bodiesIn, listsIn, decode, readNumber, entryIn, entryAnswerBy, entryAnswer, bodyIn, AllBelow, Paired}
+use Rattle.rules.specs.Sheet.{AllBelow, Cue, Sheet, Lists, total, sheetOf, numbersOf, countsOf, listsOf}
+use Rattle.rules.specs.Sheet.{weightsStart, bodiesStart, starts, headBytes, contentsBytes, weightsBytes, bodyBytes, bodiesBytes, encode}
+use Rattle.rules.specs.Sheet.{faultsIn, cuesIn, numbersIn, countsIn, placesIn, bodiesIn, listsIn, decode}
+use Rattle.rules.specs.Sheet.{readNumber, entryIn, entryAnswerBy, entryAnswer, bodyIn}
 use Rattle.rules.specs.declared.EntryAnswer.{EntryAnswer}
 use Rattle.rules.proofs.Bytes.{length-column}
-use Rattle.rules.proofs.Laid.{length-body, length-numbers}
+use Rattle.rules.proofs.Laid.{Paired, length-body, length-numbers}
 use Rattle.rules.proofs.Sheets.{encode-length, within-decoded, encode-decode, read-kept}
 use Rattle.rules.proofs.RoundTrip.{lists-decoded}
 
@@ -40,18 +43,25 @@ body-at front start e [] p i d there = absurd (omega arith)
 body-at front start e (c ∷ cs) p zero d there =
     let own : List ℕ = bodyBytes (c .present) (c .absent) in
     ap (take (16 * length (c .present))) (drop-at front (own ++ bodiesBytes cs) start e)
-    ∙ take-at own (bodiesBytes cs) (16 * length (c .present)) (length-body (c .present) (c .absent) (p .0))
+    ∙ take-at own (bodiesBytes cs) (16 * length (c .present)) (length-body (c .present) (c .absent) (p c (List·Memᴰ·head refl)))
 body-at front start e (c ∷ cs) p (suc i) d there =
     let own : List ℕ = bodyBytes (c .present) (c .absent) in
-    let next : length (front ++ own) ≡ start + 16 * length (c .present) = omega (arith, length-append front own, length-body (c .present) (c .absent) (p .0)) in
-    rw (← append-assoc front own (bodiesBytes cs)) (body-at (front ++ own) (start + 16 * length (c .present)) next cs (p .1) i d (omega arith))
+    let long = length-body (c .present) (c .absent) (p c (List·Memᴰ·head refl)) in
+    let next : length (front ++ own) ≡ start + 16 * length (c .present) = omega (arith, length-append front own, long) in
+    let rest : Paired cs = λ e m. p e (List·Memᴰ·tail m) in
+    rw (← append-assoc front own (bodiesBytes cs)) (body-at (front ++ own) (start + 16 * length (c .present)) next cs rest i d (omega arith))
 
 -- Sixteen bytes for each way of all cues.
 bodies-length : (cs : List Cue) → Paired cs → length (bodiesBytes cs) ≡ 16 * total (countsOf cs)
 unfolding bodiesBytes countsOf total
 bodies-length [] p = refl
 bodies-length (c ∷ cs) p =
-    omega (arith, length-append (bodyBytes (c .present) (c .absent)) (bodiesBytes cs), length-body (c .present) (c .absent) (p .0), bodies-length cs (p .1))
+    omega (
+      arith,
+      length-append (bodyBytes (c .present) (c .absent)) (bodiesBytes cs),
+      length-body (c .present) (c .absent) (p c (List·Memᴰ·head refl)),
+      bodies-length cs (λ d m. p d (List·Memᴰ·tail m)),
+    )
 
 -- What stands before the bodies of a sheet.
 sheetFront : Sheet → List ℕ

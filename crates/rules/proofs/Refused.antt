@@ -1,5 +1,5 @@
 -- Which refusals concern which call, in 01's order, and what each says of an input that it is for: worked examples as one list with one claim.
--- The checker computes both from the definitions (01, "Refused, by number").
+-- The checker computes both from the definitions (01, "Refused, by number"). Rests on Computing.antt, which names those, and on Paper.antt for the sheet.
 use mathlib.Core.Path.{_≡_, refl}
 use mathlib.Core.Bool.{Bool, true, _&&_}
 use mathlib.Core.List.{List, [], _∷_, _++_}
@@ -7,16 +7,14 @@ use Prim.Native.Nat.{ℕ}
 use lib.ListN.{length, take, drop, replicate}
 use lib.Dec.{eqb}
 use Rattle.rules.specs.Rounding.{S}
-use Rattle.rules.specs.Table.{Table, ways, rows, absentRows}
-use Rattle.rules.specs.Leaf
+use Rattle.rules.specs.Table.{Table, table}
 use Rattle.rules.specs.Tree.{DTree}
-use Rattle.rules.specs.Refusals
-use Rattle.rules.specs.Refusals.{Refusal, first, tableRefusals, tableNumber}
+use Rattle.rules.specs.Refusals.{Refusal, wayRefusals, limitRefusals, tableRefusals, tableNumber}
 use Rattle.rules.specs.Calls.{leafRefusals, handRefusals, runRefusals}
-use Rattle.rules.specs.Sheet
 use Rattle.rules.specs.Sheet.{Lists, little, encode, readRefusals, readNumber, listsRefusals, writeRefusals, writeNumber}
 use Rattle.rules.specs.declared.Kind.{Kind}
 use Rattle.rules.specs.declared.Limits.{Limits}
+use Rattle.rules.proofs.Computing.{of-reading, of-writing}
 use Rattle.rules.proofs.Paper.{show}
 
 -- ---- "Reading a sheet concerns 1 to 8, 10, 12 to 15; opening a table 9 to 13; refining by hand 9 to 13 and 16 to 20; a run 9 to 16;
@@ -27,24 +25,24 @@ numbers [] = []
 numbers (x ∷ xs) = x .number ∷ numbers xs
 
 pub reading-concerns : (bs : List ℕ) → numbers (readRefusals bs) ≡ 1 ∷ 2 ∷ 3 ∷ 4 ∷ 5 ∷ 6 ∷ 7 ∷ 8 ∷ 10 ∷ 12 ∷ 13 ∷ 14 ∷ 15 ∷ []
-unfolding readRefusals Refusals.wayRefusals Refusals.limitRefusals
+unfolding readRefusals wayRefusals limitRefusals
 reading-concerns bs = refl
 
 pub opening-concerns : (t : Table) → numbers (tableRefusals t) ≡ 9 ∷ 10 ∷ 11 ∷ 12 ∷ 13 ∷ []
-unfolding tableRefusals Refusals.wayRefusals
+unfolding tableRefusals wayRefusals
 opening-concerns t = refl
 
 pub hand-concerns : (t : Table) (bad : Bool) (s : DTree) (bs : List ℕ) (k : Kind)
     → numbers (handRefusals t bad s bs k) ≡ 9 ∷ 10 ∷ 11 ∷ 12 ∷ 13 ∷ 16 ∷ 17 ∷ 18 ∷ 19 ∷ 20 ∷ []
-unfolding handRefusals leafRefusals tableRefusals Refusals.wayRefusals
+unfolding handRefusals leafRefusals tableRefusals wayRefusals
 hand-concerns t bad s bs k = refl
 
 pub run-concerns : (t : Table) (bad : Bool) (m : Limits) → numbers (runRefusals t bad m) ≡ 9 ∷ 10 ∷ 11 ∷ 12 ∷ 13 ∷ 14 ∷ 15 ∷ 16 ∷ []
-unfolding runRefusals tableRefusals Refusals.wayRefusals Refusals.limitRefusals
+unfolding runRefusals tableRefusals wayRefusals limitRefusals
 run-concerns t bad m = refl
 
 pub writing-concerns : (x : Lists) (space : ℕ) → numbers (writeRefusals x space) ≡ 2 ∷ 5 ∷ 6 ∷ 10 ∷ 12 ∷ 13 ∷ 14 ∷ 15 ∷ 21 ∷ 22 ∷ []
-unfolding writeRefusals listsRefusals Refusals.wayRefusals Refusals.limitRefusals
+unfolding writeRefusals listsRefusals wayRefusals limitRefusals
 writing-concerns x space = refl
 
 -- ---- worked examples
@@ -56,7 +54,7 @@ pub data Example : Type 0 where
   writing : Lists → ℕ → ℕ → Example
 
 abbrev right : Example → Bool
-right (opening ws ps qs n) = eqb (tableNumber (record { weights = ws; present = ps; absent = qs })) n
+right (opening ws ps qs n) = eqb (tableNumber (table ws ps qs)) n
 right (reading bs n) = eqb (readNumber bs) n
 right (writing x space n) = eqb (writeNumber x space) n
 
@@ -116,5 +114,5 @@ examples =
 
 -- EVERY EXAMPLE GETS ITS NUMBER.
 pub refused-by-number : allRight examples ≡ true
-unfolding ways rows absentRows Leaf.any first Refusals.faultsOutside Refusals.cuesOutside Refusals.someAbove Refusals.rising Refusals.notRising Refusals.crowded Refusals.overweight Refusals.wordsAmiss Refusals.namesBeyond Refusals.namesBoth Refusals.allowanceAbove Refusals.budgetAbove Refusals.wayRefusals Refusals.limitRefusals tableRefusals tableNumber little Sheet.value Sheet.field Sheet.column Sheet.total Sheet.deal Sheet.sheetOf Sheet.weightsStart Sheet.bodiesStart Sheet.starts Sheet.headBytes Sheet.contentsBytes Sheet.weightsBytes Sheet.bodyBytes Sheet.bodiesBytes encode Sheet.sameNumbers readRefusals readNumber Sheet.disagree listsRefusals writeRefusals writeNumber
+unfolding of-reading of-writing
 refused-by-number = refl

@@ -3,7 +3,7 @@
 use mathlib.Core.Path.{_≡_, refl, sym, ap, ap₂, _∙_}
 use mathlib.Core.Bool.{Bool, true, false, not, _&&_, _||_, true≢false}
 use mathlib.Core.List.{List, [], _∷_}
-use Prim.Native.Nat.{ℕ, zero, suc, _-_, _/_, _^_, _<_}
+use Prim.Native.Nat.{ℕ, zero, suc, _/_, _^_, _<_}
 use native.Mathlib.Omega.{arith}
 use lib.ListN.{length, set}
 use lib.Dec.{eqb, eqb·zero-suc}
@@ -150,7 +150,10 @@ fix-present f =
     fixing (2 ^ f) 0 f true
     (record {
       only = or-zero-r (2 ^ f);
-      test = λ v. ap (λ (k : ℕ). not (eqb k 0)) (ap (λ (x : ℕ). bitOr x (bitAnd (v .absent) (2 ^ f))) (and-zero-r (v .present)) ∙ or-zero-l (bitAnd (v .absent) (2 ^ f))) ∙ meets-pow (v .absent) f;
+      test =
+          λ v. ap (λ (k : ℕ). not (eqb k 0))
+          (ap (λ (x : ℕ). bitOr x (bitAnd (v .absent) (2 ^ f))) (and-zero-r (v .present)) ∙ or-zero-l (bitAnd (v .absent) (2 ^ f)))
+          ∙ meets-pow (v .absent) f;
     })
 
 -- The same for a fault fixed absent.
@@ -159,7 +162,10 @@ fix-absent f =
     fixing 0 (2 ^ f) f false
     (record {
       only = or-zero-l (2 ^ f);
-      test = λ v. ap (λ (k : ℕ). not (eqb k 0)) (ap (bitOr (bitAnd (v .present) (2 ^ f))) (and-zero-r (v .absent)) ∙ or-zero-r (bitAnd (v .present) (2 ^ f))) ∙ meets-pow (v .present) f;
+      test =
+          λ v. ap (λ (k : ℕ). not (eqb k 0))
+          (ap (bitOr (bitAnd (v .present) (2 ^ f))) (and-zero-r (v .absent)) ∙ or-zero-r (bitAnd (v .present) (2 ^ f)))
+          ∙ meets-pow (v .present) f;
     })
 
 -- ---- fixing more faults
@@ -185,7 +191,8 @@ clash P A v = bitOr (bitAnd (v .present) A) (bitAnd (v .absent) P)
 
 contradicted-join : (P A P′ A′ : ℕ) (v : Way) → contradicted (bitOr P P′) (bitOr A A′) v ≡ contradicted P A v || contradicted P′ A′ v
 contradicted-join P A P′ A′ v =
-    ap (λ (k : ℕ). not (eqb k 0)) (bits-ext (clash (bitOr P P′) (bitOr A A′) v) (bitOr (clash P A v) (clash P′ A′ v)) at) ∙ meets-either (clash P A v) (clash P′ A′ v)
+    ap (λ (k : ℕ). not (eqb k 0)) (bits-ext (clash (bitOr P P′) (bitOr A A′) v) (bitOr (clash P A v) (clash P′ A′ v)) at)
+    ∙ meets-either (clash P A v) (clash P′ A′ v)
   where
     shuffle : (p q a a′ b b′ : Bool) → (p && (a || a′)) || (q && (b || b′)) ≡ ((p && a) || (q && b)) || ((p && a′) || (q && b′))
     shuffle true q true a′ b b′ = refl

@@ -7,7 +7,8 @@ use Prim.Native.Nat.{ℕ, zero, suc}
 use lib.ListN.{length}
 use lib.Dec.{ltb}
 use Rattle.rules.specs.Answers.{countedBy, readReply, entryReply, writeReply}
-use Rattle.rules.specs.Sheet.{Lists, sheetOf, encode, readNumber, headIn, readAnswerBy, readAnswer, cuesIn, entryIn, entryAnswerBy, entryAnswer, writeNumber, writeAnswerBy, writeAnswer}
+use Rattle.rules.specs.Sheet.{Lists, sheetOf, encode, readNumber, headIn, readAnswerBy, readAnswer, cuesIn, entryIn}
+use Rattle.rules.specs.Sheet.{entryAnswerBy, entryAnswer, writeNumber, writeAnswerBy, writeAnswer}
 use Rattle.rules.specs.declared.Head.{Head}
 use Rattle.rules.specs.declared.Entry.{Entry}
 

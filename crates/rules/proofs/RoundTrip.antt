@@ -1,8 +1,9 @@
 -- What is written and read is what was given, and what is read and written is what was there (01, "The sheet").
 -- The writer puts the bytes of a sheet at the front of a lent space and leaves all else in it as it was.
--- Rests on Sheets.antt for a sheet's bytes, on First.antt for the refusals.
+-- Rests on Sheets.antt and WithinLimits.antt for a sheet's bytes and limits, on First.antt for the refusals.
 use mathlib.Core.Path.{_≡_, refl, sym, ap, _∙_}
 use mathlib.Core.List.{List, [], _∷_, _++_}
+use mathlib.Core.Logic.{_↔_}
 use Prim.Native.Nat.{ℕ, zero, suc, _≤_}
 use native.Mathlib.Omega.{arith}
 use lib.ListN.{length, take, drop, length-append, length-drop}
@@ -10,10 +11,12 @@ use lib.Seq.{take-append-seam, drop-append-seam}
 use lib.Dec.{ltb}
 use borrow.Author.Tests.{ltb-false, le-ltb}
 use Rattle.rules.specs.Refusals.{Refusal, refusal, first, wayRefusals, limitRefusals}
-use Rattle.rules.specs.Sheet.{Lists, sheetOf, listsOf, encode, listsIn, decode, readNumber, listsRefusals, writeRefusals, writeNumber, writeAnswerBy, writeAnswer, writtenBy, written, AllBelow}
+use Rattle.rules.specs.Sheet.{AllBelow, Sheet, Lists, sheetOf, listsOf, encode, listsIn, decode, readNumber, listsRefusals}
+use Rattle.rules.specs.Sheet.{writeRefusals, writeNumber, writeAnswerBy, writeAnswer, writtenBy, written, Within}
 use Rattle.rules.specs.declared.WriteAnswer.{WriteAnswer}
 use Rattle.rules.proofs.First.{NoneApplies, none-applies, first-none, first-later, first-after, first-before}
-use Rattle.rules.proofs.Sheets.{lists-sheet, accepts-encoded, within-decoded, encode-decode, lists-encode}
+use Rattle.rules.proofs.WithinLimits.{within-tested}
+use Rattle.rules.proofs.Sheets.{sheet-lists, lists-sheet, accepts-encoded, within-decoded, encode-decode, lists-encode}
 
 -- ---- when the writer accepts
 
@@ -45,6 +48,26 @@ write-kept x n h = (kept, ltb-false n (length (bytesOf x)) (none-applies last re
 pub kept-write : (x : Lists) (n : ℕ) → first (listsRefusals x) ≡ 0 → length (bytesOf x) ≤ n → writeNumber x n ≡ 0
 unfolding writeNumber writeRefusals
 kept-write x n h fits = first-after (listsRefusals x) _ (lists-free x h) ∙ first-later _ _ (le-ltb n (length (bytesOf x)) fits) ∙ first-none
+
+-- Lists that are those of a sheet within the limits whose bytes fit into so many.
+pub record OfSheet (x : Lists) (n : ℕ) : Type 0 where
+  pub sheet : Sheet
+  pub within : Within sheet
+  pub lists : listsOf sheet ≡ x
+  pub room : length (encode sheet) ≤ n
+
+-- The writer accepts exactly these, where the cue numbers fit two bytes.
+pub write-exactly : (x : Lists) (n : ℕ) → AllBelow 65536 (x .numbers) → (writeNumber x n ≡ 0) ↔ OfSheet x n
+write-exactly x n numbers = (
+  (λ accepted.
+      let k = write-kept x n accepted in
+      let given = lists-sheet x numbers (k .0) in
+      record { sheet = sheetOf x; within = given .1; lists = given .0; room = k .1 }),
+  (λ o.
+      let same : sheetOf x ≡ o .sheet = ap sheetOf (sym (o .lists)) ∙ sheet-lists (o .sheet) (o .within) in
+      let kept : first (listsRefusals x) ≡ 0 = rw (← o .lists) (within-tested (o .sheet) (o .within) .kept) in
+      kept-write x n kept (rw same (o .room))),
+)
 
 -- ---- what the space holds afterwards
 
@@ -107,7 +130,7 @@ module _ (bs : List ℕ) (h : AllBelow 256 bs) (accepted : readNumber bs ≡ 0) 
 
   -- The writer keeps them.
   pub read-lists-kept : first (listsRefusals (listsIn bs)) ≡ 0
-  read-lists-kept = ap (λ (x : Lists). first (listsRefusals x)) lists-decoded ∙ within-decoded bs h accepted .kept
+  read-lists-kept = ap (λ (x : Lists). first (listsRefusals x)) lists-decoded ∙ within-tested (decode bs) (within-decoded bs h accepted) .kept
 
   -- READ AND WRITTEN: into a space that is long enough they are written as the bytes that were read.
   pub read-write : (space : List ℕ) → length bs ≤ length space → (writeNumber (listsIn bs) (length space) ≡ 0) × Put (listsIn bs) bs space

@@ -14,7 +14,8 @@ use borrow.Author.Tests.{ltb-true, ltb-false, leb-true, leb-false, lt-ltb}
 use Rattle.rules.specs.Table.{Way, Table}
 use Rattle.rules.specs.Leaf.{isOpen}
 use Rattle.rules.specs.Group.{fallApart}
-use Rattle.rules.specs.Tree.{rootWays, left, right, Place, DTree, leaf, inner, possible, child, low, high, inners, Refinement, refine, grow, leafWays, roomy, acceptable, seriesFrom}
+use Rattle.rules.specs.Tree.{rootWays, left, right, Place, DTree, leaf, inner, possible, child, low, high}
+use Rattle.rules.specs.Tree.{inners, Refinement, refine, grow, leafWays, roomy, acceptable, seriesFrom}
 use Rattle.rules.specs.Run.{Candidate, widest, mostNamed, choice, next, narrow, Turn, stop, go, turn, picks, verdict, ran}
 use Rattle.rules.specs.Refusals.{namesBeyond, Accepted}
 use Rattle.rules.specs.declared.Kind.{Kind}
@@ -42,7 +43,8 @@ choice-possible ws vs h o = by (fallApart vs) refl
         named-occurs _ vs (omega (arith, occurs-named (r .0) vs (r .2), most-named (length ws) (r .0) vs (r .1)))
 
 -- The ways of a leaf name no fault beyond the table's.
-pub leaf-inside : (n : ℕ) (p : Place) (vs : List Way) (s : DTree) (us : List Way) → namesBeyond n vs ≡ false → leafWays p vs s ≡ some us → namesBeyond n us ≡ false
+pub leaf-inside : (n : ℕ) (p : Place) (vs : List Way) (s : DTree) (us : List Way) → namesBeyond n vs ≡ false → leafWays p vs s ≡ some us
+    → namesBeyond n us ≡ false
 unfolding leafWays
 leaf-inside n [] vs leaf us h e = subst (λ (x : List Way). namesBeyond n x ≡ false) (Option·some-injective vs us e) h
 leaf-inside n [] vs (inner k l r) us h e = absurd (Option·none-ne-some _ e)
@@ -59,11 +61,12 @@ next-acceptable t ok s n room e = by (widest (t .weights) (rootWays t) s) (wides
         → acceptable t s n ≡ true
     by none h e = absurd (Option·none-ne-some _ e)
     by (some x) (the x₁ h) e =
+        let inside = leaf-inside (length (t .weights)) (x .place) (rootWays t) s (x .ways) (root-inside t ok) (h .there) in
         subst (λ (m : Refinement). acceptable t s m ≡ true) (Option·some-injective _ n e)
         (rw (h .there, acceptable)
         (and-both (isOpen (t .weights) (x .ways)) _ (h .opened)
         (and-both (roomy s) _ (lt-ltb (inners s) 255 room)
-        (choice-possible (t .weights) (x .ways) (leaf-inside (length (t .weights)) (x .place) (rootWays t) s (x .ways) (root-inside t ok) (h .there)) (h .opened)))))
+        (choice-possible (t .weights) (x .ways) inside (h .opened)))))
 
 -- ---- a turn, read backwards
 
@@ -79,7 +82,11 @@ unfolding turn narrow
 reason t a s = by (leb (high t s - low t s) a) refl (next t s) refl (roomy s) refl
   where
     by : (b : Bool) → leb (high t s - low t s) a ≡ b → (o : Option Refinement) → next t s ≡ o → (c : Bool) → roomy s ≡ c
-        → Reason t a s (elim b as (λ b. Turn) [ true ↦ stop Met | false ↦ elim o as (λ o. Turn) [ none ↦ stop Done | some n ↦ elim c as (λ b. Turn) [ true ↦ go n | false ↦ stop Full ] ] ])
+        → Reason t a s
+        (elim b as (λ b. Turn) [
+          | true ↦ stop Met
+          | false ↦ elim o as (λ o. Turn) [ none ↦ stop Done | some n ↦ elim c as (λ b. Turn) [ true ↦ go n | false ↦ stop Full ] ]
+        ])
     by true e o q c r = met (leb-true (high t s - low t s) a e)
     by false e none q c r = done (leb-false (high t s - low t s) a e) q
     by false e (some n) q true r = more (leb-false (high t s - low t s) a e) n q (ltb-true (inners s) 255 r)
@@ -175,7 +182,9 @@ unfolding next
 next-none t s e = by (widest (t .weights) (rootWays t) s) (widest-law (t .weights) (rootWays t) s) e
   where
     by : (o : Option Candidate) → Law (t .weights) (rootWays t) s o
-        → _≡_ {A = Option Refinement} (elim o as (λ o. Option Refinement) [ none ↦ none | some x ↦ some (record { place = x .place; kind = choice (t .weights) (x .ways) }) ]) none
+        → _≡_ {A = Option Refinement}
+        (elim o as (λ o. Option Refinement) [ none ↦ none | some x ↦ some (record { place = x .place; kind = choice (t .weights) (x .ways) }) ])
+        none
         → NoneOpen (t .weights) (rootWays t) s
     by none (nothing f) e = f
     by (some x) h e = absurd (Option·none-ne-some _ (sym e))
@@ -310,5 +319,6 @@ unfolding picks
 one-step t a s n w e r = rw (turn-go t a s n w e r, picks)
 
 -- So it adds one inner node.
-pub one-step-inners : (t : Table) → Accepted t → (a : ℕ) (s : DTree) (n : Refinement) → TooWide t a s → next t s ≡ some n → inners s < 255 → inners (ran t a 1 s) ≡ suc (inners s)
+pub one-step-inners : (t : Table) → Accepted t → (a : ℕ) (s : DTree) (n : Refinement) → TooWide t a s → next t s ≡ some n → inners s < 255
+    → inners (ran t a 1 s) ≡ suc (inners s)
 one-step-inners t ok a s n w e r = omega (arith, report-inners t ok a 1 s, ap length (one-step t a s n w e r))

@@ -2,7 +2,7 @@
 -- set of refinements alone, not on their order. Rests on Places.antt.
 use mathlib.Core.Path.{_≡_, refl, sym, ap, _∙_, subst}
 use mathlib.Core.Bool.{Bool, true, false, _&&_, true≢false}
-use mathlib.Core.List.{List, [], _∷_, _++_, List·Memᴰ, List·Memᴰ·head, List·Memᴰ·tail}
+use mathlib.Core.List.{List, [], _∷_, _++_, List·Memᴰ·head, List·Memᴰ·tail}
 use mathlib.Core.Option.{Option, none, some, Option·some-injective, Option·none-ne-some}
 use mathlib.Core.Logic.{_⊎_, inl, inr}
 use Prim.Native.Nat.{ℕ, _+_, _≤_, _<_}
@@ -12,7 +12,8 @@ use borrow.Author.Tests.{ltb-true}
 use Rattle.rules.proofs.Members.{In}
 use Rattle.rules.specs.Table.{Way, Table}
 use Rattle.rules.specs.Leaf.{isOpen}
-use Rattle.rules.specs.Tree.{rootWays, left, right, Place, DTree, leaf, inner, possible, child, refineAt, inners, Refinement, refine, grow, tree, leafAt, kindAt, leafWays, roomy, acceptable, seriesFrom, series}
+use Rattle.rules.specs.Tree.{rootWays, left, right, Place, DTree, leaf, inner, possible, child, refineAt, inners, Refinement}
+use Rattle.rules.specs.Tree.{refine, grow, tree, leafAt, kindAt, leafWays, roomy, acceptable, seriesFrom, series}
 use Rattle.rules.specs.declared.Kind.{Kind}
 use Rattle.rules.proofs.Booleans.{and-left, and-right, and-both}
 use Rattle.rules.proofs.Places.{tree-ext, leaf-undone, ways-leaf, refined-kind, refined-inners, done-stays, done-only}
@@ -54,7 +55,8 @@ unfolding grow
 grow-append [] ms s = refl
 grow-append (n ∷ ns) ms s = grow-append ns ms (refine n s)
 
-pub series-append : (t : Table) (ns ms : List Refinement) (s : DTree) → seriesFrom t s ns ≡ true → seriesFrom t (grow s ns) ms ≡ true → seriesFrom t s (ns ++ ms) ≡ true
+pub series-append : (t : Table) (ns ms : List Refinement) (s : DTree) → seriesFrom t s ns ≡ true → seriesFrom t (grow s ns) ms ≡ true
+    → seriesFrom t s (ns ++ ms) ≡ true
 unfolding grow seriesFrom
 series-append t [] ms s h k = k
 series-append t (n ∷ ns) ms s h k =
@@ -88,7 +90,8 @@ sound-refine ws (b ∷ p) k vs leaf us h e o f = absurd (Option·none-ne-some _ 
 sound-refine ws (left ∷ p) k vs (inner j l r) us h e o f = (h .0, h .1, sound-refine ws p k (child j left vs) l us (h .2) e o f, h .3)
 sound-refine ws (right ∷ p) k vs (inner j l r) us h e o f = (h .0, h .1, h .2, sound-refine ws p k (child j right vs) r us (h .3) e o f)
 
-sound-grow : (t : Table) (ns : List Refinement) (s : DTree) → Sound (t .weights) (rootWays t) s → seriesFrom t s ns ≡ true → Sound (t .weights) (rootWays t) (grow s ns)
+sound-grow : (t : Table) (ns : List Refinement) (s : DTree) → Sound (t .weights) (rootWays t) s → seriesFrom t s ns ≡ true
+    → Sound (t .weights) (rootWays t) (grow s ns)
 unfolding seriesFrom grow
 sound-grow t [] s k h = k
 sound-grow t (n ∷ ns) s k h =
@@ -108,13 +111,15 @@ unfolding grow
 stays-done [] s q k h = h
 stays-done (n ∷ ns) s q k h = stays-done ns (refine n s) q k (done-stays q (n .place) (n .kind) k s h)
 
-pub all-done : (t : Table) (ns : List Refinement) (s : DTree) → seriesFrom t s ns ≡ true → (n : Refinement) → In n ns → kindAt (n .place) (grow s ns) ≡ some (n .kind)
+pub all-done : (t : Table) (ns : List Refinement) (s : DTree) → seriesFrom t s ns ≡ true → (n : Refinement) → In n ns
+    → kindAt (n .place) (grow s ns) ≡ some (n .kind)
 unfolding seriesFrom grow
 all-done t (m ∷ ns) s h n (List·Memᴰ·head e) =
     rw e (stays-done ns (refine m s) (m .place) (m .kind) (refined-kind (m .place) (m .kind) s (acceptable-leaf t s m (and-left (acceptable t s m) _ h))))
 all-done t (m ∷ ns) s h n (List·Memᴰ·tail i) = all-done t ns (refine m s) (and-right (acceptable t s m) _ h) n i
 
-grown-only : (ns : List Refinement) (s : DTree) (q : Place) (k : Kind) → kindAt q (grow s ns) ≡ some k → (kindAt q s ≡ some k) ⊎ In (record { place = q; kind = k }) ns
+grown-only : (ns : List Refinement) (s : DTree) (q : Place) (k : Kind) → kindAt q (grow s ns) ≡ some k
+    → (kindAt q s ≡ some k) ⊎ In (record { place = q; kind = k }) ns
 unfolding grow
 grown-only [] s q k h = inl h
 grown-only (n ∷ ns) s q k h = go (grown-only ns (refine n s) q k h)

@@ -72,7 +72,8 @@ select-same i (v ∷ vs) P Q k h =
     by (P (v .number)) (Q (v .number)) (h (v .number) (k .0)) (select-same (suc (v .number)) vs P Q (k .1) (λ j l. h j (omega (arith, k .0, l))))
   where
     by : (x y : Bool) → x ≡ y → select P vs ≡ select Q vs
-        → _≡_ {A = List Way} (elim x as (λ b. List Way) [ true ↦ v ∷ select P vs | false ↦ select P vs ]) (elim y as (λ b. List Way) [ true ↦ v ∷ select Q vs | false ↦ select Q vs ])
+        → _≡_ {A = List Way} (elim x as (λ b. List Way) [ true ↦ v ∷ select P vs | false ↦ select P vs ])
+        (elim y as (λ b. List Way) [ true ↦ v ∷ select Q vs | false ↦ select Q vs ])
     by true true e ih = ap (λ (r : List Way). v ∷ r) ih
     by true false e ih = absurd (true≢false e)
     by false true e ih = absurd (true≢false (sym e))

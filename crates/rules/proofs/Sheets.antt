@@ -1,9 +1,9 @@
 -- The sheet as a value and as bytes: the accepted bytes are exactly those of the sheets within the limits, each written in one way only (01, "The sheet").
--- Rests on Laid.antt for the bytes and on WriterLists.antt for the refusals.
+-- Rests on Laid.antt for the bytes, on WriterLists.antt for the refusals and on WithinLimits.antt for the limits in plain terms.
 use mathlib.Core.Path.{_≡_, refl, sym, ap, ap₂, _∙_, subst}
 use mathlib.Core.Logic.{_↔_}
 use mathlib.Core.Bool.{true, false, not, _||_, false≢true}
-use mathlib.Core.List.{List, [], _∷_, _++_}
+use mathlib.Core.List.{List, [], _∷_, _++_, List·Memᴰ·head, List·Memᴰ·tail}
 use Prim.Native.Nat.{ℕ, zero, suc, _+_, _*_, _≤_}
 use native.Mathlib.Omega.{arith}
 use native.Mathlib.Decide.{decLe}
@@ -11,15 +11,19 @@ use lib.ListN.{length, take, drop, replicate, length-drop, take-append-drop}
 use lib.Seq.{length-take-le, take-append-seam, drop-append-seam, take-at, drop-at, take-all}
 use lib.Dec.{eqb, ltb}
 use borrow.Author.Tests.{ltb-false, le-ltb, eqb-true, eq-eqb, ne-eqb, not-false}
-use Rattle.rules.specs.Table.{rows, absentRows}
-use Rattle.rules.specs.Leaf.{any}
-use Rattle.rules.specs.Refusals.{Refusal, refusal, first, faultsOutside, cuesOutside, notRising, crowded, overweight, namesBeyond, namesBoth, someAbove, rising, allowanceAbove, budgetAbove, wayRefusals, limitRefusals}
-use Rattle.rules.specs.Sheet.{Cue, Sheet, Lists, total, deal, sheetOf, numbersOf, countsOf, presentOf, absentOf, listsOf, weightsStart, bodiesStart, starts, headBytes, contentsBytes, weightsBytes, bodyBytes, bodiesBytes, encode, faultsIn, cuesIn, zeroIn, numbersIn, countsIn, placesIn, bodiesIn, listsIn, decode, sameNumbers, readRefusals, readNumber, disagree, listsRefusals, AllBelow, Paired, Within}
+use Rattle.rules.specs.Refusals.{Refusal, refusal, first, faultsOutside, cuesOutside, notRising, crowded, wayRefusals, limitRefusals}
+use Rattle.rules.specs.Sheet.{AllBelow, Cue, Sheet, Lists, total, deal, sheetOf, numbersOf, countsOf, presentOf, absentOf, listsOf}
+use Rattle.rules.specs.Sheet.{weightsStart, bodiesStart, starts, headBytes, contentsBytes, weightsBytes, bodyBytes, bodiesBytes, encode}
+use Rattle.rules.specs.Sheet.{faultsIn, cuesIn, zeroIn, numbersIn, countsIn, placesIn, bodiesIn, listsIn, decode}
+use Rattle.rules.specs.Sheet.{sameNumbers, readRefusals, readNumber, listsRefusals, Within}
 use Rattle.rules.proofs.Bytes.{below-append, little-bytes, length-column, column-below, field-take, column-take}
 use Rattle.rules.proofs.Booleans.{or-split, or-neither, and-split, and-both}
 use Rattle.rules.proofs.First.{none-applies, first-none, first-here, first-later, first-same}
-use Rattle.rules.proofs.Laid.{Agree, Fits, Settled, laidOut, paired-agree, encode-layout, length-numbers, layout-length, lists-layout, layout-lists, layout-settled}
+use Rattle.rules.proofs.Laid.{Paired, paired-none, paired-cons, Agree, Fits, Settled, laidOut, paired-agree, encode-layout, length-numbers}
+use Rattle.rules.proofs.Laid.{layout-length, lists-layout, layout-lists, layout-settled}
 use Rattle.rules.proofs.WriterLists.{Kept, lists-kept, kept-lists, kept-agree, kept-fits, kept-ends, agree-disagree, faults-most, cues-most, ends-most}
+use Rattle.rules.proofs.WithinLimits.{tested-within, within-tested}
+use Rattle.rules.proofs.Computing.{of-writing}
 
 -- ---- sheets and their lists
 
@@ -31,10 +35,10 @@ deal-lists (c ∷ cs) h =
     rw (
       take-append-seam (c .present) (presentOf cs),
       drop-append-seam (c .present) (presentOf cs),
-      take-at (c .absent) (absentOf cs) (length (c .present)) (h .0),
-      drop-at (c .absent) (absentOf cs) (length (c .present)) (h .0),
+      take-at (c .absent) (absentOf cs) (length (c .present)) (h c (List·Memᴰ·head refl)),
+      drop-at (c .absent) (absentOf cs) (length (c .present)) (h c (List·Memᴰ·head refl)),
     )
-    (ap (λ (r : List Cue). c ∷ r) (deal-lists cs (h .1)))
+    (ap (λ (r : List Cue). c ∷ r) (deal-lists cs (λ d i. h d (List·Memᴰ·tail i))))
 
 -- Cues have these lists, and their words come in pairs.
 record Dealt (cs : List Cue) (ns ks ps qs : List ℕ) : Type 0 where
@@ -47,7 +51,7 @@ record Dealt (cs : List Cue) (ns ks ps qs : List ℕ) : Type 0 where
 -- Cues dealt from lists that agree in length have those lists.
 lists-deal : (ns ks ps qs : List ℕ) → length ks ≡ length ns → length ps ≡ total ks → length qs ≡ total ks → Dealt (deal ns ks ps qs) ns ks ps qs
 unfolding deal numbersOf countsOf presentOf absentOf total
-lists-deal [] [] [] [] e f g = record { numbers = refl; counts = refl; present = refl; absent = refl; paired = tt }
+lists-deal [] [] [] [] e f g = record { numbers = refl; counts = refl; present = refl; absent = refl; paired = paired-none }
 lists-deal [] [] [] (q ∷ qs) e f g = absurd (omega arith)
 lists-deal [] [] (p ∷ ps) qs e f g = absurd (omega arith)
 lists-deal [] (k ∷ ks) ps qs e f g = absurd (omega arith)
@@ -61,7 +65,7 @@ lists-deal (n ∷ ns) (k ∷ ks) ps qs e f g =
       counts = ap₂ (λ (y : ℕ) (r : List ℕ). y ∷ r) fromPresent (rest .counts);
       present = ap (λ (r : List ℕ). take k ps ++ r) (rest .present) ∙ take-append-drop k ps;
       absent = ap (λ (r : List ℕ). take k qs ++ r) (rest .absent) ∙ take-append-drop k qs;
-      paired = (fromAbsent ∙ sym fromPresent, rest .paired);
+      paired = paired-cons _ _ (fromAbsent ∙ sym fromPresent) (rest .paired);
     }
 
 -- A sheet within the limits is the one that its lists give.
@@ -77,7 +81,14 @@ module _ (x : Lists) (a : Agree x) where
   lists-given : listsOf (sheetOf x) ≡ x
   unfolding sheetOf listsOf
   lists-given =
-      λ i. record { limits = x .limits; weights = x .weights; numbers = dealt .numbers i; counts = dealt .counts i; present = dealt .present i; absent = dealt .absent i }
+      λ i. record {
+        limits = x .limits;
+        weights = x .weights;
+        numbers = dealt .numbers i;
+        counts = dealt .counts i;
+        present = dealt .present i;
+        absent = dealt .absent i;
+      }
 
 -- Lists that the writer keeps are those of the sheet that they give, and that sheet is within the limits.
 pub lists-sheet : (x : Lists) → AllBelow 65536 (x .numbers) → first (listsRefusals x) ≡ 0 → (listsOf (sheetOf x) ≡ x) × Within (sheetOf x)
@@ -86,7 +97,7 @@ lists-sheet x numbers h =
     let a = kept-agree x (lists-kept x h) in
     let d = dealt x a in
     let kept = ap (λ (y : Lists). first (listsRefusals y)) (lists-given x a) ∙ h in
-    (lists-given x a, record { numbered = rw (d .numbers) numbers; paired = d .paired; kept = kept })
+    (lists-given x a, tested-within (sheetOf x) (record { numbered = rw (d .numbers) numbers; paired = d .paired; kept = kept }))
 
 -- ---- what reading tests
 
@@ -217,14 +228,14 @@ encode-length s h =
 module _ (s : Sheet) (w : Within s) where
   -- Its lists are kept, agree in length and fit the fields.
   kept : Kept (listsOf s)
-  kept = lists-kept (listsOf s) (w .kept)
+  kept = lists-kept (listsOf s) (within-tested s w .kept)
 
   agree : Agree (listsOf s)
   agree = paired-agree s (w .paired)
 
   pub fits : Fits (listsOf s)
   unfolding listsOf
-  fits = kept-fits (listsOf s) kept (w .numbered)
+  fits = kept-fits (listsOf s) kept (within-tested s w .numbered)
 
   -- Reading finds a sheet's lists in its bytes.
   pub lists-encode : listsIn (encode s) ≡ listsOf s
@@ -294,11 +305,11 @@ full-numbered n (suc k) h = (omega arith, full-numbered (suc n) k (omega arith))
 
 full-paired : (n k : ℕ) → Paired (fullCues n k)
 unfolding fullCues
-full-paired n zero = tt
-full-paired n (suc k) = (refl, full-paired (suc n) k)
+full-paired n zero = paired-none
+full-paired n (suc k) = paired-cons _ _ refl (full-paired (suc n) k)
 
 full-kept : first (listsRefusals (listsOf fullSheet)) ≡ 0
-unfolding fullSheet fullCues listsOf numbersOf countsOf presentOf absentOf total rows absentRows any first listsRefusals wayRefusals limitRefusals faultsOutside cuesOutside someAbove rising notRising crowded overweight namesBeyond namesBoth allowanceAbove budgetAbove disagree
+unfolding fullSheet fullCues of-writing
 full-kept = refl
 
 -- A sheet within the limits has 49612 bytes.
@@ -306,7 +317,7 @@ pub attained : (s : Sheet) × Within s × (length (encode s) ≡ 49612)
 unfolding fullSheet fullCues countsOf total bodiesStart weightsStart
 attained = (
   fullSheet,
-  record { numbered = full-numbered 1 24 (omega arith); paired = full-paired 1 24; kept = full-kept },
+  tested-within fullSheet (record { numbered = full-numbered 1 24 (omega arith); paired = full-paired 1 24; kept = full-kept }),
   encode-length fullSheet (full-paired 1 24),
 )
 

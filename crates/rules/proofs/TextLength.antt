@@ -6,19 +6,16 @@ use Prim.Native.Nat.{ℕ, zero, suc, _+_, _*_, _≤_, _<_}
 use native.Mathlib.Nat.{mul-suc}
 use native.Mathlib.Omega.{arith}
 use lib.ListN.{length, length-append}
-use borrow.Author.Tests.{ltb-false}
 use Rattle.rules.specs.Table.{Table}
 use Rattle.rules.specs.Tree.{leaf, low, high}
 use Rattle.rules.specs.Run.{picks, verdict}
-use Rattle.rules.specs.Refusals.{budgetAbove, wayRefusals, limitRefusals}
-use Rattle.rules.specs.Sheet.{Cue, Sheet, tableOf, numbersOf, listsOf, decode, readRefusals, readNumber, AllBelow, Within}
+use Rattle.rules.specs.Refusals.{wayRefusals, limitRefusals}
+use Rattle.rules.specs.Sheet.{AllBelow, Cue, Sheet, tableOf, decode, readRefusals, readNumber, Within}
 use Rattle.rules.specs.Text.{bytes, decimal, word, line, lines, sheetText, textBy, text}
 use Rattle.rules.specs.declared.Limits.{Limits}
 use Rattle.rules.specs.declared.Verdict.{Verdict}
 use Rattle.rules.specs.declared.Verdict.the-variants.{Met, Done, Full, Spent}
 use Rattle.rules.proofs.First.{first-below}
-use Rattle.rules.proofs.Laid.{length-numbers}
-use Rattle.rules.proofs.WriterLists.{lists-kept, cues-most}
 use Rattle.rules.proofs.Sheets.{within-decoded}
 use Rattle.rules.proofs.Members.{In}
 use Rattle.rules.proofs.CueTables.{runTree, LineCertain, line-certain, cue-accepted}
@@ -39,12 +36,6 @@ fields-length : (a b c d e : List ℕ) → length (a ++ bytes " " ++ b ++ bytes 
     ≡ length a + length b + length c + length d + length e + 5
 unfolding bytes
 fields-length a b c d e = simp length-append (omega arith)
-
--- The number of a cue of the list.
-number-below : (n : ℕ) (cs : List Cue) → AllBelow n (numbersOf cs) → (c : Cue) → In c cs → c .number < n
-unfolding numbersOf
-number-below n (d ∷ cs) h c (List·Memᴰ·head e) = rw e (h .0)
-number-below n (d ∷ cs) h c (List·Memᴰ·tail i) = number-below n cs (h .1) c i
 
 -- So many lines of at most so many bytes.
 lines-length : (n : ℕ) (m : Limits) (ws : List ℕ) (cs : List Cue) → ((c : Cue) → In c cs → length (line m ws c) ≤ n) → length (lines m ws cs) ≤ n * length cs
@@ -79,21 +70,13 @@ line-length m ws c number budget k =
 module _ (s : Sheet) (w : Within s) where
   -- So has the line of every cue of a sheet within the limits.
   cue-line-length : (c : Cue) → In c (s .cues) → length (line (s .limits) (s .weights) c) ≤ 38
-  unfolding listsOf budgetAbove
   cue-line-length c i =
-      let number : c .number < 65536 = number-below 65536 (s .cues) (w .numbered) c i in
-      let budget : s .limits .budget ≤ 255 = ltb-false 255 (s .limits .budget) (lists-kept (listsOf s) (w .kept) .budget) in
-      line-length (s .limits) (s .weights) c number budget (line-certain (s .limits) (tableOf (s .weights) c) (cue-accepted s w c i))
-
-  -- There are at most 24 cues.
-  few-cues : length (s .cues) ≤ 24
-  unfolding listsOf
-  few-cues = rw (← length-numbers (s .cues)) (cues-most (length (numbersOf (s .cues))) (lists-kept (listsOf s) (w .kept) .cues))
+      line-length (s .limits) (s .weights) c (w .two-bytes c i) (w .budget) (line-certain (s .limits) (tableOf (s .weights) c) (cue-accepted s w c i))
 
   -- The text of a sheet within the limits has at most 939 bytes.
   pub sheet-text-length : length (sheetText s) ≤ 939
   unfolding sheetText bytes
-  sheet-text-length = omega (arith, lines-length 38 (s .limits) (s .weights) (s .cues) cue-line-length, few-cues)
+  sheet-text-length = omega (arith, lines-length 38 (s .limits) (s .weights) (s .cues) cue-line-length, w .few-cues)
 
 -- ---- a refused one
 

@@ -5,7 +5,7 @@ use mathlib.Core.Bool.{Bool, true, false, _||_, true≢false}
 use mathlib.Core.List.{List, [], _∷_}
 use mathlib.Core.Option.{Option, none, some, Option·none-ne-some, Option·some-injective}
 use mathlib.Core.Logic.{_⊎_, inl, inr}
-use Prim.Native.Nat.{ℕ, zero, suc, _-_, _<_, _≤_}
+use Prim.Native.Nat.{ℕ, zero, suc, _<_, _≤_}
 use native.Mathlib.Omega.{arith}
 use native.Mathlib.Decide.{decLt}
 use lib.Dec.{ltb}
@@ -28,7 +28,8 @@ leftOf (right ∷ p) (right ∷ q) = leftOf p q
 
 -- No open leaf is wider than w, and none to the left of q is as wide.
 abbrev pub Tops : List ℕ → List Way → DTree → Place → ℕ → Type 0
-Tops ws vs s q w = (p : Place) (us : List Way) → leafWays p vs s ≡ some us → isOpen ws us ≡ true → (leafWidth ws us ≤ w) × (leftOf p q ≡ true → leafWidth ws us < w)
+Tops ws vs s q w =
+    (p : Place) (us : List Way) → leafWays p vs s ≡ some us → isOpen ws us ≡ true → (leafWidth ws us ≤ w) × (leftOf p q ≡ true → leafWidth ws us < w)
 
 -- No leaf is open.
 abbrev pub NoneOpen : List ℕ → List Way → DTree → Type 0
@@ -93,7 +94,8 @@ module _ (ws : List ℕ) (vs us us′ : List Way) (s l r : DTree) (no-root : lea
       no-higher : {a b c : ℕ} → a ≤ b → b ≤ c → a ≤ c
       no-higher h g = omega arith
 
-      by : (b : Bool) → ltb (x .width) (y .width) ≡ b → Law ws vs s (elim b as (λ b. Option Candidate) [ true ↦ some (down right y) | false ↦ some (down left x) ])
+      by : (b : Bool) → ltb (x .width) (y .width) ≡ b
+          → Law ws vs s (elim b as (λ b. Option Candidate) [ true ↦ some (down right y) | false ↦ some (down left x) ])
       by true q = the (down right y) (take-right y k′ (λ p xs h g. lower (k .tops p xs h g .0) (ltb-true (x .width) (y .width) q)))
       by false q = the (down left x) (take-left x k (λ p xs h g. no-higher (k′ .tops p xs h g .0) (ltb-false (x .width) (y .width) q)))
 
@@ -116,12 +118,14 @@ widest-law ws vs leaf = by (isOpen ws vs) refl
         (record { there = refl; opened = e; width = refl; tops = λ p us h o. (rw (← (only p us h)) (omega arith), λ b. absurd (at-root p b)) })
     by false e = nothing (λ p us h o. true≢false (sym o ∙ ap (isOpen ws) (sym (only p us h)) ∙ e))
 widest-law ws vs (inner k l r) =
-    either-law ws vs (child k left vs) (child k right vs) (inner k l r) l r refl (λ p. refl) (λ p. refl) (widest ws (child k left vs) l) (widest ws (child k right vs) r)
+    either-law ws vs (child k left vs) (child k right vs) (inner k l r) l r refl (λ p. refl) (λ p. refl)
+    (widest ws (child k left vs) l) (widest ws (child k right vs) r)
     (widest-law ws (child k left vs) l) (widest-law ws (child k right vs) r)
 
 -- ---- the law settles the leaf
 
-same-side : (b : Side) (p q : Place) → (p ≡ q) ⊎ ((leftOf p q ≡ true) ⊎ (leftOf q p ≡ true)) → (b ∷ p ≡ b ∷ q) ⊎ ((leftOf (b ∷ p) (b ∷ q) ≡ true) ⊎ (leftOf (b ∷ q) (b ∷ p) ≡ true))
+same-side : (b : Side) (p q : Place) → (p ≡ q) ⊎ ((leftOf p q ≡ true) ⊎ (leftOf q p ≡ true))
+    → (b ∷ p ≡ b ∷ q) ⊎ ((leftOf (b ∷ p) (b ∷ q) ≡ true) ⊎ (leftOf (b ∷ q) (b ∷ p) ≡ true))
 unfolding leftOf
 same-side b p q (inl e) = inl (ap (λ (r : Place). b ∷ r) e)
 same-side left p q (inr h) = inr h
@@ -178,7 +182,8 @@ unfolding named occurs any
 named-occurs f [] h = absurd (omega arith)
 named-occurs f (v ∷ vs) h = by (bit f (faults v)) h (λ k. named-occurs f vs k)
   where
-    by : (b : Bool) → 0 < (elim b as (λ b. ℕ) [ true ↦ suc (named f vs) | false ↦ named f vs ]) → (0 < named f vs → any (λ u. bit f (faults u)) vs ≡ true) → b || any (λ u. bit f (faults u)) vs ≡ true
+    by : (b : Bool) → 0 < (elim b as (λ b. ℕ) [ true ↦ suc (named f vs) | false ↦ named f vs ])
+        → (0 < named f vs → any (λ u. bit f (faults u)) vs ≡ true) → b || any (λ u. bit f (faults u)) vs ≡ true
     by true h ih = refl
     by false h ih = ih h
 
@@ -188,7 +193,8 @@ unfolding named occurs any
 occurs-named f [] h = absurd (true≢false (sym h))
 occurs-named f (v ∷ vs) h = by (bit f (faults v)) h (λ k. occurs-named f vs k)
   where
-    by : (b : Bool) → b || any (λ u. bit f (faults u)) vs ≡ true → (any (λ u. bit f (faults u)) vs ≡ true → 0 < named f vs) → 0 < (elim b as (λ b. ℕ) [ true ↦ suc (named f vs) | false ↦ named f vs ])
+    by : (b : Bool) → b || any (λ u. bit f (faults u)) vs ≡ true → (any (λ u. bit f (faults u)) vs ≡ true → 0 < named f vs)
+        → 0 < (elim b as (λ b. ℕ) [ true ↦ suc (named f vs) | false ↦ named f vs ])
     by true h ih = omega arith
     by false h ih = ih h
 

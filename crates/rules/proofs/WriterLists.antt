@@ -1,5 +1,5 @@
 -- Lists that the writer does not refuse, and what its tests say of them: they agree in length, fit the fields and end at byte 49612 or before.
--- Rests on First.antt for the refusals and on Laid.antt for what laying out asks of lists.
+-- Rests on First.antt and Accepted.antt for the refusals and on Laid.antt for what laying out asks of lists.
 use mathlib.Core.Path.{_≡_, refl, sym, ap, _∙_}
 use mathlib.Core.Bool.{false, not, _||_}
 use mathlib.Core.List.{List, [], _∷_}
@@ -12,11 +12,13 @@ use borrow.Author.Tests.{ltb-false, leb-false, eqb-true, eq-eqb, not-false}
 use Rattle.rules.specs.Rounding.{S}
 use Rattle.rules.specs.Table.{rows}
 use Rattle.rules.specs.Leaf.{any}
-use Rattle.rules.specs.Refusals.{first, faultsOutside, cuesOutside, someAbove, notRising, crowded, overweight, namesBeyond, namesBoth, allowanceAbove, budgetAbove, wayRefusals, limitRefusals}
+use Rattle.rules.specs.Refusals.{first, faultsOutside, cuesOutside, someAbove, notRising, crowded, overweight, namesBeyond, namesBoth}
+use Rattle.rules.specs.Refusals.{allowanceAbove, budgetAbove, wayRefusals, limitRefusals}
 use Rattle.rules.specs.Sheet.{Lists, total, weightsStart, bodiesStart, disagree, listsRefusals, AllBelow}
 use Rattle.rules.proofs.Bytes.{below-mono}
 use Rattle.rules.proofs.Booleans.{or-split, or-neither}
 use Rattle.rules.proofs.First.{none-applies, first-later, first-none}
+use Rattle.rules.proofs.Accepted.{not-outside}
 use Rattle.rules.proofs.Laid.{Agree, Fits}
 
 -- ---- the writer's tests, one by one
@@ -76,12 +78,12 @@ kept-lists x k =
 -- Not outside: at most 64 faults.
 pub faults-most : (n : ℕ) → faultsOutside n ≡ false → n ≤ 64
 unfolding faultsOutside
-faults-most n h = ltb-false 64 n (or-split (eqb n 0) _ h .1)
+faults-most n h = not-outside 64 n h .1
 
 -- Not outside: at most 24 cues.
 pub cues-most : (n : ℕ) → cuesOutside n ≡ false → n ≤ 24
 unfolding cuesOutside
-cues-most n h = ltb-false 24 n (or-split (eqb n 0) _ h .1)
+cues-most n h = not-outside 24 n h .1
 
 -- No number of a list is above a limit.
 none-above : (m : ℕ) (xs : List ℕ) → someAbove m xs ≡ false → AllBelow (suc m) xs

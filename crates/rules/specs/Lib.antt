@@ -1,4 +1,5 @@
 -- Document 01 as definitions, in its order. proofs/ has the theorems about them.
+pub mod Members
 pub mod Rounding
 pub mod Table
 pub mod Leaf

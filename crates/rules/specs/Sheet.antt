@@ -3,10 +3,12 @@
 use mathlib.Core.Path.{_≡_}
 use mathlib.Core.Bool.{Bool, true, false, not, _&&_, _||_}
 use mathlib.Core.List.{List, [], _∷_, _++_}
-use Prim.Native.Nat.{ℕ, zero, suc, _+_, _*_, _/_, _%_, _<_}
+use Prim.Native.Nat.{ℕ, zero, suc, _+_, _*_, _/_, _%_, _<_, _≤_}
 use lib.ListN.{length, take, drop, getD}
 use lib.Dec.{eqb, ltb}
-use Rattle.rules.specs.Table.{Table, rows}
+use Rattle.rules.specs.Members.{In}
+use Rattle.rules.specs.Rounding.{S}
+use Rattle.rules.specs.Table.{bit, Way, Table, rows, ways, faults}
 use Rattle.rules.specs.Refusals.{Refusal, refusal, first, faultsOutside, cuesOutside, notRising, crowded, overweight, wayRefusals, limitRefusals}
 use Rattle.rules.specs.declared.Limits.{Limits}
 use Rattle.rules.specs.declared.Head.{Head}
@@ -35,6 +37,11 @@ field k i bs = value (take k (drop i bs))
 unfoldable pub column : ℕ → ℕ → ℕ → ℕ → List ℕ → List ℕ
 column k stride i zero bs = []
 column k stride i (suc n) bs = field k i bs ∷ column k stride (i + stride) n bs
+
+-- Every number of a list is below a limit: below 256, it is a list of bytes.
+abbrev pub AllBelow : ℕ → List ℕ → Type 0
+AllBelow limit [] = Unit {0}
+AllBelow limit (x ∷ xs) = (x < limit) × AllBelow limit xs
 
 -- ---- a sheet as a value
 
@@ -308,18 +315,27 @@ written x space = writtenBy (writeNumber x (length space)) (encode (sheetOf x)) 
 
 -- ---- sheets within the limits
 
--- Every number of a list is below a limit.
-abbrev pub AllBelow : ℕ → List ℕ → Type 0
-AllBelow limit [] = Unit {0}
-AllBelow limit (x ∷ xs) = (x < limit) × AllBelow limit xs
-
--- Every cue has as many absent words as present words.
-abbrev pub Paired : List Cue → Type 0
-Paired [] = Unit {0}
-Paired (c ∷ cs) = (length (c .absent) ≡ length (c .present)) × Paired cs
-
--- A sheet within the limits: its cue numbers fit two bytes, its words come in pairs, and the writer refuses none of its lists.
+-- A sheet within the limits, in plain terms. Every table of a cue is then `Inside` the limits (proofs/Accepted.antt), and the tests of the refusals
+-- accept just these sheets (proofs/Demands.antt, `within-exactly`).
 pub record Within (s : Sheet) : Type 0 where
-  pub numbered : AllBelow 65536 (numbersOf (s .cues))
-  pub paired : Paired (s .cues)
-  pub kept : first (listsRefusals (listsOf s)) ≡ 0
+  -- 1 to 64 faults, each of a weight of at most S.
+  pub some-faults : 0 < length (s .weights)
+  pub few-faults : length (s .weights) ≤ 64
+  pub weights : (w : ℕ) → In w (s .weights) → w ≤ S
+  -- 1 to 24 cues. Their numbers start at 1 or above, fit two bytes and rise: of two cues that follow each other, the second has the higher one.
+  pub some-cues : 0 < length (s .cues)
+  pub few-cues : length (s .cues) ≤ 24
+  pub numbered : (c : Cue) → In c (s .cues) → 1 ≤ c .number
+  pub two-bytes : (c : Cue) → In c (s .cues) → c .number < 65536
+  pub rising : (before after : List Cue) (c d : Cue) → s .cues ≡ before ++ c ∷ d ∷ after → c .number < d .number
+  -- Each cue has at most 128 ways, given by as many absent words as present words.
+  pub few-ways : (c : Cue) → In c (s .cues) → length (c .present) ≤ 128
+  pub paired : (c : Cue) → In c (s .cues) → length (c .absent) ≡ length (c .present)
+  -- Each way of a cue names only faults of the sheet, and none of them both present and absent.
+  pub faults-known : (c : Cue) → In c (s .cues) → (v : Way) → In v (ways (tableOf (s .weights) c))
+      → (i : ℕ) → length (s .weights) ≤ i → bit i (faults v) ≡ false
+  pub one-sense-each : (c : Cue) → In c (s .cues) → (v : Way) → In v (ways (tableOf (s .weights) c))
+      → (i : ℕ) → bit i (v .present) ≡ true → bit i (v .absent) ≡ false
+  -- The allowance is at most S, the budget at most 255.
+  pub allowance : s .limits .allowance ≤ S
+  pub budget : s .limits .budget ≤ 255
