@@ -10,8 +10,8 @@ ghost use Rattle.rules.specs.Leaf;
 ghost use Rattle.rules.specs.Leaf.{chanceFrom};
 ghost use Rattle.rules.specs.Refusals.{overweight};
 ghost use Rattle.chances.specs.Directions.{dirOf};
-use super::rounding::S;
 use super::rounding::times;
+use rules::S;
 
 /// Bit i of a word.
 pub fn has(w: u64, i: usize) -> bool

@@ -1,9 +1,9 @@
 //! Tests on a run's limits. Rests on the definitions of `rules`, Refusals.
-//! `lists` has the billion that the allowance is compared with.
+//! The limits are words, judged as they are handed over.
 ghost use mathlib.Core.Path.{_≡_};
 ghost use Rattle.rules.specs.Refusals.{first, limitRefusals, allowanceAbove, budgetAbove};
-use super::lists::S;
 use rules::Limits;
+use rules::S;
 
 /// 14: the allowance is above S.
 fn allowance_above(m: Limits) -> bool

@@ -2,9 +2,7 @@
 //! Rests on the definitions of `rules`, Refusals.
 ghost use mathlib.Core.Path.{_≡_};
 ghost use Rattle.rules.specs.Refusals;
-
-/// One billion.
-pub const S: u32 = 1000000000;
+use rules::S;
 
 /// 2 and 9: a number of faults that is 0 or above 64.
 pub fn faults_outside(n: usize) -> bool
@@ -26,7 +24,7 @@ pub fn overweight(weights: &[u32]) -> bool
 {
     let mut i: usize = 0;
     while i < weights.len() {
-        if S < weights[i] {
+        if S < weights[i] as u64 {
             return true;
         }
         i += 1;

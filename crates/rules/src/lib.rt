@@ -1,6 +1,9 @@
 //! The types that the rules and the code share: what a refinement does, a run's limits and verdict, the answer of each call.
 //! specs/ has document 01's definitions over these types, proofs/ the theorems about them. No code stands here.
 
+/// One billion: weights, chances and the allowance are in billionths.
+pub const S: u64 = 1000000000;
+
 /// A way, the standard term is clause: its number, the word of the faults that it names present and that of those it names absent.
 pub struct Way {
     pub number: usize,
@@ -24,9 +27,10 @@ pub enum Verdict {
 }
 
 /// What a run is asked for: the allowance, an absolute error in billionths, and the most refinements it may make.
+/// Both are words: a number that 14 or 15 judges is never cut before.
 pub struct Limits {
-    pub allowance: u32,
-    pub budget: u16,
+    pub allowance: u64,
+    pub budget: u64,
 }
 
 /// What an accepted call on a tree hands back: the interval at the root and the refinements made.

@@ -26,8 +26,8 @@ pub fn run_on(
     requires { ⌜ Safe (treeOf (now tree) .nodes) ⌝ }
     ensures { λ r. ⌜ Ran (table (now (weights .entry)) (now (present .entry)) (now (absent .entry))) (history (treeOf (now (tree .entry)))) limits (treeOf (now (tree .exit))) r ⌝ }
 {
-    let allowance = limits.allowance as u64;
-    let budget = limits.budget as u64;
+    let allowance = limits.allowance;
+    let budget = limits.budget;
     let mut made: u64 = 0;
     loop {
         match decide(tree, allowance, made, budget) {

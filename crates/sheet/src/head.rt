@@ -26,10 +26,9 @@ pub fn cues_in(s: &[u8]) -> usize
 pub fn limits_in(s: &[u8]) -> Limits
     ensures { λ r. ⌜ r ≡ limitsIn (now (s .entry)) ⌝ }
 {
-    Limits {
-        allowance: u32_at(s, 4),
-        budget: u16_at(s, 8),
-    }
+    let allowance = u32_at(s, 4) as u64;
+    let budget = u16_at(s, 8) as u64;
+    Limits { allowance, budget }
 }
 
 /// The head.

@@ -11,8 +11,8 @@ use super::head::bodies_in;
 use super::head::cues_in;
 use super::head::head_in;
 use super::number::sheet_number;
-use rules::EntryAnswer;
 use rules::Entry;
+use rules::EntryAnswer;
 use rules::ReadAnswer;
 
 /// Reading a whole sheet.

@@ -42,9 +42,9 @@ pub const WEIGHTS: [u32; FAULTS] = [
 ];
 
 /// How exact the figures are to be, in billionths: 0 asks for the narrowest interval there is.
-pub const ALLOWANCE: u32 = 0;
+pub const ALLOWANCE: u64 = 0;
 /// The most refinements that are made for a cue.
-pub const BUDGET: u16 = 8;
+pub const BUDGET: u64 = 8;
 
 /// How many cues there are.
 pub const CUES: usize = 6;

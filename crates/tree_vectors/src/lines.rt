@@ -7,6 +7,7 @@ use numbers::wide;
 use rules::Answer;
 use rules::Figures;
 use rules::RunAnswer;
+use rules::S;
 use rules::Verdict;
 
 /// The four figures of a line.
@@ -36,7 +37,7 @@ fn refused_line(n: u8) -> Line
     Line {
         number: wide(n),
         low: 0,
-        high: 1000000000,
+        high: S,
         count: 0,
     }
 }

@@ -19,7 +19,6 @@ use lines::reply;
 use numbers::half;
 use numbers::list_length;
 use numbers::number;
-use numbers::quarter;
 use numbers::weight_list;
 use places::show;
 use rules::Kind;
@@ -51,8 +50,8 @@ fn hand(weights: &[u32], present: &[u64], absent: &[u64], tree: &mut Words) {
 
 /// Reads a run, makes it and prints its line.
 fn counted(weights: &[u32], present: &[u64], absent: &[u64], tree: &mut Words) {
-    let allowance = half();
-    let budget = quarter();
+    let allowance = number();
+    let budget = number();
     print_run(run(weights, present, absent, tree, Limits { allowance, budget }));
 }
 

@@ -70,6 +70,26 @@ module _ {old new : List ℕ} {i next : ℕ} {p : List ℕ} (q : List ℕ) (room
         ends = omega (arith, v .ends, w .ends, length-append p q);
       }
 
+-- ---- three pieces, one behind the other
+
+-- Room for all is room for the first.
+pub first-room : {space : List ℕ} {i : ℕ} {p : List ℕ} (q r : List ℕ) → Room space i (p ++ q ++ r) → Room space i p
+first-room q r room = room-first q (room-first r room)
+
+module _ {a b : List ℕ} {i j : ℕ} {p : List ℕ} (q r : List ℕ) (room : Room a i (p ++ q ++ r)) (first : Wrote a i p b j) where
+  -- Once the first is written, there is room for the second.
+  pub second-room : Room b j q
+  second-room = room-second q (room-first r room) first
+
+  module _ {c : List ℕ} {k : ℕ} (second : Wrote b j q c k) where
+    -- Once the second is written too, there is room for the third.
+    pub third-room : Room c k r
+    third-room = room-second r room (wrote-both q (room-first r room) first second)
+
+    -- Once all are written, they are written as one piece.
+    pub wrote-three : {d : List ℕ} {l : ℕ} → Wrote c k r d l → Wrote a i (p ++ q ++ r) d l
+    wrote-three third = wrote-both r room (wrote-both q (room-first r room) first second) third
+
 -- ---- what is left to write
 
 -- Of the piece `whole`, to be written at position i of `old`, only `rest` is left, and goes to position next of `new`.

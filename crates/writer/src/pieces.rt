@@ -43,14 +43,8 @@ fn put_head(space: &mut [u8], at: usize, faults: usize, cues: usize, limits: Lim
     requires { ⌜ Room (now space) at (headBytes faults cues limits) ⌝ }
     ensures { λ r. ⌜ Wrote (now (space .entry)) at (headBytes faults cues limits) (now (space .exit)) r ⌝ }
 {
-    let next = put_row(
-        space,
-        at,
-        faults as u64,
-        cues as u64,
-        limits.allowance as u64,
-    );
-    let next = put(space, next, 2, limits.budget as u64);
+    let next = put_row(space, at, faults as u64, cues as u64, limits.allowance);
+    let next = put(space, next, 2, limits.budget);
     put(space, next, 2, 0)
 }
 

@@ -7,8 +7,8 @@ use super::lines::print_number;
 use super::lines::print_quarter;
 use super::lines::weights_hash;
 use super::lines::words_hash;
-use rules::EntryAnswer;
 use rules::Entry;
+use rules::EntryAnswer;
 use rules::Head;
 use rules::ReadAnswer;
 use rules::WriteAnswer;
@@ -49,8 +49,8 @@ fn print_head(h: Head, weights: &[u32]) {
     io::write_all(1, b"head");
     print_quarter(h.faults);
     print_quarter(h.cues);
-    print_half(limits.allowance);
-    print_quarter(limits.budget);
+    print_number(limits.allowance);
+    print_number(limits.budget);
     print_number(weights_hash(weights));
     print_end();
 }

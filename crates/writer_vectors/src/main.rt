@@ -11,10 +11,8 @@ use input::cue_list;
 use input::print_name;
 use input::word_list;
 use lines::print_written;
-use numbers::half;
 use numbers::list_length;
 use numbers::number;
-use numbers::quarter;
 use numbers::weight_list;
 use rules::Limits;
 use rules::WriteAnswer;
@@ -97,8 +95,8 @@ fn case() {
     let counts = cue_list(counted);
     let present = word_list(presents);
     let absent = word_list(absents);
-    let allowance = half();
-    let budget = quarter();
+    let allowance = number();
+    let budget = number();
     let lent = list_length(49620);
     forth(
         &weights[..faults],

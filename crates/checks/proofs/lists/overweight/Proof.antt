@@ -26,6 +26,9 @@ mul-if1 c = search needs
 shared-slice-read-if1 : tie.Need-shared-slice-read-if1 Inv-loop μ-loop
 shared-slice-read-if1 c = search needs
 
+cast-if1 : tie.Need-cast-if1 Inv-loop μ-loop
+cast-if1 c = omega (arith, c .shared-slice-known .given (c .before .before .loop .i))
+
 returns : tie.Need-returns Inv-loop μ-loop
 unfolding overweight someAbove
 returns c =
@@ -57,6 +60,7 @@ overweight-spec =
     loop-holds
     mul-if1
     shared-slice-read-if1
+    cast-if1
     returns
     add-i
     loop-less

@@ -1,18 +1,21 @@
 -- `run_on` meets its contract. The loop: what was made, with what the rules make of the rest of the budget, is the whole run.
 -- Rests on Deciding.antt and Going.antt and on the contracts of `decide` and `refine_by_rule`.
-use mathlib.Core.Path.{_≡_, subst}
+use mathlib.Core.Path.{_≡_, ap, subst}
 use mathlib.Core.List.{List}
-use Prim.Native.Nat.{_-_}
+use Prim.Native.Nat.{ℕ, _-_, _≤_}
 use native.Mathlib.Omega.{arith}
 use borrow.Author.Needs.{needs}
+use lib.ListN.{length, length-append}
 use Rattle.rules.specs.Table.{Table}
 use Rattle.rules.specs.Tree.{Refinement}
 use Rattle.records.specs.Records.{history}
 use Rattle.records.specs.declared.Tree.{Tree}
+use Rattle.records.proofs.Positions.{length-places}
+use Rattle.records.proofs.InPlace.{few-places}
 use Rattle.records.proofs.Live.{lean-at}
 use Rattle.store.specs.Lent.{treeOf}
 use Rattle.running.specs.declared.Step.{Step}
-use Rattle.running.proofs.Turns.{Goes, linked}
+use Rattle.running.proofs.Turns.{Goes, whole, linked}
 use Rattle.running.proofs.Going.{Going, start, room, goes-on}
 use Rattle.running.proofs.Deciding.{Outcome, means}
 use Rattle.running.proofs.run.run_on.Statement.{statement}
@@ -37,7 +40,7 @@ given s = history (treeOf (s .args .tree .now))
 
 -- Before a turn: the call, and the tree as it is then.
 abbrev call : tie.At-loop Inv-loop μ-loop → tie.Start Inv-loop μ-loop
-call l = l .before .before .before .before .before .before
+call l = l .before .before .before .before
 
 abbrev now-tree : tie.At-loop Inv-loop μ-loop → Tree
 now-tree l = treeOf (l .loop .tree)
@@ -61,15 +64,9 @@ goes-there : (c : tie.After-j Inv-loop μ-loop)
     × (turn-of (c .before .before) .loop .made ≡ call (turn-of (c .before .before)) .args .limits .budget → ⊥)
 goes-there c = subst (outcome (turn-of (c .before .before))) (c .j .given .1) (decides (c .before .before))
 
-cast-allowance : tie.Need-cast-allowance Inv-loop μ-loop
-cast-allowance c = search needs
-
-cast-budget : tie.Need-cast-budget Inv-loop μ-loop
-cast-budget c = search needs
-
 loop-holds : tie.Need-loop-holds Inv-loop μ-loop
 loop-holds c =
-    let s = c .before .before .before .before .before in
+    let s = c .before .before .before in
     start (table s) _ _ (treeOf (s .args .tree .now)) (s .pre .1 .0) (s .pre .1 .1)
 
 decide-requires : tie.Need-decide-requires Inv-loop μ-loop
@@ -101,10 +98,23 @@ refine-by-rule-requires c κs =
       ),
     )
 
+-- A run makes no more refinements than its tree has.
+few-made : (t : Table) (ns : List Refinement) (a b : ℕ) (x : Tree) (made : ℕ) → Going t ns a b x made → made ≤ 255
+few-made t ns a b x made w =
+    omega (
+      arith,
+      w .many,
+      ap length (w .split),
+      length-append ns (w .ps),
+      length-places (history x),
+      few-places t (history x) (whole t x (w .good)),
+    )
+
 add-made : tie.Need-add-made Inv-loop μ-loop
 add-made c =
     let l = turn-of (c .before .before .before .before .before) in
-    omega (arith, l .loop .inv .sum, l .before .struct-known2 .given)
+    let s = call l in
+    omega (arith, few-made (table s) (given s) (s .args .limits .allowance) (s .args .limits .budget) (now-tree l) (l .loop .made) (l .loop .inv))
 
 loop-less : tie.Need-loop-less Inv-loop μ-loop
 loop-less c =
@@ -126,8 +136,6 @@ run-on-spec =
     (tie.spec
     Inv-loop
     μ-loop
-    cast-allowance
-    cast-budget
     loop-holds
     decide-requires
     enum-known-verdict
