@@ -11,7 +11,6 @@ ghost use Rattle.records.specs.Records.{kindOf};
 ghost use Rattle.records.specs.Growing;
 ghost use Rattle.chances.specs.Directions.{dirOf};
 ghost use Rattle.store.specs.Safe.{SafeNode};
-ghost use Rattle.formula.specs.Leaves.{FaultFits};
 use chances::rounding::either;
 use chances::rounding::mean;
 use records::Node;
@@ -19,13 +18,12 @@ use rules::Kind;
 
 /// What a record says was done there.
 pub fn kind_of(x: Node) -> Kind
-    requires { ⌜ FaultFits (kindOf x) ⌝ }
     ensures { λ r. ⌜ r ≡ kindOf x ⌝ }
 {
     if x.kind == 2 {
         Kind::IndependentOr
     } else {
-        Kind::Shannon(x.fault as u32)
+        Kind::Shannon(x.fault)
     }
 }
 

@@ -49,12 +49,11 @@ fn kind_code(k: Kind) -> u64
 
 /// The fault of a kind in a record.
 fn fault_code(k: Kind) -> u64
-    requires { ⌜ FaultFits k ⌝ }
-    ensures { λ r. ⌜ (r ≡ faultCode (some k)) × (r < 64) ⌝ }
+    ensures { λ r. ⌜ r ≡ faultCode (some k) ⌝ }
 {
     match k {
         Kind::IndependentOr => 0,
-        Kind::Shannon(f) => f as u64,
+        Kind::Shannon(f) => f,
     }
 }
 

@@ -15,7 +15,7 @@ pub struct Way {
 /// `IndependentOr` is 01's "by independence"; `Shannon` is 01's "by a fault": the Shannon expansion on that fault.
 pub enum Kind {
     IndependentOr,
-    Shannon(u32),
+    Shannon(u64),
 }
 
 /// Why a run stopped, in the order in which the reasons are tried.

@@ -40,7 +40,7 @@ fn choose(n: usize, present: &[u64], absent: &[u64], c: Clauses) -> Kind
     if falls_apart(present, absent, c) {
         return Kind::IndependentOr;
     }
-    Kind::Shannon(most_named(n, present, absent, c) as u32)
+    Kind::Shannon(most_named(n, present, absent, c) as u64)
 }
 
 /// The record's interval is as narrow as the allowance asks. Crossed ends are as narrow as can be.

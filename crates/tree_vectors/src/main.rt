@@ -33,7 +33,7 @@ fn opening(weights: &[u32], present: &[u64], absent: &[u64], tree: &mut Words) {
 /// Reads what a hand refinement does: 0 for independence, 1 for a fault, then the fault's number.
 fn kind_read() -> Kind {
     let by_fault = number();
-    let fault = half();
+    let fault = number();
     if by_fault == 0 {
         return Kind::IndependentOr;
     }

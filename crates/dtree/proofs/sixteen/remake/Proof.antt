@@ -52,7 +52,7 @@ returns-3 c =
     (not-true _ (c .if3 .taken))
 
 kind-of-requires : tie.Need-kind-of-requires
-kind-of-requires c κs = let i = c .before in i .before .may .ensures .1 (not-false _ (i .if3 .left))
+kind-of-requires c κs = search needs
 
 grow-requires : tie.Need-grow-requires
 grow-requires c κs =

@@ -81,9 +81,6 @@ part-requires-2 c κs = search needs
 enum-known-k : tie.Need-enum-known-k
 enum-known-k c = search needs
 
-cast-one-bit : tie.Need-cast-one-bit
-cast-one-bit c = search needs
-
 one-bit-requires : tie.Need-one-bit-requires
 one-bit-requires c κs = fits _ _ (c .before .k .given .1) (c .before .before .before .before .before .pre .0)
 
@@ -128,7 +125,6 @@ children-spec =
     part-requires
     part-requires-2
     enum-known-k
-    cast-one-bit
     one-bit-requires
     by-fault-requires
     staying-requires

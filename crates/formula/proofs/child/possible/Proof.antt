@@ -28,9 +28,6 @@ falls-apart-requires c κs = search needs
 enum-known-k : tie.Need-enum-known-k
 enum-known-k c = search needs
 
-cast-occurs : tie.Need-cast-occurs
-cast-occurs c = search needs
-
 occurs-requires : tie.Need-occurs-requires
 occurs-requires c κs = search needs
 
@@ -49,7 +46,6 @@ possible-spec =
     enum-told
     falls-apart-requires
     enum-known-k
-    cast-occurs
     occurs-requires
     returns
     returns-2)

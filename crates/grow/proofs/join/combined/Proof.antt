@@ -31,9 +31,6 @@ either-requires c κs = search needs
 enum-known-k : tie.Need-enum-known-k
 enum-known-k c = search needs
 
-cast-weight-of : tie.Need-cast-weight-of
-cast-weight-of c = search needs
-
 weight-of-requires : tie.Need-weight-of-requires
 weight-of-requires c κs = search needs
 
@@ -54,7 +51,6 @@ combined-spec =
     enum-told
     either-requires
     enum-known-k
-    cast-weight-of
     weight-of-requires
     mean-requires
     returns

@@ -1,19 +1,15 @@
 -- `joined` meets its contract: both ends are joined as the definition says, and the other fields stay.
 -- Rests on `store`, SafeLaws, and the contracts of `kind_of`, `combined` and `overlap`.
 use mathlib.Core.Path.{_≡_}
-use mathlib.Core.Bool.{Bool, true, false}
 use mathlib.Core.List.{List}
-use Prim.Native.Nat.{ℕ, _<_}
-use lib.Dec.{eqb}
+use Prim.Native.Nat.{ℕ}
 use borrow.Author.Needs.{needs}
 use Rattle.rules.specs.Rounding.{down, up}
 use Rattle.rules.specs.Tree.{combine, overlap}
 use Rattle.rules.specs.declared.Kind.{Kind}
-use Rattle.rules.specs.declared.Kind.the-variants.{IndependentOr, Shannon}
 use Rattle.records.specs.Records.{kindOf}
 use Rattle.records.specs.Growing.{withEnds, joined}
 use Rattle.records.specs.declared.Node.{Node}
-use Rattle.formula.specs.Leaves.{FaultFits}
 use Rattle.store.proofs.SafeLaws.{safe-ends}
 use Rattle.grow.proofs.join.joined.Statement.{statement}
 use Rattle.grow.proofs.join.joined.Tie as tie
@@ -24,17 +20,8 @@ both-ends : (ws : List ℕ) (x l r : Node) (k : Kind) (a b lo hi : ℕ) → k �
 unfolding joined
 both-ends ws x l r k a b lo hi e f g h j = rw (j, h, g, f, e)
 
--- The kind that a record tells has a fault with a bit, if the record has.
-fits : (x : Node) → x .fault < 64 → FaultFits (kindOf x)
-unfolding kindOf FaultFits
-fits x h = by (eqb (x .kind) 2)
-  where
-    by : (b : Bool) → FaultFits (elim b as (λ b. Kind) [ true ↦ IndependentOr | false ↦ Shannon (x .fault) ])
-    by true = tt
-    by false = h
-
 kind-of-requires : tie.Need-kind-of-requires
-kind-of-requires c κs = fits _ (c .before .pre .1 .0 .fault-fits)
+kind-of-requires c κs = search needs
 
 combined-requires : tie.Need-combined-requires
 combined-requires c κs = search needs

@@ -1,13 +1,10 @@
 -- `kind_of` meets its contract, by the record's code.
 -- Rests on the definition of `records`, kindOf.
-use mathlib.Core.Path.{_≡_, sym, subst}
-use Prim.Native.Nat.{_<_}
-use borrow.Author.Needs.{needs}
+use mathlib.Core.Path.{_≡_}
 use borrow.Author.Tests.{eq-eqb, ne-eqb}
 use Rattle.rules.specs.declared.Kind.the-variants.{IndependentOr, Shannon}
 use Rattle.records.specs.Records.{kindOf}
 use Rattle.records.specs.declared.Node.{Node}
-use Rattle.formula.specs.Leaves.{FaultFits}
 use Rattle.grow.proofs.join.kind_of.Statement.{statement}
 use Rattle.grow.proofs.join.kind_of.Tie as tie
 
@@ -20,19 +17,11 @@ module _ (x : Node) where
   unfolding kindOf
   by-fault e = rw (ne-eqb (x .kind) 2 e, kindOf)
 
-  -- The fault of a refined record has a bit in a word.
-  fault-fits : FaultFits (kindOf x) → (x .kind ≡ 2 → ⊥) → x .fault < 64
-  unfolding FaultFits
-  fault-fits h e = subst FaultFits (sym (by-fault e)) h
-
-cast-t4 : tie.Need-cast-t4
-cast-t4 c = let h = fault-fits _ (c .before .before .before .pre) (c .before .if1 .left) in search (needs, h)
-
 returns : tie.Need-returns
 returns c = by-groups (c .before .before .args .x) (c .if1 .taken)
 
 returns-2 : tie.Need-returns-2
-returns-2 c = by-fault (c .before .before .before .args .x) (c .before .if1 .left)
+returns-2 c = by-fault (c .before .before .args .x) (c .if1 .left)
 
 pub kind-of-spec : {M : Type 1} → statement M
-kind-of-spec = tie.close (tie.spec cast-t4 returns returns-2)
+kind-of-spec = tie.close (tie.spec returns returns-2)

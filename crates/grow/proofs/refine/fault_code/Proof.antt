@@ -1,14 +1,12 @@
 -- `fault_code` meets its contract, by the kind.
--- Rests on the definitions of `records`, faultCode, and `formula`, FaultFits.
+-- Rests on the definition of `records`, faultCode.
 use mathlib.Core.Path.{_≡_}
 use mathlib.Core.Option.{some}
-use Prim.Native.Nat.{ℕ, _<_}
-use native.Mathlib.Omega.{arith}
+use Prim.Native.Nat.{ℕ}
 use borrow.Author.Needs.{needs}
 use Rattle.rules.specs.declared.Kind.{Kind}
 use Rattle.rules.specs.declared.Kind.the-variants.{IndependentOr, Shannon}
 use Rattle.records.specs.Records.{faultCode}
-use Rattle.formula.specs.Leaves.{FaultFits}
 use Rattle.grow.proofs.refine.fault_code.Statement.{statement}
 use Rattle.grow.proofs.refine.fault_code.Tie as tie
 
@@ -20,25 +18,17 @@ by-fault : (k : Kind) (f : ℕ) → k ≡ Shannon f → f ≡ faultCode (some k)
 unfolding faultCode
 by-fault k f e = rw e
 
--- The fault of a kind has a bit in a word.
-fault-below : (k : Kind) (f : ℕ) → k ≡ Shannon f → FaultFits k → f < 64
-unfolding FaultFits
-fault-below k f e h = rw e at h
-
 enum-told : tie.Need-enum-told
 enum-told c = search needs
 
 enum-known-k : tie.Need-enum-known-k
 enum-known-k c = search needs
 
-cast-result : tie.Need-cast-result
-cast-result c = search needs
-
 returns : tie.Need-returns
-returns c = (by-groups _ (c .enum-told .given .1), omega arith)
+returns c = by-groups _ (c .enum-told .given .1)
 
 returns-2 : tie.Need-returns-2
-returns-2 c = let e = c .before .k .given .1 in (by-fault _ _ e, fault-below _ _ e (c .before .before .before .pre))
+returns-2 c = by-fault _ _ (c .before .k .given .1)
 
 pub fault-code-spec : {M : Type 1} → statement M
-fault-code-spec = tie.close (tie.spec enum-told enum-known-k cast-result returns returns-2)
+fault-code-spec = tie.close (tie.spec enum-told enum-known-k returns returns-2)

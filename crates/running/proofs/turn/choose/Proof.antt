@@ -1,7 +1,6 @@
 -- `choose` meets its contract: by independence where the ways fall apart, else by a fault that has a bit.
 -- Rests on Turns.antt and the contracts of `falls_apart` and `most_named`.
 use mathlib.Core.Path.{sym, _∙_}
-use native.Mathlib.Omega.{arith}
 use borrow.Author.Needs.{needs}
 use Rattle.formula.specs.Leaves.{FaultFits}
 use Rattle.running.proofs.Turns.{fault-low, choice-apart, choice-fault}
@@ -18,9 +17,6 @@ returns c = (λ ws l. choice-apart ws _ (sym (c .before .falls-apart .ensures) �
 most-named-requires : tie.Need-most-named-requires
 most-named-requires c κs = search needs
 
-cast-t7 : tie.Need-cast-t7
-cast-t7 c = let e = fault-low _ _ _ (c .before .before .before .before .before .pre .0) (c .most-named .ensures) in omega (arith, e)
-
 returns-2 : tie.Need-returns-2
 unfolding FaultFits
 returns-2 c = (
@@ -29,4 +25,4 @@ returns-2 c = (
 )
 
 pub choose-spec : {M : Type 1} → statement M
-choose-spec = tie.close (tie.spec falls-apart-requires returns most-named-requires cast-t7 returns-2)
+choose-spec = tie.close (tie.spec falls-apart-requires returns most-named-requires returns-2)
