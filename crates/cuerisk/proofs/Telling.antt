@@ -1,21 +1,29 @@
--- A promise of `dtree` about an answer, and the numbers of that answer, are the promise told in numbers.
--- Rests on specs/Told.antt: a promise says which answer it is about.
+-- What a call says of its answer, and the numbers of that answer, are the promise told in numbers.
+-- Rests on specs/Told.antt; a promise of `dtree` says itself which answer it is about.
 use mathlib.Core.Path.{_≡_, refl, ap, subst, _∙_}
 use mathlib.Core.List.{List}
+use mathlib.Core.Option.{none}
 use Prim.Native.Nat.{ℕ, zero, suc}
-use Rattle.rules.specs.Answers.{countedBy}
+use lib.ListN.{length}
+use Rattle.rules.specs.Answers.{Reply, countedBy, readReply, entryReply, writeReply}
 use Rattle.rules.specs.Table.{Table}
 use Rattle.rules.specs.Calls.{Outcome, handed, ran}
+use Rattle.rules.specs.Sheet.{Lists, sheetOf, encode, readNumber, readAnswer, entryAnswer, writeNumber, writeAnswer, written}
 use Rattle.rules.specs.declared.Kind.{Kind}
 use Rattle.rules.specs.declared.Limits.{Limits}
 use Rattle.rules.specs.declared.Answer.{Answer}
 use Rattle.rules.specs.declared.RunAnswer.{RunAnswer}
+use Rattle.rules.specs.declared.ReadAnswer.{ReadAnswer}
+use Rattle.rules.specs.declared.EntryAnswer.{EntryAnswer}
+use Rattle.rules.specs.declared.WriteAnswer.{WriteAnswer}
 use Rattle.records.specs.Library.{callOutcome}
 use Rattle.records.specs.declared.Tree.{Tree}
 use Rattle.dtree.specs.Promises.{Opening, Refining, Running}
-use Rattle.cuerisk.specs.Numbers.{flatAnswer, flatRun}
-use Rattle.cuerisk.specs.Told.{refineAnswer, runOnAnswer, OpeningTold, RefiningTold, RunningTold}
+use Rattle.cuerisk.specs.Numbers.{flat, flatAnswer, flatRun, flatWrite, flatSheet, flatEntry}
+use Rattle.cuerisk.specs.Told.{refineAnswer, runOnAnswer, OpeningTold, RefiningTold, RunningTold, ReadingTold, EntryTold, WritingTold}
 use Rattle.cuerisk.specs.declared.CueAnswer.{CueAnswer}
+use Rattle.cuerisk.specs.declared.CueSheet.{CueSheet}
+use Rattle.cuerisk.specs.declared.CueEntry.{CueEntry}
 
 -- The answer that an outcome is of.
 abbrev answerIn : Outcome → Answer → Answer
@@ -59,7 +67,32 @@ running-told t x m y a r p e =
       same = ap (λ (o : Outcome). runAnswerIn o a) (p .call .outcome-is)
 
 -- The number of a call on a sheet, in the reply that goes by it.
-pub counted-number : (n k : ℕ) → countedBy n k .number ≡ n
+counted-number : (n k : ℕ) → countedBy n k .number ≡ n
 unfolding countedBy
 counted-number zero k = refl
 counted-number (suc n) k = refl
+
+-- Reading a whole sheet told in numbers.
+pub reading-told : (bs : List ℕ) (a : ReadAnswer) (r : CueSheet) → (a ≡ readAnswer bs) × (readReply a ≡ countedBy (readNumber bs) 0) → r ≡ flatSheet a
+    → ReadingTold bs r
+reading-told bs a r p e =
+    record {
+      numbers = e ∙ ap flatSheet (p .0);
+      number-is = ap (λ (h : CueSheet). h .number) e ∙ ap (λ (x : Reply). x .number) (p .1) ∙ counted-number (readNumber bs) 0;
+    }
+
+-- A reader's call told in numbers.
+pub entry-told : (bs : List ℕ) (i : ℕ) (a : EntryAnswer) (r : CueEntry) → (a ≡ entryAnswer bs i) × (entryReply a ≡ countedBy (readNumber bs) 0) → r ≡ flatEntry a
+    → EntryTold bs i r
+entry-told bs i a r p e =
+    record {
+      numbers = e ∙ ap flatEntry (p .0);
+      number-is = ap (λ (h : CueEntry). h .number) e ∙ ap (λ (x : Reply). x .number) (p .1) ∙ counted-number (readNumber bs) 0;
+    }
+
+-- Writing told in numbers.
+pub writing-told : (x : Lists) (before : List ℕ) {after : List ℕ} {a : WriteAnswer} {r : CueAnswer}
+    → (a ≡ writeAnswer x (length before))
+    × ((writeReply a ≡ countedBy (writeNumber x (length before)) (length (encode (sheetOf x)))) × (after ≡ written x before))
+    → r ≡ flatWrite a → WritingTold x before after r
+writing-told x before p e = record { numbers = e ∙ ap flatWrite (p .0); counts = e ∙ ap (λ (y : Reply). flat y none) (p .1 .0); space = p .1 .1 }

@@ -1,9 +1,13 @@
--- The numbers that stand for each answer, and the refinement that numbers ask for.
+-- The numbers that stand for each answer, the refinement that numbers ask for, and the version of them all.
 -- Every answer goes through `rules`, Answers: what is told is the reply of 01, with a code for the verdict.
 use mathlib.Core.Bool.{true, false}
+use mathlib.Core.List.{List, [], _∷_}
 use mathlib.Core.Option.{Option, none, some}
-use Prim.Native.Nat.{ℕ}
+use Prim.Native.Nat.{ℕ, zero, suc}
 use lib.Dec.{eqb}
+use lib.ListN.{length, drop}
+use Rattle.rules.specs.Table.{Table, table}
+use Rattle.rules.specs.Sheet.{Cue, tableOf, decode, readNumber}
 use Rattle.rules.specs.Answers.{Reply, answerReply, runReply, runVerdict, readReply, entryReply, handedOver, writeReply}
 use Rattle.rules.specs.declared.Kind.{Kind}
 use Rattle.rules.specs.declared.Verdict.{Verdict}
@@ -15,9 +19,15 @@ use Rattle.rules.specs.declared.EntryAnswer.{EntryAnswer}
 use Rattle.rules.specs.declared.WriteAnswer.{WriteAnswer}
 use Rattle.cuerisk.specs.declared.CueAnswer.{CueAnswer}
 use Rattle.page.specs.declared.Spot.{Spot}
+use Rattle.sheet.specs.Handed.{sized}
 use Rattle.cuerisk.specs.declared.CueSpot.{CueSpot}
 use Rattle.cuerisk.specs.declared.CueSheet.{CueSheet}
 use Rattle.cuerisk.specs.declared.CueEntry.{CueEntry}
+use Rattle.cuerisk.specs.declared.CueTable.{CueTable}
+
+-- The version: another one for every change of a struct or of a call. CUE_VERSION in include/cue_risk.h.
+abbrev pub version : ℕ
+version = 1
 
 -- The refinement asked for: 0 is independence, 1 the fault named. Any other number asks for fault 64, which no accepted table has.
 unfoldable pub kindAsked : ℕ → ℕ → Kind
@@ -86,3 +96,32 @@ flatEntry a =
       ways = handedOver a .ways;
       start = handedOver a .start;
     }
+
+-- ---- a cue's table
+
+-- A table without faults and ways.
+abbrev pub noTable : Table
+noTable = table [] [] []
+
+-- A table: how many weights and words there are, then the weights and the words, and zeros behind them.
+abbrev pub flatTable : ℕ → ℕ → Table → CueTable
+flatTable number past t =
+    record {
+      number = number;
+      past = past;
+      faults = length (t .weights);
+      ways = length (t .present);
+      weights = sized 64 (t .weights);
+      present = sized 128 (t .present);
+      absent = sized 128 (t .absent);
+    }
+
+-- By the number of a sheet, its weights, and its cues from the position asked for on: the table of the first of them.
+abbrev pub tableBy : ℕ → List ℕ → List Cue → CueTable
+tableBy zero ws [] = flatTable 0 1 noTable
+tableBy zero ws (c ∷ cs) = flatTable 0 0 (tableOf ws c)
+tableBy (suc n) ws cs = flatTable (suc n) 0 noTable
+
+-- The answer of a call for the table of the cue at position i.
+unfoldable pub flatTableAt : List ℕ → ℕ → CueTable
+flatTableAt bs i = tableBy (readNumber bs) (decode bs .weights) (drop i (decode bs .cues))

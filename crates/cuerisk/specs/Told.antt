@@ -3,13 +3,14 @@
 use mathlib.Core.Path.{_≡_}
 use mathlib.Core.List.{List}
 use mathlib.Core.Option.{none}
-use Prim.Native.Nat.{ℕ}
-use lib.ListN.{length}
+use Prim.Native.Nat.{ℕ, _<_}
+use lib.ListN.{length, take, getD}
 use Rattle.rules.specs.Answers.{countedBy}
-use Rattle.rules.specs.Table.{Table}
+use Rattle.rules.specs.Table.{Table, table}
 use Rattle.rules.specs.Tree.{tree}
+use Rattle.rules.specs.Refusals.{Accepted}
 use Rattle.rules.specs.Calls.{openAnswer, handAnswer, runAnswer}
-use Rattle.rules.specs.Sheet.{Lists, sheetOf, encode, readNumber, readAnswer, entryAnswer, writeNumber, writeAnswer, written}
+use Rattle.rules.specs.Sheet.{Cue, tableOf, Lists, sheetOf, encode, cuesIn, decode, readNumber, readAnswer, entryAnswer, writeNumber, writeAnswer, written}
 use Rattle.rules.specs.Text.{text}
 use Rattle.rules.specs.declared.Kind.{Kind}
 use Rattle.rules.specs.declared.Limits.{Limits}
@@ -20,12 +21,13 @@ use Rattle.records.specs.declared.Node.{Node}
 use Rattle.records.specs.declared.Tree.{Tree}
 use Rattle.dtree.specs.Promises.{Opening, Refining, Running}
 use Rattle.page.specs.Widest.{widestOf, WidestLaw}
-use Rattle.cuerisk.specs.Numbers.{flat, flatAnswer, flatRun, flatWrite, flatSpot, flatSheet, flatEntry}
+use Rattle.cuerisk.specs.Numbers.{flat, flatAnswer, flatRun, flatWrite, flatSpot, flatSheet, flatEntry, flatTableAt}
 use Rattle.cuerisk.specs.Into.{reportNumber, reportAnswer, reported}
 use Rattle.cuerisk.specs.declared.CueAnswer.{CueAnswer}
 use Rattle.cuerisk.specs.declared.CueSpot.{CueSpot}
 use Rattle.cuerisk.specs.declared.CueSheet.{CueSheet}
 use Rattle.cuerisk.specs.declared.CueEntry.{CueEntry}
+use Rattle.cuerisk.specs.declared.CueTable.{CueTable}
 
 -- The answer of a hand refinement on any tree, 16 judged by the records.
 abbrev pub refineAnswer : Table → Tree → List ℕ → Kind → Answer
@@ -64,6 +66,19 @@ pub record ReadingTold (bs : List ℕ) (r : CueSheet) : Type 0 where
 pub record EntryTold (bs : List ℕ) (i : ℕ) (r : CueEntry) : Type 0 where
   pub numbers : r ≡ flatEntry (entryAnswer bs i)
   pub number-is : r .number ≡ readNumber bs
+
+-- The table that an answer holds: the first `faults` of its weights, and the first `ways` of its words of each kind.
+abbrev pub tableHeld : CueTable → Table
+tableHeld r = table (take (r .faults) (r .weights)) (take (r .ways) (r .present)) (take (r .ways) (r .absent))
+
+-- A CALL FOR THE TABLE of the cue at any position.
+pub record TableTold (bs : List ℕ) (i : ℕ) (r : CueTable) : Type 0 where
+  pub numbers : r ≡ flatTableAt bs i
+  pub number-is : r .number ≡ readNumber bs
+  -- Of an accepted sheet, before the end of its cues: the sheet's weights and the words of the i-th cue, whatever `getD` would give behind the last.
+  pub table-is : readNumber bs ≡ 0 → i < cuesIn bs → (d : Cue) → tableHeld r ≡ tableOf (decode bs .weights) (getD (decode bs .cues) i d)
+  -- Every call on a tree accepts this table.
+  pub accepted : readNumber bs ≡ 0 → i < cuesIn bs → Accepted (tableHeld r)
 
 -- WRITING the sheet that lists give into a space: the numbers, the number and the bytes that they count, and the space afterwards.
 pub record WritingTold (x : Lists) (before after : List ℕ) (r : CueAnswer) : Type 0 where

@@ -8,17 +8,20 @@ ghost use mathlib.Core.Path.{_≡_};
 ghost use Rattle.rules.specs.Table.{table};
 ghost use Rattle.store.specs.Lent.{treeOf};
 ghost use Rattle.writer.specs.Given.{given};
-ghost use Rattle.cuerisk.specs.Numbers.{kindAsked};
-ghost use Rattle.cuerisk.specs.Told.{OpeningTold, RefiningTold, RunningTold, SearchTold, ReadingTold, EntryTold, WritingTold, ReportingTold};
+ghost use Rattle.cuerisk.specs.Numbers.{version, kindAsked};
+ghost use Rattle.cuerisk.specs.Told.{OpeningTold, RefiningTold, RunningTold, SearchTold, ReadingTold, EntryTold, TableTold, WritingTold, ReportingTold};
 use numbers::kind_asked;
+use numbers::no_table;
 use numbers::of_answer;
 use numbers::of_entry;
 use numbers::of_read;
 use numbers::of_run;
 use numbers::of_spot;
+use numbers::of_table;
 use numbers::of_write;
 use records::Node;
 use reports::put_text;
+use rules::EntryAnswer;
 use rules::Limits;
 use store::Words;
 
@@ -57,6 +60,27 @@ pub struct CueEntry {
     pub cue: u64,
     pub ways: u64,
     pub start: u64,
+}
+
+/// The answer of a call for a cue's table: the first `faults` weights, the first `ways` words of each kind, and zeros behind them; past the last
+/// cue `past` is 1 and the rest 0; refused, the number and zeros.
+#[repr(C)]
+pub struct CueTable {
+    pub number: u64,
+    pub past: u64,
+    pub faults: u64,
+    pub ways: u64,
+    pub weights: [u32; 64],
+    pub present: [u64; 128],
+    pub absent: [u64; 128],
+}
+
+/// The version of these structs and calls, to be compared with that of the header.
+#[no_mangle]
+pub extern "C" fn cue_version() -> u64
+    ensures promise { λ r. ⌜ r ≡ version ⌝ }
+{
+    1
 }
 
 /// Opens a table. What the tree held before does not matter; refused, it is left without nodes.
@@ -131,6 +155,18 @@ pub extern "C" fn cue_sheet_cue(sheet: &[u8], position: usize) -> CueEntry
     ensures promise { λ r. ⌜ EntryTold (now (sheet .entry)) position r ⌝ }
 {
     of_entry(sheet::reader::cue_at(sheet, position))
+}
+
+/// The table of the cue at a position of a sheet's contents.
+#[no_mangle]
+pub extern "C" fn cue_sheet_table(sheet: &[u8], position: usize) -> CueTable
+    ensures promise { λ r. ⌜ TableTold (now (sheet .entry)) position r ⌝ }
+{
+    match sheet::reader::cue_at(sheet, position) {
+        EntryAnswer::Cue(e) => of_table(sheet::table::table(sheet, e)),
+        EntryAnswer::Past => no_table(0, 1),
+        EntryAnswer::Refused(n) => no_table(n as u64, 0),
+    }
 }
 
 /// Writes the sheet that the lists give to the front of the space.

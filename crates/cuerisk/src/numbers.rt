@@ -3,11 +3,12 @@
 ghost use mathlib.Core.Path.{_≡_};
 ghost use mathlib.Core.Option.{some, none};
 ghost use Rattle.rules.specs.Answers.{refused};
-ghost use Rattle.cuerisk.specs.Numbers.{verdictCode, kindAsked, flat, flatAnswer, flatRun, flatSpot, flatSheet, flatEntry, flatWrite};
+ghost use Rattle.cuerisk.specs.Numbers.{verdictCode, kindAsked, flat, flatAnswer, flatRun, flatSpot, flatSheet, flatEntry, noTable, flatTable, flatWrite};
 use super::CueAnswer;
 use super::CueEntry;
 use super::CueSheet;
 use super::CueSpot;
+use super::CueTable;
 use page::Spot;
 use rules::Answer;
 use rules::EntryAnswer;
@@ -150,6 +151,41 @@ pub fn of_entry(a: EntryAnswer) -> CueEntry
             ways: 0,
             start: 0,
         },
+    }
+}
+
+/// The numbers of a table that a sheet's reader hands over.
+pub fn of_table(t: sheet::table::CueTable) -> CueTable
+    ensures { λ r. ⌜ r ≡ record { number = 0; past = 0; faults = t .faults; ways = t .ways; weights = t .weights; present = t .present; absent = t .absent } ⌝ }
+{
+    let weights = t.weights;
+    let present = t.present;
+    let absent = t.absent;
+    CueTable {
+        number: 0,
+        past: 0,
+        faults: t.faults as u64,
+        ways: t.ways as u64,
+        weights,
+        present,
+        absent,
+    }
+}
+
+/// The numbers where there is no table to hand over.
+pub fn no_table(number: u64, past: u64) -> CueTable
+    ensures { λ r. ⌜ r ≡ flatTable number past noTable ⌝ }
+{
+    let weights = [0u32; 64];
+    let words = [0u64; 128];
+    CueTable {
+        number,
+        past,
+        faults: 0,
+        ways: 0,
+        weights,
+        present: words,
+        absent: words,
     }
 }
 

@@ -1,4 +1,4 @@
--- `open` meets its contract: the promise of the opening, told in numbers.
+-- `cue_open` meets its contract: the promise of the opening, told in numbers.
 -- Rests on Telling.antt and the contract of `dtree::opening::open`.
 use Rattle.cuerisk.proofs.Telling.{opening-told}
 use borrow.Author.Needs.{needs}

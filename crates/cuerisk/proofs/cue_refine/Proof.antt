@@ -1,4 +1,4 @@
--- `refine` meets its contract: the promise of the hand refinement, told in numbers.
+-- `cue_refine` meets its contract: the promise of the hand refinement, told in numbers.
 -- Rests on Telling.antt and the contracts of `kind_asked` and `dtree::refining::refine`.
 use Rattle.cuerisk.proofs.Telling.{refining-told}
 use borrow.Author.Needs.{needs}

@@ -1,4 +1,4 @@
--- `run` meets its contract: the promise of the run, told in numbers.
+-- `cue_run` meets its contract: the promise of the run, told in numbers.
 -- Rests on Telling.antt and the contract of `dtree::runs::run`.
 use Rattle.cuerisk.proofs.Telling.{running-told}
 use borrow.Author.Needs.{needs}

@@ -1,11 +1,7 @@
--- `cue` meets its contract: the numbers of what the reader's call answers.
+-- `cue_sheet_cue` meets its contract: the numbers of what the reader's call answers.
 -- Rests on Telling.antt and the contracts of `sheet::reader::cue_at` and `of_entry`.
-use mathlib.Core.Path.{ap, _∙_}
-use Rattle.rules.specs.Answers.{Reply}
-use Rattle.cuerisk.specs.Numbers.{flatEntry}
-use Rattle.cuerisk.specs.declared.CueEntry.{CueEntry}
-use Rattle.cuerisk.proofs.Telling.{counted-number}
 use borrow.Author.Needs.{needs}
+use Rattle.cuerisk.proofs.Telling.{entry-told}
 use Rattle.cuerisk.proofs.cue_sheet_cue.Statement.{statement}
 use Rattle.cuerisk.proofs.cue_sheet_cue.Tie as tie
 
@@ -16,12 +12,7 @@ of-entry-requires : tie.Need-of-entry-requires
 of-entry-requires c κs = search needs
 
 returns : tie.Need-returns
-returns c =
-    let a = c .before .cue-at .ensures in
-    record {
-      numbers = c .of-entry .ensures ∙ ap flatEntry (a .0);
-      number-is = ap (λ (e : CueEntry). e .number) (c .of-entry .ensures) ∙ ap (λ (r : Reply). r .number) (a .1) ∙ counted-number _ 0;
-    }
+returns c = entry-told _ _ _ _ (c .before .cue-at .ensures) (c .of-entry .ensures)
 
 pub cue-sheet-cue-spec : {M : Type 1} → statement M
 cue-sheet-cue-spec = tie.close (tie.spec cue-at-requires of-entry-requires returns)

@@ -1,4 +1,4 @@
--- `put` meets its contract: the numbers of what `put_text` answers, and its space.
+-- `cue_sheet_report` meets its contract: the numbers of what `put_text` answers, and its space.
 -- Rests on Reporting.antt and the contracts of `put_text` and `of_write`.
 use mathlib.Core.Path.{ap, _∙_}
 use mathlib.Core.Option.{none}

@@ -1,10 +1,10 @@
--- `put` meets its contract: the numbers of what the writer answers, and its space.
--- Rests on the contracts of `writer::write` and `of_write`.
-use mathlib.Core.Path.{ap, _∙_}
-use mathlib.Core.Option.{none}
-use Rattle.rules.specs.Answers.{Reply}
-use Rattle.cuerisk.specs.Numbers.{flat, flatWrite}
+-- `cue_sheet_write` meets its contract: the numbers of what the writer answers, and its space.
+-- Rests on Telling.antt and the contracts of `writer::write` and `of_write`.
 use borrow.Author.Needs.{needs}
+use Rattle.rules.specs.Sheet.{Lists}
+use Rattle.rules.specs.declared.Limits.{Limits}
+use Rattle.writer.specs.Given.{given}
+use Rattle.cuerisk.proofs.Telling.{writing-told}
 use Rattle.cuerisk.proofs.cue_sheet_write.Statement.{statement}
 use Rattle.cuerisk.proofs.cue_sheet_write.Tie as tie
 
@@ -19,9 +19,11 @@ same-length c = search needs
 
 returns : tie.Need-returns
 returns c =
-    let w = c .before .before .before .write .ensures in
-    let e = c .of-write .ensures in
-    record { numbers = e ∙ ap flatWrite (w .0); counts = e ∙ ap (λ (r : Reply). flat r none) (w .1 .0); space = w .1 .1 }
+    let w = c .before .before .before in
+    let a = w .before .before .before .before .before .before .before .before .args in
+    let m : Limits = record { allowance = a .allowance; budget = a .budget } in
+    let x : Lists = given (a .weights .now) (a .numbers .now) (a .counts .now) (a .present .now) (a .absent .now) m in
+    writing-told x (a .space .now) (w .write .ensures) (c .of-write .ensures)
 
 pub cue-sheet-write-spec : {M : Type 1} → statement M
 cue-sheet-write-spec = tie.close (tie.spec write-requires of-write-requires same-length returns)
