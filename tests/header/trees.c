@@ -155,6 +155,28 @@ static void full(void)
     SAME(tree.used, 511);
 }
 
+/* {0, 1, 2} {0, 1, 3} {~0, 4, 5} {~0, 4, 6}, all of 0.5: by fault 0, then right by fault 4, left by fault 1. Records 3
+ * and 5, at the places 1 0 and 0 0, are then equally wide: the first by record is 3, and a run takes 5. */
+static void by_record_and_by_place(void)
+{
+    static const uint8_t left[1] = {0}, right[1] = {1};
+    static const uint64_t p[4] = {7, 11, 48, 80}, q[4] = {0, 0, 1, 1};
+    static uint32_t w[7];
+    for (size_t i = 0; i < 7; i++) {
+        w[i] = 500 * MILLION;
+    }
+    ACCEPTED(open_table(&tree, w, 7, p, 4, q, 4), 125 * MILLION, 500 * MILLION, 0, 0);
+    ACCEPTED(refine(&tree, w, 7, p, 4, q, 4, NULL, 0, 1, 0), 250 * MILLION, 500 * MILLION, 1, 0);
+    ACCEPTED(refine(&tree, w, 7, p, 4, q, 4, right, 1, 1, 4), 312500000, 500 * MILLION, 1, 0);
+    ACCEPTED(refine(&tree, w, 7, p, 4, q, 4, left, 1, 1, 1), 375 * MILLION, 500 * MILLION, 1, 0);
+    SAME(widest(tree.nodes, tree.used).found, 1);
+    SAME(widest(tree.nodes, tree.used).at, 3);
+    ACCEPTED(run(&tree, w, 7, p, 4, q, 4, 0, 1), 375 * MILLION, 437500000, 1, 4);
+    SAME(tree.nodes[3].kind, 1);
+    SAME(tree.nodes[5].kind, 2);
+    SAME(tree.nodes[5].left, 7);
+}
+
 /* Records that no tree has: a closed leaf, a narrow one, an inner node, and three that are equally wide. */
 static void search(void)
 {
@@ -180,5 +202,6 @@ void on_trees(void)
     senses();
     done();
     full();
+    by_record_and_by_place();
     search();
 }
