@@ -65,7 +65,7 @@
  * The numbers that concern a call stand with it below. They are tried in ascending order, each over the whole input
  * before the next. What a rule judges is judged as it is given, in all its bits. If the call is refused,
  *  - a CueAnswer has the number, low 0, high CUE_BILLION, count 0 and verdict 0;
- *  - a CueSheet, CueEntry or CueTable, which have no interval, has the number and zeros;
+ *  - a CueSheet, CueEntry or CueTable has the number and zeros: it has no interval;
  *  - tree and space are as they were. Only a refused cue_open writes its tree: it has no nodes then, used 0 and every
  *    record blank, and 16 refuses it later.
  */

@@ -1,8 +1,8 @@
 #!/bin/bash
-# The examples over the static library, after the header that they rest on. The C and the Rust example print what examples/table.txt
-# has: the paper's P4 and P5, and the sample show as samples/README.md has it. The pictures of examples/tree.c are well-formed and
+# The examples over the static library, after the header that they rest on. The C and the Rust example print examples/table.txt:
+# figures worked out by hand, and the sample show as samples/README.md has it. The pictures of examples/tree.c are well-formed and
 # show every node of the records once; docs/finale.svg is one of them. Usage: tests/run_examples.sh.
-set -e
+set -eo pipefail
 cd "$(dirname "$0")/.."
 tests/run_header.sh
 archive=target/staticlib/libcuerisk.a
@@ -21,13 +21,13 @@ rustc --edition 2021 -D warnings examples/table.rs -L target/staticlib -l static
 for example in table_c table_rs; do
     "$built/$example" samples/show.sheet | cmp - examples/table.txt
 done
-echo "both examples print what the papers say"
+echo "both examples print what examples/table.txt has"
 
 cc $strict examples/tree.c "$archive" -o "$built/tree"
 cc $strict tests/picture/nodes.c "$archive" -o "$built/nodes"
 cc $strict tests/picture/wellformed.c -o "$built/wellformed"
 
-# The nodes of a page, as tests/picture/nodes.c prints them; a box that is not marked as its node is stays out.
+# The nodes of a page, as tests/picture/nodes.c prints them, of the boxes that have the colour of their node.
 shown() {
     sed -n 's/^<g class="\([a-z]*\)">/\1/p' "$1" | sed 's/<[^>]*>/|/g; s/||*/|/g; s/|$//' | awk -F'|' '
         $1 == "open" && $2 == "open leaf" || $1 == "closed" && $2 == "closed leaf" || $1 == "fault" && $2 ~ /^fault / ||

@@ -1,7 +1,7 @@
 #!/bin/bash
 # Holds include/cue_risk.h to figures that are written out in tests/header, as C11 and as C++17: every constant, every field, every
 # prototype with the names of its parameters, the words of the refusals, and what each call answers. Usage: tests/run_header.sh.
-set -e
+set -eo pipefail
 cd "$(dirname "$0")/.."
 rt staticlib cuerisk
 archive=target/staticlib/libcuerisk.a
