@@ -1,9 +1,9 @@
 /* The calls on a tree, and the report on a sheet, from C. Built and run, in the folder of this file:
  *
- *   cc -std=c11 -Wall -Wextra -I../include table.c ../target/staticlib/libcapi.a -o table
+ *   cc -std=c11 -Wall -Wextra -I../include table.c ../target/staticlib/libcuerisk.a -o table
  *   ./table ../samples/show.sheet
  *
- * `rt staticlib capi` makes the library. */
+ * `rt staticlib cuerisk` makes the library. */
 #include <inttypes.h>
 #include <stdio.h>
 #include "cue_risk.h"
@@ -29,6 +29,10 @@ static void print(const char *call, CueAnswer a)
 
 int main(int argc, char **argv)
 {
+    if (cue_version() != CUE_VERSION) {
+        fputs("the library is not of the header's version\n", stderr);
+        return 1;
+    }
     print("open", cue_open(&tree, weights, 3, present, 2, absent, 2));
 
     /* The root by fault 0; its place has no steps. */

@@ -1,49 +1,73 @@
 /*
- * Cue risk: certified intervals for the chance that a cue fails, for callers in C and C++.
- * Link with libcapi.a (x86-64). Each function has a proved contract (crates/capi/src/lib.rt) that says what it answers
- * and what it leaves in the tree or the space, for every input; it holds as long as the caller keeps the duties below.
+ * Cue risk: certified intervals for the chance that a cue fails, for callers in C (C99 and later) and C++.
  *
- * Figures. Chances are in billionths: CUE_BILLION is chance 1. A table has 1 to 64 faults, numbered from 0, each with a
- * weight, which is its chance, and 0 to 128 ways. Way i is two words: bit f of present[i] says that it names fault f
- * present, bit f of absent[i] that it names it absent. An interval [low, high] encloses the chance that some way happens.
- * At every node a way that names all faults of another way that remains there, in the same sense, says nothing new and is
- * left out; of equal ways the lowest numbered stays. Children take over only what stays.
+ * Link with libcuerisk.a, for 64-bit x86, and compare cue_version() with CUE_VERSION once, at the start. Each function
+ * has a proved contract (crates/cuerisk/src/lib.rt), which says what it answers and what it leaves in tree and space,
+ * for every input, as long as the caller keeps the duties below. Examples: examples/table.c, examples/tree.c.
  *
- * Duties of the caller:
+ * TABLES
+ * Chances are in billionths: CUE_BILLION is chance 1. A table has 1 to 64 faults and 0 to 128 ways, both numbered from
+ * 0. The weight of a fault is its chance; faults are independent. Way i is two words: bit f of present[i] says that it
+ * names fault f present, bit f of absent[i] that it names it absent. A way happens if all that it names is so; an
+ * empty way, both words 0, always happens. An interval [low, high] encloses the chance that some way of the table
+ * happens; of a table without ways it is 0, 0.
+ *
+ * TREES
+ * A tree belongs to one table. Each refinement turns a leaf into an inner node with two leaves, and may narrow the
+ * interval at the root:
+ *   by independence   if the leaf's ways fall into groups that share no fault: the left child has the group of the
+ *                     lowest numbered way, the right child all other ways;
+ *   by a fault        that its ways name: the left child fixes it present, the right child absent.
+ * At every node a way that names all faults of another way that remains there, in the same sense, says nothing new and
+ * is left out; of equal ways the lowest numbered stays. Children take over only what stays. A leaf is open, and can be
+ * refined, if two or more ways stay, none of them empty, and its low is below its high. A tree has at most 255
+ * refinements, so at most 511 nodes. A place is the path from the root to a node, one byte for each step: 0 left, 1
+ * right, at most 64 steps.
+ *
+ * RECORDS
+ * Record 0 holds the root, records 2k - 1 and 2k the left and the right child of the k-th refinement that was made; so
+ * `used` is 1 + 2 * refinements, and all records behind are blank, all zero. The record of an inner node keeps the
+ * ways, the fixed faults and the own interval of the leaf that it was; low and high are the overlap of that interval
+ * with what the children combine to, and live is 0. Refusal 16 accepts this order and these figures alone: read
+ * records, do not write them. A tree has no pointers; it may be copied, stored and lent again, with its table.
+ *
+ * SHEETS
+ * A sheet has several cues over the same faults. Its bytes, every number little-endian, nothing in between:
+ *   head      12 bytes         faults (2), cues (2), allowance (4), budget (2), zero (2)
+ *   contents   8 for a cue     cue number (2), ways (2), where its body starts, from the start of the sheet (4)
+ *   weights    4 for a fault   its weight
+ *   bodies    16 for a way     present word (8), absent word (8); the bodies in the order of the contents
+ * There are 1 to 24 cues, with numbers from 1 and rising, of 0 to 128 ways each. The length in bytes is
+ * 12 + 8 a cue + 4 a fault + 16 a way, at most CUE_SHEET. From a sheet to a tree: cue_sheet_check for allowance and
+ * budget, cue_sheet_table for a CueTable t, cue_open(&tree, t.weights, t.faults, t.present, t.ways, t.absent, t.ways).
+ *
+ * THE REPORT
+ * The report on a sheet is text: a line of headings, then a line for each cue in the order of the contents.
+ *   cue low high steps verdict
+ *   7 300000000 350000000 1 spent
+ * The fields are the cue's number, the interval at the root after one run on the newly opened table with the head's
+ * allowance and budget, the refinements that the run made, and why it stopped: met, done, full or spent (cue_run).
+ * Numbers are decimal, one blank stands between fields, a line feed after each line. A sheet that is refused has one
+ * line, such as `refused 7`.
+ *
+ * DUTIES OF THE CALLER
  *  - a pointer with a count points to that many elements of its type, aligned; where the count is 0 nothing is read or
  *    written through it, and it may be NULL;
  *  - a pointer to a tree is not NULL, is aligned and points to a whole CueTree; its bytes may be anything, but are set
  *    (cue_open reads none of them);
  *  - during the call nobody else uses what is not const, and it overlaps no other argument;
- *  - CUE_STACK bytes of stack are left.
+ *  - CUE_STACK bytes of stack are left. The stack is no part of what is proved; it is tested: each call on its largest
+ *    input, in a thread with just so much.
  * No call keeps a pointer, allocates, prints or locks. Calls at the same time on different trees and spaces are fine.
  *
- * Refusals. An answer's number is 0 if the call is accepted, else that of the first of these that applies, tried in this
- * order, of those that concern the call:
- *   1 the sheet is shorter than 12 bytes
- *   2 the sheet's faults are 0 or above 64, or its cues are 0 or above 24
- *   3 the last two bytes of the head are not zero
- *   4 the sheet is shorter than head, contents and weights together
- *   5 a cue number is 0 or not above the one before it
- *   6 a cue counts more than 128 ways
- *   7 a body's place is not where the weights, or the body before it, end
- *   8 the sheet's length is not the end of its last body
- *   9 a table has 0 or more than 64 weights
- *  10 a weight is above CUE_BILLION
- *  11 a table has more than 128 ways, or present and absent words in different numbers
- *  12 a way names a fault at or above the number of faults
- *  13 a way names one fault both present and absent
- *  14 the allowance is above CUE_BILLION
- *  15 the budget is above 255
- *  16 the tree is not one that this table and some series of accepted refinements gives
- *  17 the place named is longer than 64 or has no leaf
- *  18 the leaf there is closed
- *  19 the tree has 255 refinements
- *  20 the fault named does not occur in the ways that stay at the leaf, or independence is asked where they hang together
- *  21 the writer's lists do not agree in length with each other or with the ways its cues count
- *  22 the space lent for writing is shorter than the output
- * A refused call answers low 0, high CUE_BILLION, count 0, verdict 0, and leaves tree and space as they were. Only a
- * refused cue_open writes its tree: it is left without nodes, and 16 refuses it later.
+ * REFUSALS
+ * An answer's number is 0 if the call is accepted, else the lowest number that applies; cue_refusal has words for it.
+ * The numbers that concern a call stand with it below. They are tried in ascending order, each over the whole input
+ * before the next. What a rule judges is judged as it is given, in all its bits. If the call is refused,
+ *  - a CueAnswer has the number, low 0, high CUE_BILLION, count 0 and verdict 0;
+ *  - a CueSheet, CueEntry or CueTable has the number and zeros: it has no interval;
+ *  - tree and space are as they were. Only a refused cue_open writes its tree: it has no nodes then, used 0 and every
+ *    record blank, and 16 refuses it later.
  */
 #ifndef CUE_RISK_H
 #define CUE_RISK_H
@@ -51,17 +75,16 @@
 #include <stddef.h>
 #include <stdint.h>
 
-#ifdef __cplusplus
-extern "C" {
-#endif
-
+#define CUE_VERSION 1u          /* of this header */
 #define CUE_BILLION 1000000000u /* chance 1 */
+#define CUE_FAULTS 64           /* the most faults */
+#define CUE_WAYS 128            /* the most ways of a table */
 #define CUE_NODES 511           /* records in a tree */
-#define CUE_TEXT 939            /* a space that cue_sheet_report never refuses */
+#define CUE_TEXT 939            /* no report is longer */
 #define CUE_SHEET 49612         /* the longest sheet */
-#define CUE_STACK 262144        /* the stack that a call may need; the most seen is 67 KiB, in cue_sheet_report */
+#define CUE_STACK 262144        /* bytes of stack to leave for a call */
 
-/* CueAnswer.verdict: why a run stopped, the first of these that applied. Every other call has none. */
+/* CueAnswer.verdict: why a run stopped. Every other call has none. */
 enum { CUE_NONE = 0, CUE_MET = 1, CUE_DONE = 2, CUE_FULL = 3, CUE_SPENT = 4 };
 
 /* The argument `what` of cue_refine. */
@@ -73,7 +96,7 @@ enum { CUE_BLANK = 0, CUE_LEAF = 1, CUE_INDEPENDENT_OR = 2, CUE_SHANNON = 3 };
 /* The answer of a call on a tree, of the writer and of the report. */
 typedef struct CueAnswer {
     uint64_t number;  /* 0 accepted, else the refusal */
-    uint64_t low;     /* the interval then at the root; for writer and report nought to the full billion */
+    uint64_t low;     /* the interval then at the root; for writer and report 0 and CUE_BILLION */
     uint64_t high;
     uint64_t count;   /* the refinements made; for writer and report the bytes written */
     uint64_t verdict; /* of an accepted run, else 0 */
@@ -81,72 +104,134 @@ typedef struct CueAnswer {
 
 /* One node of a tree. */
 typedef struct CueNode {
-    uint64_t kind;    /* CUE_BLANK, CUE_LEAF, CUE_INDEPENDENT_OR, CUE_SHANNON */
+    uint64_t kind;    /* CUE_LEAF; CUE_INDEPENDENT_OR, refined by independence; CUE_SHANNON, by a fault; CUE_BLANK */
     uint64_t fault;   /* of a CUE_SHANNON node, else 0 */
     uint64_t live;    /* 1 for an open leaf, else 0 */
     size_t parent;    /* record of the parent; 0 for the root */
     size_t left;      /* record of the left child, the right one follows it; 0 for a leaf */
     uint64_t waysa;   /* bit i: way i stays, 0 to 63 */
     uint64_t waysb;   /* bit i: way 64 + i stays */
-    uint64_t present; /* faults fixed present on the way here */
-    uint64_t absent;  /* faults fixed absent */
+    uint64_t present; /* bit f: fault f is fixed present on the path here */
+    uint64_t absent;  /* bit f: fixed absent */
     uint64_t low;     /* the node's interval */
     uint64_t high;
     uint64_t ownlow;  /* its interval as a leaf */
     uint64_t ownhigh;
 } CueNode;
 
-/* A tree: the root is nodes[0], `used` records are in use and the others are blank (all zero). */
+/* A tree: the root is nodes[0], `used` records are in use. */
 typedef struct CueTree {
     CueNode nodes[CUE_NODES];
     size_t used;
 } CueTree;
 
-/* found 1: the record at `at`; else 0, 0 */
+/* What cue_widest finds. */
 typedef struct CueSpot {
-    uint64_t found;
-    size_t at;
+    uint64_t found; /* 1, or 0 if no record counts */
+    size_t at;      /* the record; 0 if none */
 } CueSpot;
 
-/* The head of an accepted sheet, number 0; refused: the number and zeros. */
+/* The head of a sheet. */
 typedef struct CueSheet {
-    uint64_t number, faults, cues, allowance, budget;
+    uint64_t number; /* 0, or the refusal of the sheet */
+    uint64_t faults;
+    uint64_t cues;
+    uint64_t allowance;
+    uint64_t budget;
 } CueSheet;
 
-/* A cue of a sheet: `cue` is its number, `ways` how many it has, `start` the place of its body; number and past are 0.
-   Past the last cue: past 1, the rest 0. Refused: the number, the rest 0. */
+/* The cue at a position of a sheet's contents. Past the last cue: past 1, the rest 0. */
 typedef struct CueEntry {
-    uint64_t number, past, cue, ways, start;
+    uint64_t number; /* 0, or the refusal of the sheet */
+    uint64_t past;   /* 1 past the last cue, else 0 */
+    uint64_t cue;    /* the cue's number */
+    uint64_t ways;   /* how many it has */
+    uint64_t start;  /* where its body starts */
 } CueEntry;
+
+/* The table of the cue at a position of a sheet's contents. Past the last cue: past 1, the rest 0. */
+typedef struct CueTable {
+    uint64_t number;              /* 0, or the refusal of the sheet */
+    uint64_t past;                /* 1 past the last cue, else 0 */
+    uint64_t faults;              /* how many weights */
+    uint64_t ways;                /* how many words of either kind */
+    uint32_t weights[CUE_FAULTS]; /* zeros behind the last, in all three */
+    uint64_t present[CUE_WAYS];
+    uint64_t absent[CUE_WAYS];
+} CueTable;
+
+/* Words for a refusal's number. */
+static inline const char *cue_refusal(uint64_t number)
+{
+    static const char *const words[] = {
+        /*  0 */ "accepted",
+        /*  1 */ "the sheet is shorter than 12 bytes",
+        /*  2 */ "the sheet's faults are 0 or above 64, or its cues are 0 or above 24",
+        /*  3 */ "the last two bytes of the head are not zero",
+        /*  4 */ "the sheet is shorter than head, contents and weights together",
+        /*  5 */ "a cue number is 0 or not above the one before it",
+        /*  6 */ "a cue counts more than 128 ways",
+        /*  7 */ "a body's place is not where the weights, or the body before it, end",
+        /*  8 */ "the sheet's length is not the end of its last body",
+        /*  9 */ "a table has 0 or more than 64 weights",
+        /* 10 */ "a weight is above one billion",
+        /* 11 */ "a table has more than 128 ways, or present and absent words in different numbers",
+        /* 12 */ "a way names a fault at or above the number of faults",
+        /* 13 */ "a way names one fault both present and absent",
+        /* 14 */ "the allowance is above one billion",
+        /* 15 */ "the budget is above 255",
+        /* 16 */ "the tree is not one that this table and some series of accepted refinements gives",
+        /* 17 */ "the place named is longer than 64 or has no leaf",
+        /* 18 */ "the leaf there is closed",
+        /* 19 */ "the tree has 255 refinements",
+        /* 20 */ "the fault named does not occur in the leaf, or independence is asked where its ways hang together",
+        /* 21 */ "the writer's lists do not agree in length with each other or with the ways its cues count",
+        /* 22 */ "the space lent for writing is shorter than the output",
+    };
+    return number < sizeof words / sizeof words[0] ? words[number] : "unknown number";
+}
+
+#ifdef __cplusplus
+extern "C" {
+#endif
+
+/* The archive's version: CUE_VERSION, or its structs and functions are not those of this header. */
+uint64_t cue_version(void);
 
 /* ---- trees */
 
-/* Opens a table: the tree becomes its root leaf alone, count 0. Refusals 9 to 13; then the tree has no nodes. */
+/* Opens a table: the tree becomes its root leaf alone, count 0. Refusals 9 to 13. */
 CueAnswer cue_open(CueTree *tree,
                    const uint32_t *weights, size_t n_weights,
                    const uint64_t *present, size_t n_present,
                    const uint64_t *absent, size_t n_absent);
 
-/* Refines the leaf at a place, count 1. The place is one byte for each step from the root, 0 left, 1 right. `what` is
-   CUE_INDEPENDENCE (`fault` is then not looked at) or CUE_FAULT; any other value asks for a fault that no table has, so
-   that 20 refuses it where nothing before does. Refusals 9 to 13, 16 to 20. */
+/* Refines the leaf at a place, count 1. `what` is CUE_FAULT, or CUE_INDEPENDENCE, where `fault` is not looked at.
+   Refusals 9 to 13, 16 to 20. A step other than 0 and 1 leads to no leaf: 17. A fault occurs in a leaf if a way that
+   stays there names it, so that one of 64 or more never does: 20. Any other `what` asks for such a fault. */
 CueAnswer cue_refine(CueTree *tree,
                      const uint32_t *weights, size_t n_weights,
                      const uint64_t *present, size_t n_present,
                      const uint64_t *absent, size_t n_absent,
                      const uint8_t *place, size_t n_place,
-                     uint8_t what, uint32_t fault);
+                     uint64_t what, uint64_t fault);
 
-/* Refines the widest open leaf again and again, until high - low at the root is at most the allowance (met), no
-   leaf is open (done), the tree has 255 refinements (full) or `budget` were made (spent). Refusals 9 to 16. */
+/* Refines again and again, count the refinements made. It stops with the first of these that applies:
+     CUE_MET    high - low at the root is at most the allowance (0 to CUE_BILLION)
+     CUE_DONE   no leaf is open
+     CUE_FULL   the tree has 255 refinements
+     CUE_SPENT  it has made `budget` refinements (0 to 255)
+   Else it takes the widest open leaf, of equally wide ones the one at the leftmost place, and refines it by
+   independence if its ways fall apart, else by the fault that most of them name, of several the lowest numbered.
+   Refusals 9 to 16. */
 CueAnswer cue_run(CueTree *tree,
                   const uint32_t *weights, size_t n_weights,
                   const uint64_t *present, size_t n_present,
                   const uint64_t *absent, size_t n_absent,
-                  uint32_t allowance, uint16_t budget);
+                  uint64_t allowance, uint64_t budget);
 
-/* The first of the widest open leaves in any records, whatever they hold: only those of kind CUE_LEAF with live 1 and low
-   below high count. Never refused. */
+/* The widest open leaf in any records, whatever they hold: those of kind CUE_LEAF, live 1 and low below high count. Of
+   equally wide ones it is the first by record, where a run takes the leftmost by place. Never refused. */
 CueSpot cue_widest(const CueNode *records, size_t n_records);
 
 /* ---- sheets */
@@ -154,21 +239,29 @@ CueSpot cue_widest(const CueNode *records, size_t n_records);
 /* Reads a whole sheet. Refusals 1 to 8, 10, 12 to 15. */
 CueSheet cue_sheet_check(const uint8_t *sheet, size_t n_sheet);
 
-/* The cue at a position of the contents, from 0. A sheet that cue_sheet_check refuses is refused at every position. */
+/* The cue at a position of the contents, from 0; any position may be asked for. A sheet that cue_sheet_check refuses
+   is refused at every position, by the same number. */
 CueEntry cue_sheet_cue(const uint8_t *sheet, size_t n_sheet, size_t position);
 
+/* The table of that cue, likewise. */
+CueTable cue_sheet_table(const uint8_t *sheet, size_t n_sheet, size_t position);
+
 /* Writes a sheet to the front of the space, count its bytes; the rest of the space stays. Cue i has the number
-   numbers[i] and the next counts[i] of the words. Refusals 2, 5, 6, 10, 12 to 15, 21, 22. */
+   numbers[i] and the next counts[i] of the words. Refusals 2, 5, 6, 10, 12 to 15, 21, 22. If lists differ in length,
+     2 looks at n_weights, n_numbers and n_counts, each by itself; 5, 6 and 10 look at their own list, to its end;
+     12 and 13 look at as many ways as the longer list of words has, also beyond what the cues count, and a word that
+     the shorter one lacks is 0;
+     21 comes after these: n_numbers is not n_counts, n_present is not n_absent, or not the sum of the counts. */
 CueAnswer cue_sheet_write(const uint32_t *weights, size_t n_weights,
                           const uint16_t *numbers, size_t n_numbers,
                           const uint16_t *counts, size_t n_counts,
                           const uint64_t *present, size_t n_present,
                           const uint64_t *absent, size_t n_absent,
-                          uint32_t allowance, uint16_t budget,
+                          uint64_t allowance, uint64_t budget,
                           uint8_t *space, size_t n_space);
 
-/* Writes the text that the program prints for these bytes to the front of the space, count its bytes; the rest of the
-   space stays. A sheet that cue_sheet_check refuses has a text too, "refused" and the number. Refusal 22. */
+/* Writes the report on a sheet to the front of the space, count its bytes; the rest of the space stays. A sheet that
+   cue_sheet_check refuses has a report too. Refusal 22, never for a space of CUE_TEXT bytes. */
 CueAnswer cue_sheet_report(const uint8_t *sheet, size_t n_sheet,
                            uint8_t *space, size_t n_space);
 
@@ -176,7 +269,7 @@ CueAnswer cue_sheet_report(const uint8_t *sheet, size_t n_sheet,
 }
 #endif
 
-/* The layout that the library was built for: 64-bit x86. */
+/* The layout that the archive was built for. */
 #if defined(__cplusplus)
 #if __cplusplus >= 201103L
 #define CUE_ASSERT(c) static_assert(c, #c)
@@ -189,10 +282,10 @@ CUE_ASSERT(sizeof(size_t) == 8);
 CUE_ASSERT(sizeof(CueAnswer) == 40);
 CUE_ASSERT(sizeof(CueNode) == 104);
 CUE_ASSERT(sizeof(CueTree) == 53152);
-CUE_ASSERT(offsetof(CueTree, used) == 53144);
 CUE_ASSERT(sizeof(CueSpot) == 16);
 CUE_ASSERT(sizeof(CueSheet) == 40);
 CUE_ASSERT(sizeof(CueEntry) == 40);
+CUE_ASSERT(sizeof(CueTable) == 2336);
 #undef CUE_ASSERT
 #endif
 
