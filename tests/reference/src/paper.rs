@@ -111,6 +111,11 @@ pub fn own_interval() -> Table {
     Table::of(&[H; 3], &[&[0], &[!0, !1, 2], &[1]])
 }
 
+/// The same at the high end, where rounding lifts what the children combine to by one.
+pub fn own_high() -> Table {
+    Table::of(&[483_858_245; 3], &[&[0, !1, !2], &[1]])
+}
+
 /// One division for a whole node: one for each product would widen it.
 pub fn one_division() -> Table {
     Table::of(&[1, H], &[&[!0, !1], &[0, 1]])
@@ -148,6 +153,37 @@ pub fn fours() -> Table {
         .collect();
     let ways: Vec<&[i64]> = fours.iter().map(|four| &four[..]).collect();
     Table::of(&[THIRD; 12], &ways)
+}
+
+/// The 255th refinement closes the last open leaf, and the root's ends still differ: a run is done, though the tree is
+/// full. Each of the faults 19 to 33 is a way of its own; 0 to 18 hang together in pairs.
+pub fn done_and_full() -> Table {
+    let apart = (19..34).map(|fault| vec![fault]);
+    let next = (0..18).map(|fault| vec![fault, fault + 1]);
+    let far = [
+        [0, 3],
+        [1, 10],
+        [2, 17],
+        [3, 5],
+        [4, 12],
+        [0, 5],
+        [7, 14],
+        [2, 8],
+        [10, 16],
+        [4, 11],
+        [13, 18],
+        [6, 14],
+        [13, 15],
+        [1, 16],
+        [8, 17],
+        [15, 18],
+    ];
+    let pairs = next.chain(far.iter().map(|pair| pair.to_vec()));
+    let ways: Vec<Vec<i64>> = apart.chain(pairs).collect();
+    let ways: Vec<&[i64]> = ways.iter().map(|way| &way[..]).collect();
+    let mut weights: Vec<u32> = (0..19).map(|i| THIRD + 1_234_567 * i).collect();
+    weights.resize(MOST_FAULTS, 1_234_567);
+    Table::of(&weights, &ways)
 }
 
 // Tables of the largest size
@@ -189,11 +225,14 @@ pub fn easy_to_get_wrong() -> Vec<Table> {
         chain(),
         widest(),
         own_interval(),
+        own_high(),
         one_division(),
         with_empty_way(),
         equal_ways(),
         most_named(),
         ring(),
+        fours(),
+        done_and_full(),
         stairs(),
         singles(),
         every_fault_named(TOP),
@@ -260,7 +299,7 @@ pub fn orders() -> Vec<(u64, Table)> {
 }
 
 /// The paper's whole sheet, 3 faults and 2 cues with an allowance of 10000000, with this budget; the paper's own is 40.
-pub fn whole_sheet(budget: u16) -> Sheet {
+pub fn whole_sheet(budget: u64) -> Sheet {
     Sheet {
         weights: vec![500_000_000, 500_000_000, 200_000_000],
         cues: vec![7, 9],

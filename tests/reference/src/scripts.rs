@@ -11,8 +11,9 @@ use crate::paper::{
 };
 use crate::random::Random;
 use crate::redundant;
+use crate::table::MOST_COUNTED;
 use crate::tree::{open, State};
-use crate::vectors::{make, MOST_COUNTED};
+use crate::vectors::make;
 use crate::{Act, Table, Tree, DONE, FULL, MET, MOST_FAULTS, MOST_WAYS, NONE, S, SPENT};
 
 const SEED: u64 = 2003;

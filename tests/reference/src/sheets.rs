@@ -2,7 +2,7 @@
 //! has them built in. They are made here from lists, and damaged by this module's own list of fields.
 
 use crate::paper::whole_sheet;
-use crate::report::report;
+use crate::report::{enclosing_lines, report};
 use crate::sheet::{encode, Sheet};
 use crate::{LONGEST_SHEET, MOST_CUES, MOST_FAULTS, MOST_WAYS, S};
 
@@ -174,7 +174,11 @@ pub fn longest() -> Sheet {
 /// The expected output: for each sheet its name and a colon on a line, then its report.
 pub fn sheets() -> String {
     let mut text = String::new();
-    let mut add = |name: &str, bytes: &[u8]| text += &format!("{name}:\n{}", report(bytes));
+    let mut add = |name: &str, bytes: &[u8]| {
+        let printed = report(bytes);
+        assert!(enclosing_lines(bytes, &printed).is_ok(), "{name}");
+        text += &format!("{name}:\n{printed}");
+    };
     for case in &ACCEPTED {
         add(case.0, &damaged(case));
     }

@@ -6,6 +6,9 @@ use crate::natural::Natural;
 use crate::{MOST_FAULTS, MOST_WAYS, S};
 use std::collections::HashSet;
 
+/// Up to so many faults an interval is set beside a count over all assignments.
+pub const MOST_COUNTED: usize = 12;
+
 /// Bit i of a present word says that fault i is present, of an absent word that it is absent.
 #[derive(Clone, Debug, Default, PartialEq, Eq)]
 pub struct Table {

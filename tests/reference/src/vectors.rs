@@ -5,12 +5,9 @@
 use crate::paper::{cases, limits, orders};
 use crate::run::run;
 use crate::scripts::{scripts, Call, Damage, Line, Script};
-use crate::table::Count;
+use crate::table::{Count, MOST_COUNTED};
 use crate::tree::{open, refine_by_hand, Entry, State};
 use crate::{Act, Answer, Table, Tree, LONGEST_PLACE};
-
-/// Up to so many faults an interval is set beside a count over all assignments.
-pub const MOST_COUNTED: usize = 12;
 
 /// The test program has room for a place of so many steps.
 const MOST_STEPS: usize = LONGEST_PLACE + 6;

@@ -266,8 +266,11 @@ fn writing() {
     assert_eq!(with_lists(|lists| lists.weights[1] = ABOVE), 10);
     assert_eq!(with_lists(|lists| lists.present[1] = 8), 12);
     assert_eq!(with_lists(|lists| lists.absent[1] = 4), 13);
-    assert_eq!(with_lists(|lists| lists.allowance = ABOVE), 14);
+    assert_eq!(with_lists(|lists| lists.allowance = S + 1), 14);
     assert_eq!(with_lists(|lists| lists.budget = 256), 15);
+    // Within the limits if they were cut to the widths of their fields.
+    assert_eq!(with_lists(|lists| lists.allowance = 1 << 32), 14);
+    assert_eq!(with_lists(|lists| lists.budget = 65_576), 15);
     assert_eq!(with_lists(|lists| lists.cues.push(10)), 21);
     assert_eq!(with_lists(|lists| lists.counts.push(0)), 21);
     assert_eq!(with_lists(|lists| lists.present.push(0)), 21);
