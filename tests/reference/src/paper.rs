@@ -136,13 +136,18 @@ pub fn most_named() -> Table {
     Table::of(&[H; 4], &[pairs, thrice].concat())
 }
 
-/// A table that takes all 255 refinements: 24 faults in a ring, each paired with its near ones.
+/// A table that takes all 255 refinements: 24 faults in a ring, each paired with the next four.
 pub fn ring() -> Table {
-    let pairs: Vec<[i64; 2]> = (0..24)
-        .flat_map(|a| (1..5).map(move |d| [a, (a + d) % 24]))
+    paired(24, 4)
+}
+
+/// So many faults in a ring, each paired with so many that come next.
+fn paired(faults: i64, next: i64) -> Table {
+    let pairs: Vec<[i64; 2]> = (0..faults)
+        .flat_map(|a| (1..=next).map(move |d| [a, (a + d) % faults]))
         .collect();
     let ways: Vec<&[i64]> = pairs.iter().map(|pair| &pair[..]).collect();
-    Table::of(&[THIRD / 3; 24], &ways)
+    Table::of(&vec![THIRD / 3; faults as usize], &ways)
 }
 
 /// Another, with 12 faults, so that it can be counted over all assignments: fours in a ring.
@@ -188,6 +193,11 @@ pub fn done_and_full() -> Table {
 
 // Tables of the largest size
 
+/// It takes all 255 refinements too: 64 faults in a ring, each paired with the next two, which is 128 ways.
+pub fn largest_ring() -> Table {
+    paired(64, 2)
+}
+
 /// Every fault is certain, and way i names the faults from i on, twice over: of 128 ways one stays.
 pub fn stairs() -> Table {
     let all: Vec<i64> = (0..64).collect();
@@ -217,7 +227,7 @@ pub fn every_fault_named(weight: u32) -> Table {
     }
 }
 
-/// All tables above that are none of P1 to P9.
+/// Tables above, none of P1 to P9, that are opened alone too.
 pub fn easy_to_get_wrong() -> Vec<Table> {
     vec![
         one_pass(),
