@@ -1,4 +1,4 @@
-//! Tables written by hand: the paper's cases P1 to P9 with the figures typed from it, tables
+//! Tables written by hand: the rules' cases P1 to P9 with the figures typed from them, tables
 //! that are easy to get wrong, the largest ones, and those at a limit with their numbers.
 
 use crate::sheet::Sheet;
@@ -308,7 +308,7 @@ pub fn orders() -> Vec<(u64, Table)> {
     ]
 }
 
-/// The paper's whole sheet, 3 faults and 2 cues with an allowance of 10000000, with this budget; the paper's own is 40.
+/// The rules' whole sheet, 3 faults and 2 cues with an allowance of 10000000, with this budget; its own is 40.
 pub fn whole_sheet(budget: u64) -> Sheet {
     Sheet {
         weights: vec![500_000_000, 500_000_000, 200_000_000],

@@ -1,6 +1,6 @@
 //! Scripts for the library's test program: a table and the calls on its tree, written by
 //! hand at the edges of the rules, with the answers they must have, and seeded random ones.
-//! The papers' figures by name, damaged trees and lists in several orders have modules of their own.
+//! The figures by name, damaged trees and lists in several orders have modules of their own.
 
 use crate::damages::damages;
 use crate::figures::figures;

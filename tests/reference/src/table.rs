@@ -128,7 +128,7 @@ impl Count {
         }
     }
 
-    /// The paper's E: the sum over all assignments that satisfy at least one way.
+    /// The rules' E: the sum over all assignments that satisfy at least one way.
     pub fn exact_sum(&self, ways: &[Way]) -> Natural {
         // Equal ways satisfy the same assignments; asking each once saves time.
         let different: HashSet<(u64, u64)> =

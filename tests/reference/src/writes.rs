@@ -160,7 +160,7 @@ fn read_back(lists: &Sheet) -> String {
     text
 }
 
-/// The paper's lists with something changed, in ample space.
+/// The rules' lists with something changed, in ample space.
 fn changed(name: &str, change: impl Fn(&mut Sheet)) -> Case {
     let mut lists = whole_sheet(40);
     change(&mut lists);

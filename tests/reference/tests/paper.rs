@@ -1,4 +1,4 @@
-//! The figures of the paper: cases P1 to P9, the figures that are easy to get wrong,
+//! The figures of the rules: cases P1 to P9, the figures that are easy to get wrong,
 //! and the whole sheet for the program.
 
 use reference::leaf::Interval;

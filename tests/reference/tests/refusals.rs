@@ -14,7 +14,7 @@ fn sheet() -> Sheet {
     whole_sheet(40)
 }
 
-/// The number for the paper's sheet with some bytes put in.
+/// The number for the rules' sheet with some bytes put in.
 fn with_bytes(changes: &[(usize, u8)]) -> u64 {
     let mut bytes = encode(&sheet());
     for &(at, byte) in changes {
@@ -23,7 +23,7 @@ fn with_bytes(changes: &[(usize, u8)]) -> u64 {
     sheet_number(&bytes)
 }
 
-/// The number for the paper's lists with something changed, in ample space.
+/// The number for the rules' lists with something changed, in ample space.
 fn with_lists(change: impl Fn(&mut Sheet)) -> u64 {
     let mut lists = sheet();
     change(&mut lists);

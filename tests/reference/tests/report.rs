@@ -1,4 +1,4 @@
-//! The program's stored sheet is the paper's whole sheet, byte by byte, the sample of that name is
+//! The program's stored sheet is the rules' whole sheet, byte by byte, the sample of that name is
 //! the same, and this implementation's text for it is the program's stored output; and the text in lent space.
 
 use reference::files::stored;
@@ -8,7 +8,7 @@ use reference::sheet::encode;
 use reference::Answer;
 
 #[test]
-fn the_stored_sheet_is_the_papers() {
+fn the_stored_sheet_is_that_of_the_rules() {
     let bytes = stored("crates/cue_risk/stdin");
     assert_eq!(bytes.len(), 72);
     assert_eq!(bytes, encode(&whole_sheet(40)));
