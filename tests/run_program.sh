@@ -1,9 +1,10 @@
 #!/bin/bash
 # Compares the built program with the reference, byte for byte, in a stack of 2 MiB: seeded sheets, sound and damaged ones, every
 # beginning of three sheets, and inputs of 0 to 60,000 bytes that are no sheets. Usage: tests/run_program.sh [COUNT]; COUNT is the
-# number of seeded sheets. The program is target/bin/cue_risk; an input that fails is left in target/failed.sheet.
+# number of seeded sheets. The program is target/bin/cue_risk, built first; an input that fails is left in target/failed.sheet.
 set -e
 cd "$(dirname "$0")/.."
+rt check cue_risk
 program=target/bin/cue_risk
 reference="--quiet --release --offline --manifest-path tests/reference/Cargo.toml --bin run_program"
 cargo build $reference

@@ -7,6 +7,9 @@ use std::ptr;
 
 pub const RECORDS: usize = 511;
 
+/// The stack that a call may need.
+pub const STACK: usize = 262_144;
+
 /// A record of a tree; its fields have one width, so that they can be told by number too.
 #[repr(C)]
 #[derive(Clone, Copy, Debug, Default, PartialEq, Eq)]
@@ -147,15 +150,17 @@ pub fn open(tree: &mut Tree, table: &Table) -> Answer {
 }
 
 #[rustfmt::skip]
-pub fn refine(tree: &mut Tree, table: &Table, place: &[u8], what: u8, fault: u32) -> Answer {
+pub fn refine(tree: &mut Tree, table: &Table, place: &[u8], what: u64, fault: u64) -> Answer {
     let Table { weights: w, present: p, absent: a } = table;
+    let (what, fault) = (what.min(u8::MAX.into()) as u8, fault.min(u32::MAX.into()) as u32);
     unsafe {
         cue_refine(tree, at(w), w.len(), at(p), p.len(), at(a), a.len(), at(place), place.len(), what, fault)
     }
 }
 
-pub fn run(tree: &mut Tree, table: &Table, allowance: u32, budget: u16) -> Answer {
+pub fn run(tree: &mut Tree, table: &Table, allowance: u64, budget: u64) -> Answer {
     let Table { weights: w, present: p, absent: a } = table;
+    let (allowance, budget) = (allowance.min(u32::MAX.into()) as u32, budget.min(u16::MAX.into()) as u16);
     unsafe { cue_run(tree, at(w), w.len(), at(p), p.len(), at(a), a.len(), allowance, budget) }
 }
 
@@ -175,9 +180,10 @@ pub fn cue(sheet: &[u8], position: usize) -> Entry {
 pub fn write(lists: &Sheet, space: &mut [u8]) -> Answer {
     let Sheet { weights: w, cues: n, counts: c, present: p, absent: a, allowance, budget } = lists;
     let room = space.len();
+    let (allowance, budget) = ((*allowance).min(u32::MAX.into()) as u32, (*budget).min(u16::MAX.into()) as u16);
     unsafe {
         cue_sheet_write(at(w), w.len(), at(n), n.len(), at(c), c.len(), at(p), p.len(), at(a), a.len(),
-            *allowance, *budget, at_mut(space), room)
+            allowance, budget, at_mut(space), room)
     }
 }
 

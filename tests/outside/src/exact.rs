@@ -3,8 +3,7 @@
 
 use reference::leaf::{Interval, Way};
 use reference::natural::Natural;
-use reference::table::Count;
-use reference::vectors::MOST_COUNTED;
+use reference::table::{Count, MOST_COUNTED};
 use reference::Table;
 use std::collections::{HashMap, HashSet};
 

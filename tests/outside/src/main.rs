@@ -5,16 +5,18 @@ mod bench;
 mod calls;
 mod exact;
 mod families;
+mod floor;
 mod lent;
 mod records;
 mod session;
+mod stack;
 mod step;
 mod tally;
 
 use bench::Bench;
-use families::FAMILIES;
+use families::{Family, FAMILIES};
 use reference::random::Random;
-use session::Session;
+use session::{Mismatch, Session};
 use std::path::PathBuf;
 use std::process::ExitCode;
 use std::time::Instant;
@@ -56,35 +58,40 @@ fn wanted() -> Result<Wanted, String> {
 }
 
 fn known(family: String) -> Result<String, String> {
-    let names = FAMILIES.map(|(name, _)| name);
+    let names = FAMILIES.map(|family| family.name);
     if names.contains(&&family[..]) {
         return Ok(family);
     }
     Err(format!("the families are {}", names.join(", ")))
 }
 
-/// A family's tally, and the words on its first disagreement.
+/// A family's tally, and the words on its first disagreement, or on too few comparisons.
 fn play_family(wanted: &Wanted, number: usize) -> (Tally, Option<String>) {
-    let (family, play) = FAMILIES[number];
+    let Family { name, play, least } = FAMILIES[number];
     // A family's own draws, whichever others are played.
     let random = Random::new(wanted.seed.wrapping_mul(1000).wrapping_add(number as u64));
     let (times, folder, trace) = (wanted.times, &wanted.folder, wanted.trace);
-    let mut bench = Bench { family, random, times, folder, trace, tally: Tally::default() };
-    let said = play(&mut bench).err().map(|mismatch| mismatch.0);
+    let mut bench = Bench { family: name, random, times, folder, trace, tally: Tally::default() };
+    let said = match play(&mut bench) {
+        Err(Mismatch(said)) => Some(said),
+        Ok(()) if bench.tally.compared < least => Some(format!("{name} must make {least} comparisons at least")),
+        Ok(()) => None,
+    };
     (bench.tally, said)
 }
 
-/// Plays the families, all at the same time, each on a stack of its own; true if none found a disagreement.
+/// Plays the families, all at the same time, each on a stack of its own; true if none found a disagreement and all that
+/// has to be met was.
 fn play(wanted: &Wanted) -> bool {
     println!("seed {}", wanted.seed);
     let began = Instant::now();
     let (mut total, mut failed) = (Tally::default(), Vec::new());
-    let is_wanted = |number: &usize| wanted.family.as_ref().is_none_or(|family| family == FAMILIES[*number].0);
+    let is_wanted = |number: &usize| wanted.family.as_ref().is_none_or(|family| family == FAMILIES[*number].name);
     thread::scope(|scope| {
         let start = |number| {
             let thread = thread::Builder::new().stack_size(STACK);
             let thread = thread.spawn_scoped(scope, move || play_family(wanted, number));
-            (FAMILIES[number].0, thread.expect("a thread for each family"))
+            (FAMILIES[number].name, thread.expect("a thread for each family"))
         };
         let playing: Vec<_> = (0..FAMILIES.len()).filter(is_wanted).map(start).collect();
         for (family, thread) in playing {
@@ -100,6 +107,10 @@ fn play(wanted: &Wanted) -> bool {
     });
     println!("{:>10} comparisons in all ({:.1} s)", total.compared, began.elapsed().as_secs_f64());
     println!("{}", total.answers());
+    // One family alone need not meet everything.
+    if wanted.family.is_none() && !floor::is_met(&total) {
+        failed.push("what has to be met");
+    }
     if !failed.is_empty() {
         println!("FAILED: {}", failed.join(", "));
     }

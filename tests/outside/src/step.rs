@@ -1,6 +1,6 @@
 //! The steps of a case, and a case as text, a step to a line: what a disagreement is written as and `--replay` reads.
 
-use crate::calls::{Node, FIELDS};
+use crate::calls::{Node, Tree, FIELDS};
 use reference::sheet::Sheet;
 use reference::Table;
 use std::fmt::{self, Display, Formatter};
@@ -17,22 +17,28 @@ pub enum Step {
     Copy,
     /// A field of a record, or how many are in use, is overwritten.
     Poke(Field, u64),
-    /// The bytes of a sheet.
+    /// The whole tree is overwritten.
+    Lend(Box<Tree>),
+    /// The bytes of a sheet; its reader starts at the first cue.
     Sheet(Vec<u8>),
+    /// From now on each call of the library has no more stack than the header asks for.
+    Stack,
 
     // Calls, made on both sides.
     Open,
     /// Place, what to do and the fault.
-    Refine(Vec<u8>, u8, u32),
+    Refine(Vec<u8>, u64, u64),
     /// Allowance and budget.
-    Run(u32, u16),
+    Run(u64, u64),
     /// The search of the first so many records of the tree.
     Widest(usize),
-    /// The search of these records.
-    Records(Vec<Node>),
+    /// The search of so many blank records, and these behind them.
+    Records(usize, Vec<Node>),
     Check,
-    /// The reader's call at a position.
+    /// The cue at a position.
     Cue(usize),
+    /// The reader's next call.
+    Next,
     /// The report into a space of this length.
     Report(usize),
     /// Lists for the writer, and the length of the space.
@@ -70,17 +76,17 @@ impl Display for Step {
             Step::Poke(Field::Of { record, number }, value) => {
                 write!(f, "poke {record} {number} {value}")
             }
+            Step::Lend(tree) => write!(f, "lend {} {}", tree.used, fields(without_blank_end(tree))),
             Step::Sheet(bytes) => write!(f, "sheet {}", hex(bytes)),
+            Step::Stack => write!(f, "stack"),
             Step::Open => write!(f, "open"),
             Step::Refine(place, what, fault) => write!(f, "refine {} {what} {fault}", list(place)),
             Step::Run(allowance, budget) => write!(f, "run {allowance} {budget}"),
             Step::Widest(count) => write!(f, "widest {count}"),
-            Step::Records(records) => {
-                let fields: Vec<u64> = records.iter().flat_map(Node::fields).collect();
-                write!(f, "records {}", list(&fields))
-            }
+            Step::Records(blank, records) => write!(f, "records {blank} {}", fields(records)),
             Step::Check => write!(f, "check"),
             Step::Cue(position) => write!(f, "cue {position}"),
+            Step::Next => write!(f, "next"),
             Step::Report(space) => write!(f, "report {space}"),
             Step::Write(lists, space) => {
                 let Sheet { weights, cues, counts, present, absent, allowance, budget } = lists;
@@ -107,11 +113,23 @@ fn list<T: Display>(numbers: &[T]) -> String {
     numbers.iter().map(T::to_string).collect::<Vec<_>>().join(",")
 }
 
+/// The fields of records, one after the other.
+fn fields(records: &[Node]) -> String {
+    list(&records.iter().flat_map(Node::fields).collect::<Vec<u64>>())
+}
+
+/// The records of a tree without the blank ones at its end.
+fn without_blank_end(tree: &Tree) -> &[Node] {
+    let last = tree.nodes.iter().rposition(|node| *node != Node::default());
+    &tree.nodes[..last.map_or(0, |last| last + 1)]
+}
+
 fn hex(bytes: &[u8]) -> String {
     if bytes.is_empty() {
         return "-".into();
     }
-    bytes.iter().map(|byte| format!("{byte:02x}")).collect()
+    let digit = |half: u8| char::from_digit(half.into(), 16).unwrap_or('-');
+    bytes.iter().flat_map(|byte| [digit(byte >> 4), digit(byte & 15)]).collect()
 }
 
 /// The steps of a case's text; lines that begin with # say nothing.
@@ -131,14 +149,17 @@ fn step(line: &str) -> Option<Step> {
             let field = Field::Of { record: words.number()?, number: words.number()? };
             Step::Poke(field, words.number()?)
         }
+        "lend" => Step::Lend(words.tree()?),
         "sheet" => Step::Sheet(words.bytes()?),
+        "stack" => Step::Stack,
         "open" => Step::Open,
         "refine" => Step::Refine(words.list()?, words.number()?, words.number()?),
         "run" => Step::Run(words.number()?, words.number()?),
         "widest" => Step::Widest(words.number()?),
-        "records" => Step::Records(words.records()?),
+        "records" => Step::Records(words.number()?, words.records()?),
         "check" => Step::Check,
         "cue" => Step::Cue(words.number()?),
+        "next" => Step::Next,
         "report" => Step::Report(words.number()?),
         "write" => {
             let lists = Sheet {
@@ -201,5 +222,13 @@ impl<'a> Words<'a> {
         let fields: Vec<u64> = self.list()?;
         let record = |fields: &[u64]| Some(Node::of_fields(fields.try_into().ok()?));
         fields.chunks(FIELDS).map(record).collect()
+    }
+
+    fn tree(&mut self) -> Option<Box<Tree>> {
+        let mut tree = Box::<Tree>::default();
+        tree.used = self.number()?;
+        let records = self.records()?;
+        tree.nodes.get_mut(..records.len())?.copy_from_slice(&records);
+        Some(tree)
     }
 }

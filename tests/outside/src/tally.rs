@@ -1,47 +1,76 @@
-//! How many comparisons were made, and how often the library gave each number and each verdict.
+//! How many comparisons were made, and how often each call of the library gave each number and each verdict.
 
 use std::collections::BTreeMap;
+
+/// The functions of the library.
+#[derive(Clone, Copy, Debug, PartialEq, Eq, PartialOrd, Ord)]
+pub enum Call {
+    Open,
+    Refine,
+    Run,
+    Widest,
+    Check,
+    Cue,
+    Write,
+    Report,
+}
+
+impl Call {
+    pub fn name(self) -> &'static str {
+        match self {
+            Call::Open => "cue_open",
+            Call::Refine => "cue_refine",
+            Call::Run => "cue_run",
+            Call::Widest => "cue_widest",
+            Call::Check => "cue_sheet_check",
+            Call::Cue => "cue_sheet_cue",
+            Call::Write => "cue_sheet_write",
+            Call::Report => "cue_sheet_report",
+        }
+    }
+}
 
 #[derive(Clone, Default)]
 pub struct Tally {
     pub compared: u64,
-    numbers: Counts,
-    verdicts: Counts,
-}
-
-#[derive(Clone, Default)]
-struct Counts(BTreeMap<u64, u64>);
-
-impl Counts {
-    fn add(&mut self, what: u64, times: u64) {
-        *self.0.entry(what).or_default() += times;
-    }
-
-    fn add_all(&mut self, other: &Counts) {
-        other.0.iter().for_each(|(&what, &times)| self.add(what, times));
-    }
-
-    fn line(&self) -> String {
-        let each = self.0.iter().map(|(what, times)| format!("{what}: {times}"));
-        each.collect::<Vec<_>>().join(", ")
-    }
+    numbers: BTreeMap<(Call, u64), u64>,
+    verdicts: BTreeMap<u64, u64>,
 }
 
 impl Tally {
-    pub fn answered(&mut self, number: u64, verdict: u64) {
-        self.numbers.add(number, 1);
-        self.verdicts.add(verdict, 1);
+    pub fn answered(&mut self, call: Call, number: u64, verdict: u64) {
+        *self.numbers.entry((call, number)).or_default() += 1;
+        *self.verdicts.entry(verdict).or_default() += 1;
     }
 
     pub fn add(&mut self, other: &Tally) {
         self.compared += other.compared;
-        self.numbers.add_all(&other.numbers);
-        self.verdicts.add_all(&other.verdicts);
+        other.numbers.iter().for_each(|(&met, times)| *self.numbers.entry(met).or_default() += times);
+        other.verdicts.iter().for_each(|(&met, times)| *self.verdicts.entry(met).or_default() += times);
     }
 
-    /// The answers told by number and by verdict.
+    /// How often a call gave a number.
+    pub fn met(&self, call: Call, number: u64) -> u64 {
+        self.numbers.get(&(call, number)).copied().unwrap_or(0)
+    }
+
+    /// How often a verdict was given.
+    pub fn met_verdict(&self, verdict: u64) -> u64 {
+        self.verdicts.get(&verdict).copied().unwrap_or(0)
+    }
+
+    /// The answers by call and number, and by verdict.
     pub fn answers(&self) -> String {
-        let (numbers, verdicts) = (self.numbers.line(), self.verdicts.line());
-        format!("answers by number: {numbers}\nanswers by verdict: {verdicts}")
+        let mut text = String::from("answers");
+        let mut last = None;
+        for (&(call, number), times) in &self.numbers {
+            if last.replace(call) != Some(call) {
+                text += &format!("\n  {}", call.name());
+            }
+            text += &format!("  {number}: {times}");
+        }
+        text += "\n  verdicts";
+        self.verdicts.iter().for_each(|(verdict, times)| text += &format!("  {verdict}: {times}"));
+        text
     }
 }

@@ -2,8 +2,8 @@
 //! root leaf's interval, then for each call number, low, high, count and verdict.
 
 use crate::paper::{
-    chain, equal_ways, most_named, one_division, one_pass, own_interval, p3, p4, p6, p7, p8,
-    skipped, widest, with_empty_way, H,
+    chain, done_and_full, equal_ways, most_named, one_division, one_pass, own_high, own_interval,
+    p3, p4, p6, p7, p8, skipped, widest, with_empty_way, H,
 };
 use crate::redundant;
 use crate::scripts::{lined, Call, Line, Script};
@@ -40,6 +40,8 @@ fn roots_and_widths() -> Vec<Figures> {
     let half = 500_000_000;
     let end = |low, high, count, verdict| run(0, 255, [0, low, high, count, verdict]);
     let own = run(0, 1, [0, q3, 875_000_000, 1, SPENT]);
+    let own_high_end = 612_759_200;
+    let fault_0 = [0, 378_640_398, own_high_end, 1, NONE];
     let narrow = run(50_000_000, 255, [0, 156_250_000, 203_125_000, 2, MET]);
     let closed = by_hand(&[], Act::Fault(0), [18, 0, S, 0, NONE]);
     let nothing = Table::of(&[H], &[]);
@@ -73,6 +75,12 @@ fn roots_and_widths() -> Vec<Figures> {
             own_interval(),
             (q3, S),
             vec![own],
+        ),
+        (
+            "overlap with the own interval at the high end",
+            own_high(),
+            (128_900_954, own_high_end),
+            vec![by_hand(&[], Act::Fault(0), fault_0)],
         ),
         (
             "one division for a node",
@@ -140,6 +148,16 @@ fn stops() -> Vec<Figures> {
             p4(),
             of_p4,
             vec![run(10_000_000, 40, [0, 300_000_000, 300_000_000, 2, MET])],
+        ),
+        (
+            "done before full",
+            done_and_full(),
+            (683_786_240, S),
+            vec![
+                run(0, 254, [0, 931_355_327, 931_371_430, 254, SPENT]),
+                run(0, 1, [0, 931_355_327, 931_355_348, 1, DONE]),
+                run(0, 0, [0, 931_355_327, 931_355_348, 0, DONE]),
+            ],
         ),
         (
             "a fault by hand where the ways fall apart",

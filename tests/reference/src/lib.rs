@@ -1,4 +1,4 @@
-//! Cue risk, written a second time from the paper alone, plainly and slowly:
+//! Cue risk, written a second time from the rules alone (docs/RULES.md), plainly and slowly:
 //! the other side of randomized comparisons with the verified library.
 //! Trees live on the heap and every interval is worked out from scratch.
 
@@ -24,7 +24,7 @@ pub mod writes;
 pub use table::Table;
 pub use tree::{Act, Tree};
 
-/// One billion, the paper's S: the weight of a certain fault.
+/// One billion, the rules' S: the weight of a certain fault.
 pub const S: u64 = 1_000_000_000;
 
 pub const MOST_FAULTS: usize = 64;

@@ -1,4 +1,4 @@
-//! Tables written by hand: the paper's cases P1 to P9 with the figures typed from it, tables
+//! Tables written by hand: the rules' cases P1 to P9 with the figures typed from them, tables
 //! that are easy to get wrong, the largest ones, and those at a limit with their numbers.
 
 use crate::sheet::Sheet;
@@ -111,6 +111,11 @@ pub fn own_interval() -> Table {
     Table::of(&[H; 3], &[&[0], &[!0, !1, 2], &[1]])
 }
 
+/// The same at the high end, where rounding lifts what the children combine to by one.
+pub fn own_high() -> Table {
+    Table::of(&[483_858_245; 3], &[&[0, !1, !2], &[1]])
+}
+
 /// One division for a whole node: one for each product would widen it.
 pub fn one_division() -> Table {
     Table::of(&[1, H], &[&[!0, !1], &[0, 1]])
@@ -131,13 +136,18 @@ pub fn most_named() -> Table {
     Table::of(&[H; 4], &[pairs, thrice].concat())
 }
 
-/// A table that takes all 255 refinements: 24 faults in a ring, each paired with its near ones.
+/// A table that takes all 255 refinements: 24 faults in a ring, each paired with the next four.
 pub fn ring() -> Table {
-    let pairs: Vec<[i64; 2]> = (0..24)
-        .flat_map(|a| (1..5).map(move |d| [a, (a + d) % 24]))
+    paired(24, 4)
+}
+
+/// So many faults in a ring, each paired with so many that come next.
+fn paired(faults: i64, next: i64) -> Table {
+    let pairs: Vec<[i64; 2]> = (0..faults)
+        .flat_map(|a| (1..=next).map(move |d| [a, (a + d) % faults]))
         .collect();
     let ways: Vec<&[i64]> = pairs.iter().map(|pair| &pair[..]).collect();
-    Table::of(&[THIRD / 3; 24], &ways)
+    Table::of(&vec![THIRD / 3; faults as usize], &ways)
 }
 
 /// Another, with 12 faults, so that it can be counted over all assignments: fours in a ring.
@@ -150,7 +160,43 @@ pub fn fours() -> Table {
     Table::of(&[THIRD; 12], &ways)
 }
 
+/// The 255th refinement closes the last open leaf, and the root's ends still differ: a run is done, though the tree is
+/// full. Each of the faults 19 to 33 is a way of its own; 0 to 18 hang together in pairs.
+pub fn done_and_full() -> Table {
+    let apart = (19..34).map(|fault| vec![fault]);
+    let next = (0..18).map(|fault| vec![fault, fault + 1]);
+    let far = [
+        [0, 3],
+        [1, 10],
+        [2, 17],
+        [3, 5],
+        [4, 12],
+        [0, 5],
+        [7, 14],
+        [2, 8],
+        [10, 16],
+        [4, 11],
+        [13, 18],
+        [6, 14],
+        [13, 15],
+        [1, 16],
+        [8, 17],
+        [15, 18],
+    ];
+    let pairs = next.chain(far.iter().map(|pair| pair.to_vec()));
+    let ways: Vec<Vec<i64>> = apart.chain(pairs).collect();
+    let ways: Vec<&[i64]> = ways.iter().map(|way| &way[..]).collect();
+    let mut weights: Vec<u32> = (0..19).map(|i| THIRD + 1_234_567 * i).collect();
+    weights.resize(MOST_FAULTS, 1_234_567);
+    Table::of(&weights, &ways)
+}
+
 // Tables of the largest size
+
+/// It takes all 255 refinements too: 64 faults in a ring, each paired with the next two, which is 128 ways.
+pub fn largest_ring() -> Table {
+    paired(64, 2)
+}
 
 /// Every fault is certain, and way i names the faults from i on, twice over: of 128 ways one stays.
 pub fn stairs() -> Table {
@@ -181,7 +227,7 @@ pub fn every_fault_named(weight: u32) -> Table {
     }
 }
 
-/// All tables above that are none of P1 to P9.
+/// Tables above, none of P1 to P9, that are opened alone too.
 pub fn easy_to_get_wrong() -> Vec<Table> {
     vec![
         one_pass(),
@@ -189,11 +235,14 @@ pub fn easy_to_get_wrong() -> Vec<Table> {
         chain(),
         widest(),
         own_interval(),
+        own_high(),
         one_division(),
         with_empty_way(),
         equal_ways(),
         most_named(),
         ring(),
+        fours(),
+        done_and_full(),
         stairs(),
         singles(),
         every_fault_named(TOP),
@@ -259,8 +308,8 @@ pub fn orders() -> Vec<(u64, Table)> {
     ]
 }
 
-/// The paper's whole sheet, 3 faults and 2 cues with an allowance of 10000000, with this budget; the paper's own is 40.
-pub fn whole_sheet(budget: u16) -> Sheet {
+/// The rules' whole sheet, 3 faults and 2 cues with an allowance of 10000000, with this budget; its own is 40.
+pub fn whole_sheet(budget: u64) -> Sheet {
     Sheet {
         weights: vec![500_000_000, 500_000_000, 200_000_000],
         cues: vec![7, 9],

@@ -424,8 +424,8 @@ impl Random {
         let cues = self.between(1, most_cues.min(MOST_CUES));
         let mut sheet = Sheet {
             weights: self.weights(faults),
-            allowance: self.allowance().min(S) as u32,
-            budget: self.budget().min(255) as u16,
+            allowance: self.allowance().min(S),
+            budget: self.budget().min(255),
             ..Sheet::default()
         };
         // Room for all cue numbers to rise, and now and then up to the highest.
@@ -467,8 +467,8 @@ impl Random {
             counts: vec![MOST_WAYS as u16; MOST_CUES],
             present,
             absent,
-            allowance: self.allowance().min(S) as u32,
-            budget: self.budget().min(255) as u16,
+            allowance: self.allowance().min(S),
+            budget: self.budget().min(255),
         }
     }
 
@@ -610,8 +610,8 @@ impl Random {
             }
             4 => self.damage_weight(&mut sheet.weights),
             5 | 6 => self.damage_words(sheet.weights.len(), &mut sheet.present, &mut sheet.absent),
-            7 => sheet.allowance = self.one_of(&[TOP + 1, u32::MAX]),
-            8 => sheet.budget = self.one_of(&[256, u16::MAX]),
+            7 => sheet.allowance = self.one_of(&[S + 1, u64::from(u32::MAX)]),
+            8 => sheet.budget = self.one_of(&[256, u64::from(u16::MAX)]),
             9 => drop(sheet.present.pop()),
             10 => drop(sheet.absent.pop()),
             11 => {

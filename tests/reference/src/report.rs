@@ -1,8 +1,10 @@
 //! The program's printed text for any bytes on its standard input: a heading and a line
-//! for each cue, or the one line of a refused sheet; and the same into lent space.
+//! for each cue, or the one line of a refused sheet; the same into lent space; and a printed
+//! text's intervals beside the count over all assignments.
 
 use crate::run::{run, verdict_word};
-use crate::sheet::{cue_table, decode, lay};
+use crate::sheet::{cue_table, decode, lay, Sheet};
+use crate::table::{Count, MOST_COUNTED};
 use crate::tree::open;
 use crate::Answer;
 
@@ -17,12 +19,7 @@ pub fn report(bytes: &[u8]) -> String {
             continue; // no accepted sheet lacks the ways its cues count
         };
         let (_, mut tree) = open(&table);
-        let answer = run(
-            &table,
-            &mut tree,
-            u64::from(sheet.allowance),
-            u64::from(sheet.budget),
-        );
+        let answer = run(&table, &mut tree, sheet.allowance, sheet.budget);
         let verdict = verdict_word(answer.verdict);
         text += &format!(
             "{cue} {} {} {} {verdict}\n",
@@ -30,6 +27,27 @@ pub fn report(bytes: &[u8]) -> String {
         );
     }
     text
+}
+
+/// How many lines of a printed text have an interval that encloses the chance of their cue's ways, counted over all
+/// assignments: each of an accepted sheet whose faults are few enough, or in words the first that does not.
+pub fn enclosing_lines(bytes: &[u8], text: &str) -> Result<usize, String> {
+    let counted = |sheet: &Sheet| sheet.weights.len() <= MOST_COUNTED;
+    let Some(sheet) = decode(bytes).ok().filter(counted) else {
+        return Ok(0);
+    };
+    let count = Count::new(&sheet.weights);
+    let mut lines = text.lines().skip(1);
+    for position in 0..sheet.cues.len() {
+        let line = lines.next().unwrap_or_default();
+        let figures: Vec<u64> = line.split(' ').flat_map(str::parse).collect();
+        let table = cue_table(&sheet, position).unwrap_or_default();
+        let encloses = |low, high| count.encloses(low, high, &table.ways());
+        if !matches!(figures[..], [_, low, high, _] if encloses(low, high)) {
+            return Err(format!("line {line:?} does not enclose: {table:?}"));
+        }
+    }
+    Ok(sheet.cues.len())
 }
 
 /// The text at the front of the space, the rest left as it was; refused 22 if the space is shorter.

@@ -17,8 +17,9 @@ pub fn run(table: &Table, tree: &mut Tree, allowance: u64, budget: u64) -> Answe
     let before = tree.refinements();
     loop {
         let made = tree.refinements() - before;
-        let root = tree.interval(table);
+        // Of a tree with nodes the first is the root.
         let entries = tree.places(table);
+        let root = entries[0].interval;
         // Listed left to right, and only a wider leaf takes the place of one found before.
         let mut widest = None;
         let mut width = 0;

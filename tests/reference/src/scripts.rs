@@ -1,18 +1,19 @@
 //! Scripts for the library's test program: a table and the calls on its tree, written by
 //! hand at the edges of the rules, with the answers they must have, and seeded random ones.
-//! The papers' figures by name, damaged trees and lists in several orders have modules of their own.
+//! The figures by name, damaged trees and lists in several orders have modules of their own.
 
 use crate::damages::damages;
 use crate::figures::figures;
 use crate::orders::orders_of_refinement;
 use crate::paper::{
-    cases, chain, easy_to_get_wrong, limits, most_named, orders, p3, p4, p6, p7, ring, widest, H,
-    THIRD,
+    cases, chain, easy_to_get_wrong, largest_ring, limits, most_named, orders, p3, p4, p6, p7,
+    ring, widest, H, THIRD,
 };
 use crate::random::Random;
 use crate::redundant;
+use crate::table::MOST_COUNTED;
 use crate::tree::{open, State};
-use crate::vectors::{make, MOST_COUNTED};
+use crate::vectors::make;
 use crate::{Act, Table, Tree, DONE, FULL, MET, MOST_FAULTS, MOST_WAYS, NONE, S, SPENT};
 
 const SEED: u64 = 2003;
@@ -374,12 +375,6 @@ fn by((place, act): (Vec<u8>, Act)) -> Call {
     Call::Hand(place, act)
 }
 
-/// 64 faults in a ring, each paired with the next two: 128 ways and all 255 refinements.
 fn largest() -> Script {
-    let pairs: Vec<[i64; 2]> = (0..64)
-        .flat_map(|a| (1..3).map(move |d| [a, (a + d) % 64]))
-        .collect();
-    let ways: Vec<&[i64]> = pairs.iter().map(|pair| &pair[..]).collect();
-    let table = Table::of(&[THIRD / 3; MOST_FAULTS], &ways);
-    told(table, &[(Call::Run(0, 255), 0, FULL)])
+    told(largest_ring(), &[(Call::Run(0, 255), 0, FULL)])
 }

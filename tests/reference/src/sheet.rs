@@ -11,7 +11,8 @@ const WEIGHT: usize = 4;
 const WAY: usize = 16;
 
 /// A sheet as lists: what the writer is given and what a decoded sheet holds. The ways
-/// of all cues follow one another, `counts` says how many belong to each.
+/// of all cues follow one another, `counts` says how many belong to each. The limits are
+/// wider than their fields in a sheet, since the writer judges them as they are given.
 #[derive(Clone, Debug, Default, PartialEq, Eq)]
 pub struct Sheet {
     pub weights: Vec<u32>,
@@ -19,8 +20,8 @@ pub struct Sheet {
     pub counts: Vec<u16>,
     pub present: Vec<u64>,
     pub absent: Vec<u64>,
-    pub allowance: u32,
-    pub budget: u16,
+    pub allowance: u64,
+    pub budget: u64,
 }
 
 /// What one call of a reader hands over, and its place in the contents afterwards.
@@ -169,13 +170,12 @@ pub fn writing_number(sheet: &Sheet, space: usize) -> u64 {
     {
         return 6;
     }
-    let (allowance, budget) = (u64::from(sheet.allowance), u64::from(sheet.budget));
     let number = content_number(
         &sheet.weights,
         &sheet.present,
         &sheet.absent,
-        allowance,
-        budget,
+        sheet.allowance,
+        sheet.budget,
     );
     if number != 0 {
         return number;
@@ -253,8 +253,8 @@ pub fn decode(bytes: &[u8]) -> Result<Sheet, u64> {
             .collect(),
         present: sheet.words(0),
         absent: sheet.words(8),
-        allowance: sheet.allowance() as u32,
-        budget: sheet.budget() as u16,
+        allowance: sheet.allowance(),
+        budget: sheet.budget(),
     })
 }
 
@@ -299,6 +299,19 @@ pub fn cue_table(sheet: &Sheet, position: usize) -> Option<Table> {
     })
 }
 
+/// A sheet with cue 1 alone, of this table, with allowance 0.
+pub fn of_one_cue(table: Table, budget: u64) -> Sheet {
+    Sheet {
+        cues: vec![1],
+        counts: vec![table.present.len() as u16],
+        weights: table.weights,
+        present: table.present,
+        absent: table.absent,
+        allowance: 0,
+        budget,
+    }
+}
+
 /// The length of the sheet that these lists give.
 pub fn length(sheet: &Sheet) -> usize {
     let counted: usize = sheet.counts.iter().copied().map(usize::from).sum();
@@ -306,13 +319,13 @@ pub fn length(sheet: &Sheet) -> usize {
 }
 
 /// The bytes that the layout gives, no refusal tried: sound for lists that agree, and
-/// useful for bad sheets too.
+/// useful for bad sheets too. A number that its field does not hold is cut.
 pub fn encode(sheet: &Sheet) -> Vec<u8> {
     let mut bytes = Vec::new();
     bytes.extend((sheet.weights.len() as u16).to_le_bytes());
     bytes.extend((sheet.cues.len() as u16).to_le_bytes());
-    bytes.extend(sheet.allowance.to_le_bytes());
-    bytes.extend(sheet.budget.to_le_bytes());
+    bytes.extend((sheet.allowance as u32).to_le_bytes());
+    bytes.extend((sheet.budget as u16).to_le_bytes());
     bytes.extend([0, 0]);
     let mut body = HEAD + CONTENTS_LINE * sheet.cues.len() + WEIGHT * sheet.weights.len();
     for (cue, count) in sheet.cues.iter().zip(&sheet.counts) {

@@ -2,11 +2,11 @@
 //! has them built in. They are made here from lists, and damaged by this module's own list of fields.
 
 use crate::paper::whole_sheet;
-use crate::report::report;
+use crate::report::{enclosing_lines, report};
 use crate::sheet::{encode, Sheet};
 use crate::{LONGEST_SHEET, MOST_CUES, MOST_FAULTS, MOST_WAYS, S};
 
-/// A field of the paper's sheet: where it stands and how wide it is.
+/// A field of the rules' sheet: where it stands and how wide it is.
 type Field = (usize, usize);
 
 const FAULTS: Field = (0, 2);
@@ -29,7 +29,7 @@ const LAST_ABSENT: Field = (64, 8);
 
 const WHOLE: usize = 72;
 
-/// A name, how many bytes of the paper's sheet there are, and what is changed in it.
+/// A name, how many bytes of the rules' sheet there are, and what is changed in it.
 type Case = (&'static str, usize, &'static [(Field, u64)]);
 
 /// Accepted, at the ends of what is allowed.
@@ -138,7 +138,7 @@ const ORDERS: [(u64, Case); 12] = [
     ),
 ];
 
-/// The paper's sheet cut or with zeros behind, and changed.
+/// The rules' sheet cut or with zeros behind, and changed.
 fn damaged((_, length, changes): &Case) -> Vec<u8> {
     let mut bytes = encode(&whole_sheet(40));
     for &((at, width), value) in *changes {
@@ -174,7 +174,11 @@ pub fn longest() -> Sheet {
 /// The expected output: for each sheet its name and a colon on a line, then its report.
 pub fn sheets() -> String {
     let mut text = String::new();
-    let mut add = |name: &str, bytes: &[u8]| text += &format!("{name}:\n{}", report(bytes));
+    let mut add = |name: &str, bytes: &[u8]| {
+        let printed = report(bytes);
+        assert!(enclosing_lines(bytes, &printed).is_ok(), "{name}");
+        text += &format!("{name}:\n{printed}");
+    };
     for case in &ACCEPTED {
         add(case.0, &damaged(case));
     }

@@ -6,6 +6,9 @@ use crate::natural::Natural;
 use crate::{MOST_FAULTS, MOST_WAYS, S};
 use std::collections::HashSet;
 
+/// Up to so many faults an interval is set beside a count over all assignments.
+pub const MOST_COUNTED: usize = 12;
+
 /// Bit i of a present word says that fault i is present, of an absent word that it is absent.
 #[derive(Clone, Debug, Default, PartialEq, Eq)]
 pub struct Table {
@@ -125,7 +128,7 @@ impl Count {
         }
     }
 
-    /// The paper's E: the sum over all assignments that satisfy at least one way.
+    /// The rules' E: the sum over all assignments that satisfy at least one way.
     pub fn exact_sum(&self, ways: &[Way]) -> Natural {
         // Equal ways satisfy the same assignments; asking each once saves time.
         let different: HashSet<(u64, u64)> =

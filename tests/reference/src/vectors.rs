@@ -1,16 +1,13 @@
 //! Scripts with the answers that they must give: the input of the library's test program
 //! and the lines it is held to. Nothing of the library is asked; small tables are counted
-//! over all assignments, and the paper's figures stand in `paper` and `scripts`.
+//! over all assignments, and the rules' figures stand in `paper` and `scripts`.
 
 use crate::paper::{cases, limits, orders};
 use crate::run::run;
 use crate::scripts::{scripts, Call, Damage, Line, Script};
-use crate::table::Count;
+use crate::table::{Count, MOST_COUNTED};
 use crate::tree::{open, refine_by_hand, Entry, State};
 use crate::{Act, Answer, Table, Tree, LONGEST_PLACE};
-
-/// Up to so many faults an interval is set beside a count over all assignments.
-pub const MOST_COUNTED: usize = 12;
 
 /// The test program has room for a place of so many steps.
 const MOST_STEPS: usize = LONGEST_PLACE + 6;
@@ -29,7 +26,7 @@ pub struct Vectors {
 /// call; or 3, all places; or 4 and a call, with all places then and the tree kept as it was.
 /// The expected lines: number, low, high and count, and a run's verdict; of a place 1 for a
 /// leaf, 2 for independence, 3 for a fault, the fault, 1 for an open leaf, low and high, a
-/// node before those below it, left before right. Panics where an answer breaks the paper.
+/// node before those below it, left before right. Panics where an answer breaks the rules.
 pub fn vectors() -> Vectors {
     check_paper();
     let scripts = scripts();
@@ -213,7 +210,7 @@ impl Counted<'_> {
     }
 }
 
-/// The paper's own figures: P1 to P9, and the numbers at the limits and in their order.
+/// The rules' own figures: P1 to P9, and the numbers at the limits and in their order.
 fn check_paper() {
     for case in cases() {
         let (answer, mut tree) = open(&case.table);

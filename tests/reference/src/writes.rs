@@ -105,11 +105,7 @@ fn numbers(lists: &Sheet, lent: usize) -> Vec<u64> {
     numbers.extend(lists.cues.iter().map(|&cue| u64::from(cue)));
     numbers.extend(lists.counts.iter().map(|&count| u64::from(count)));
     numbers.extend(lists.present.iter().chain(&lists.absent));
-    numbers.extend([
-        u64::from(lists.allowance),
-        u64::from(lists.budget),
-        lent as u64,
-    ]);
+    numbers.extend([lists.allowance, lists.budget, lent as u64]);
     numbers
 }
 
@@ -164,7 +160,7 @@ fn read_back(lists: &Sheet) -> String {
     text
 }
 
-/// The paper's lists with something changed, in ample space.
+/// The rules' lists with something changed, in ample space.
 fn changed(name: &str, change: impl Fn(&mut Sheet)) -> Case {
     let mut lists = whole_sheet(40);
     change(&mut lists);
@@ -195,7 +191,7 @@ fn longest() -> Sheet {
         absent: (0..ways)
             .map(|way| u64::from(way % 128 == 0) << 63)
             .collect(),
-        allowance: S as u32,
+        allowance: S,
         budget: 255,
     }
 }
@@ -214,7 +210,7 @@ fn named() -> Vec<Case> {
             (l.allowance, l.budget) = (0, 0)
         }),
         changed("allowance S, budget 255", |l| {
-            (l.allowance, l.budget) = (S as u32, 255)
+            (l.allowance, l.budget) = (S, 255)
         }),
         changed("weights 0, 1 and S", |l| l.weights = vec![0, 1, S as u32]),
         changed("64 weights", |l| l.weights = (0..64).collect()),
@@ -261,10 +257,10 @@ fn named() -> Vec<Case> {
             l.present.push(1);
             l.absent.push(1);
         }),
-        changed("14, allowance S + 1", |l| l.allowance = ABOVE),
-        changed("14, largest allowance", |l| l.allowance = u32::MAX),
+        changed("14, allowance S + 1", |l| l.allowance = S + 1),
+        changed("14, largest allowance", |l| l.allowance = u32::MAX.into()),
         changed("15, budget 256", |l| l.budget = 256),
-        changed("15, largest budget", |l| l.budget = u16::MAX),
+        changed("15, largest budget", |l| l.budget = u16::MAX.into()),
         changed("21, a cue number more", |l| l.cues.push(11)),
         changed("21, a count more", |l| l.counts.push(0)),
         changed("21, a way counted too many", |l| l.counts = vec![2, 1]),
@@ -292,8 +288,8 @@ fn orders() -> Vec<Case> {
             (l.weights[2], l.present[0]) = (ABOVE, 8)
         }),
         changed("12 before 13", |l| (l.present[1], l.absent[0]) = (8, 3)),
-        changed("13 before 14", |l| (l.absent[0], l.allowance) = (1, ABOVE)),
-        changed("14 before 15", |l| (l.allowance, l.budget) = (ABOVE, 256)),
+        changed("13 before 14", |l| (l.absent[0], l.allowance) = (1, S + 1)),
+        changed("14 before 15", |l| (l.allowance, l.budget) = (S + 1, 256)),
         changed("15 before 21", |l| (l.budget, l.counts[1]) = (256, 1)),
         Case {
             lent: 0,

@@ -1,10 +1,11 @@
-//! The figures of the paper: cases P1 to P9, the figures that are easy to get wrong,
+//! The figures of the rules: cases P1 to P9, the figures that are easy to get wrong,
 //! and the whole sheet for the program.
 
 use reference::leaf::Interval;
 use reference::paper::{
-    cases, chain, equal_ways, most_named, one_division, one_pass, own_interval, p3, p4, p6, p7, p8,
-    ring, singles, skipped, stairs, whole_sheet, widest, with_empty_way, H,
+    cases, chain, done_and_full, equal_ways, most_named, one_division, one_pass, own_high,
+    own_interval, p3, p4, p6, p7, p8, ring, singles, skipped, stairs, whole_sheet, widest,
+    with_empty_way, H,
 };
 use reference::report::report;
 use reference::run::run;
@@ -115,6 +116,15 @@ fn an_inner_node_keeps_its_own_leaf_interval() {
 }
 
 #[test]
+fn an_inner_node_keeps_its_own_high_end() {
+    let table = own_high();
+    let (opened, mut tree) = open(&table);
+    assert_eq!(opened, answer((128_900_954, 612_759_200), 0, 0));
+    let after = refine_by_hand(&table, &mut tree, &[], Act::Fault(0));
+    assert_eq!(after, answer((378_640_398, 612_759_200), 1, 0));
+}
+
+#[test]
 fn one_division_for_each_node() {
     assert_eq!(
         one_run(&one_division(), 0, 255),
@@ -176,6 +186,20 @@ fn full_counts_the_whole_tree_and_spent_this_run() {
     assert_eq!((third.count, third.verdict), (0, FULL));
     assert_eq!(tree.refinements(), 255);
     assert_eq!(tree.places(&table).len(), 511);
+}
+
+#[test]
+fn done_comes_before_full() {
+    let table = done_and_full();
+    let (_, mut tree) = open(&table);
+    let first = run(&table, &mut tree, 0, 254);
+    assert_eq!(first, answer((931_355_327, 931_371_430), 254, SPENT));
+    let after = (931_355_327, 931_355_348);
+    assert_eq!(run(&table, &mut tree, 0, 1), answer(after, 1, DONE));
+    assert_eq!(tree.refinements(), 255);
+    for budget in [0, 1, 255] {
+        assert_eq!(run(&table, &mut tree, 0, budget), answer(after, 0, DONE));
+    }
 }
 
 #[test]

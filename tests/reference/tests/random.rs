@@ -3,7 +3,7 @@
 
 use reference::leaf::{leaf_interval, staying, Interval};
 use reference::random::Random;
-use reference::report::report;
+use reference::report::{enclosing_lines, report};
 use reference::run::run;
 use reference::sheet::{cue_at, decode, encode, length, sheet_number, write, writing_number};
 use reference::table::Count;
@@ -343,7 +343,9 @@ fn the_report_is_one_run_for_each_cue() {
     let mut random = Random::new(12);
     for _ in 0..150 {
         let sheet = random.sheet_within(8, 6, 6);
-        let text = report(&encode(&sheet));
+        let bytes = encode(&sheet);
+        let text = report(&bytes);
+        assert_eq!(enclosing_lines(&bytes, &text), Ok(sheet.cues.len()));
         let lines: Vec<&str> = text.lines().collect();
         assert_eq!(lines.len(), 1 + sheet.cues.len());
         assert!(text.ends_with('\n'));

@@ -27,8 +27,8 @@ fn named(way: &Way) -> BTreeSet<(usize, bool)> {
         .collect()
 }
 
-/// The request's words, for each pair: "A remaining way that names every fault of another remaining way, in the same sense,
-/// is to be left out; of equal ways the lowest numbered stays."
+/// For each pair of ways: the one that names every fault of the other, in the same sense, is left out; of equal ways the
+/// higher numbered.
 fn pairwise(ways: &[Way]) -> Vec<Way> {
     let sets: Vec<_> = ways.iter().map(named).collect();
     let left_out = |i: usize| {

@@ -14,7 +14,7 @@ fn sheet() -> Sheet {
     whole_sheet(40)
 }
 
-/// The number for the paper's sheet with some bytes put in.
+/// The number for the rules' sheet with some bytes put in.
 fn with_bytes(changes: &[(usize, u8)]) -> u64 {
     let mut bytes = encode(&sheet());
     for &(at, byte) in changes {
@@ -23,7 +23,7 @@ fn with_bytes(changes: &[(usize, u8)]) -> u64 {
     sheet_number(&bytes)
 }
 
-/// The number for the paper's lists with something changed, in ample space.
+/// The number for the rules' lists with something changed, in ample space.
 fn with_lists(change: impl Fn(&mut Sheet)) -> u64 {
     let mut lists = sheet();
     change(&mut lists);
@@ -266,8 +266,11 @@ fn writing() {
     assert_eq!(with_lists(|lists| lists.weights[1] = ABOVE), 10);
     assert_eq!(with_lists(|lists| lists.present[1] = 8), 12);
     assert_eq!(with_lists(|lists| lists.absent[1] = 4), 13);
-    assert_eq!(with_lists(|lists| lists.allowance = ABOVE), 14);
+    assert_eq!(with_lists(|lists| lists.allowance = S + 1), 14);
     assert_eq!(with_lists(|lists| lists.budget = 256), 15);
+    // Within the limits if they were cut to the widths of their fields.
+    assert_eq!(with_lists(|lists| lists.allowance = 1 << 32), 14);
+    assert_eq!(with_lists(|lists| lists.budget = 65_576), 15);
     assert_eq!(with_lists(|lists| lists.cues.push(10)), 21);
     assert_eq!(with_lists(|lists| lists.counts.push(0)), 21);
     assert_eq!(with_lists(|lists| lists.present.push(0)), 21);

@@ -43,7 +43,7 @@ fn every_number_and_verdict_of_trees_occurs() {
     }
 }
 
-/// Every number that reading knows is among the reports, and the paper's lines with budget 40 and with budget 1.
+/// Every number that reading knows is among the reports, and the rules' lines with budget 40 and with budget 1.
 #[test]
 fn every_number_of_reading_occurs() {
     let expected = stored_text("crates/sheet_vectors/stdout");

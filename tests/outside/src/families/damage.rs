@@ -48,7 +48,7 @@ pub fn sixteen(bench: &mut Bench) -> Outcome {
 }
 
 /// A small tree, grown by a few calls.
-fn grown(session: &mut Session, random: &mut Random) -> Outcome {
+pub(super) fn grown(session: &mut Session, random: &mut Random) -> Outcome {
     let table = mostly_open(random, |random| random.table_within(6, 8));
     session.opened(table)?;
     for _ in 0..random.between(1, 4) {
@@ -59,7 +59,7 @@ fn grown(session: &mut Session, random: &mut Random) -> Outcome {
 }
 
 /// Any call: 16 comes before all that could be wrong with its place.
-fn judged(session: &mut Session, random: &mut Random) -> Outcome {
+pub(super) fn judged(session: &mut Session, random: &mut Random) -> Outcome {
     if random.one_in(2) {
         return session.run(random.between(0, S as usize) as u64, random.between(0, 3) as u64);
     }
@@ -111,22 +111,9 @@ fn others(random: &mut Random, own: u64) -> Vec<u64> {
     values
 }
 
-/// Overwrites the tree with another, field by field.
-fn overwrite(session: &mut Session, tree: &Tree) -> Outcome {
-    for (record, node) in tree.nodes.iter().enumerate() {
-        let own = session.records().nodes[record].fields();
-        for (number, value) in node.fields().into_iter().enumerate() {
-            if value != own[number] {
-                session.make(Step::Poke(Field::Of { record, number }, value))?;
-            }
-        }
-    }
-    session.make(Step::Poke(Field::Used, tree.used as u64))
-}
-
 /// The contents of two records change places; now and then the records below them follow.
 fn exchanged(session: &mut Session, random: &mut Random) -> Outcome {
-    let mut tree = session.records().clone();
+    let mut tree = Box::new(session.records().clone());
     let (one, other) = (random.below(tree.used), random.below(tree.used + 1));
     tree.nodes.swap(one, other.min(RECORDS - 1));
     if random.one_in(3) {
@@ -138,7 +125,7 @@ fn exchanged(session: &mut Session, random: &mut Random) -> Outcome {
             }
         }
     }
-    overwrite(session, &tree)?;
+    session.make(Step::Lend(tree))?;
     judged(session, random)?;
     judged(session, random)
 }
@@ -162,7 +149,7 @@ fn reordered(session: &mut Session, random: &mut Random) -> Outcome {
     }
     let entries = session.tree().places(session.table());
     let tree = layout(session.table(), &entries, &series);
-    overwrite(session, &tree)?;
+    session.make(Step::Lend(tree))?;
     session.run(0, 0)?;
     told_number(session, 0)?;
     session.run(0, 2)?;
@@ -189,11 +176,11 @@ fn closed_refined(session: &mut Session) -> Outcome {
         (p3(), [inner(3, leaf(1, 0, 0, 111_111_110, 111_111_111)), leaf(1, 1, 0, third, third), leaf(0, 0, 1, 0, 0)]),
     ];
     for (table, nodes) in trees {
-        let mut tree = Tree::default();
+        let mut tree = Box::<Tree>::default();
         tree.nodes[..3].copy_from_slice(&nodes);
         tree.used = 3;
         session.opened(table)?;
-        overwrite(session, &tree)?;
+        session.make(Step::Lend(tree))?;
         session.run(0, 0)?;
         told_number(session, 16)?;
         session.refine(vec![0], Act::Fault(0))?;

@@ -117,7 +117,7 @@ fn idle(session: &mut Session, random: &mut Random) -> Outcome {
         2 => session.run(random.between(0, S as usize) as u64, 0),
         _ => {
             let (place, _) = random.hand_refinement(session.table(), session.tree());
-            session.make(Step::Refine(place, random.between(2, 255) as u8, 0))
+            session.make(Step::Refine(place, random.between(2, 255) as u64, 0))
         }
     }
 }

@@ -2,6 +2,8 @@
 
 mod cuts;
 mod damage;
+mod drawn;
+mod far;
 mod lists;
 mod named;
 mod paper;
@@ -9,6 +11,7 @@ mod reading;
 mod redundant;
 mod scripts;
 mod search;
+mod stack;
 mod tables;
 mod writing;
 
@@ -22,28 +25,41 @@ use reference::sheet::Sheet;
 /// What brings a refusal about, with its number.
 type Damage<T> = (u64, fn(&mut T));
 
-type Family = fn(&mut Bench) -> Outcome;
+/// A family of cases, and how many comparisons it makes at least, whatever the seed.
+pub struct Family {
+    pub name: &'static str,
+    pub play: fn(&mut Bench) -> Outcome,
+    pub least: u64,
+}
 
-pub const FAMILIES: [(&str, Family); 18] = [
-    ("paper", paper::cases_on_paper),
-    ("tests", paper::run_in_the_tests),
-    ("wrong", named::easy_to_get_wrong),
-    ("orders", named::orders),
-    ("scripts", scripts::scripts),
-    ("edges", tables::edges),
-    ("tables", tables::tables),
-    ("refused", tables::refused),
-    ("lists", lists::pairs),
-    ("cuts", cuts::cuts),
-    ("sixteen", damage::sixteen),
-    ("foreign", damage::foreign),
-    ("redundant", redundant::redundant),
-    ("sheets", reading::sheets),
-    ("bytes", reading::bytes),
-    ("reports", reading::reports),
-    ("writing", writing::writing),
-    ("search", search::search),
+pub const FAMILIES: [Family; 22] = [
+    family("paper", paper::cases_on_paper, 113),
+    family("tests", paper::run_in_the_tests, 134),
+    family("wrong", named::easy_to_get_wrong, 11_170),
+    family("orders", named::orders, 155),
+    family("scripts", scripts::scripts, 142_436),
+    family("edges", tables::edges, 1400),
+    family("tables", tables::tables, 41_000),
+    family("refused", tables::refused, 17_000),
+    family("over", tables::over, 6500),
+    family("lists", lists::pairs, 60_000),
+    family("cuts", cuts::cuts, 27_000),
+    family("sixteen", damage::sixteen, 68_000),
+    family("foreign", damage::foreign, 10_000),
+    family("drawn", drawn::drawn, 29_000),
+    family("redundant", redundant::redundant, 20_000),
+    family("sheets", reading::sheets, 53_000),
+    family("bytes", reading::bytes, 90_000),
+    family("reports", reading::reports, 4300),
+    family("writing", writing::writing, 12_000),
+    family("search", search::search, 7200),
+    family("far", far::far, 5700),
+    family("stack", stack::stack, 1046),
 ];
+
+const fn family(name: &'static str, play: fn(&mut Bench) -> Outcome, least: u64) -> Family {
+    Family { name, play, least }
+}
 
 /// A call of the reference's scripts.
 fn make(session: &mut Session, call: Call) -> Outcome {

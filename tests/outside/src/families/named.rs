@@ -7,8 +7,8 @@ use crate::step::{Field, Step};
 use reference::figures::typed;
 use reference::paper::{every_fault_named, most_named, orders as refusals, p4, ring, singles, stairs, whole_sheet, H};
 use reference::scripts::{deep, full};
-use reference::sheet::{encode, Sheet};
-use reference::{Act, Table, FULL, MET, NONE, S, SPENT};
+use reference::sheet::encode;
+use reference::{Act, FULL, MET, NONE, S, SPENT};
 
 pub fn easy_to_get_wrong(bench: &mut Bench) -> Outcome {
     for (name, table, root, calls) in typed() {
@@ -109,45 +109,13 @@ pub fn orders(bench: &mut Bench) -> Outcome {
         }
         Ok(())
     })?;
-    bench.case("17, 18 and 20 in turn", |session, _| by_hand(session))?;
-    bench.case("far too long", |session, _| far_too_long(session))
-}
-
-/// Lengths that would be within the limits if they were cut to 8 or 16 bits.
-fn far_too_long(session: &mut Session) -> Outcome {
-    for more in [1 << 8, 1 << 16] {
-        session.opened(Table { weights: vec![H; more + 1], ..Table::default() })?;
-        told_number(session, 9)?;
-        session.opened(Table { weights: vec![H], present: vec![1; more + 2], absent: vec![0; more + 2] })?;
-        told_number(session, 11)?;
-        session.opened(p4())?;
-        session.refine(vec![0; more], Act::Fault(0))?;
-        told_number(session, 17)?;
-        let mut bytes = encode(&whole_sheet(40));
-        bytes.resize(bytes.len() + more, 0);
-        session.make(Step::Sheet(bytes))?;
-        session.make(Step::Check)?;
-        told_number(session, 8)?;
-        let longer: [fn(&mut Sheet, usize); 4] = [
-            |lists, more| lists.weights.resize(3 + more, 0),
-            |lists, more| lists.counts.resize(2 + more, 0),
-            |lists, more| lists.present.resize(2 + more, 0),
-            |lists, more| lists.absent.resize(2 + more, 0),
-        ];
-        for (number, longer) in [2, 2, 21, 21].into_iter().zip(longer) {
-            let mut lists = whole_sheet(40);
-            longer(&mut lists, more);
-            session.make(Step::Write(lists, 4000))?;
-            told_number(session, number)?;
-        }
-    }
-    Ok(())
+    bench.case("17, 18 and 20 in turn", |session, _| by_hand(session))
 }
 
 /// On P4, whose right child is closed once fault 0 is fixed.
 fn by_hand(session: &mut Session) -> Outcome {
     session.opened(p4())?;
-    let steps: [(&[u8], u8, u32, u64); 14] = [
+    let steps: [(&[u8], u64, u64, u64); 14] = [
         (&[0; 65], 1, 9, 17),
         (&[0; 64], 1, 9, 17),
         (&[0], 1, 0, 17),
@@ -156,7 +124,7 @@ fn by_hand(session: &mut Session) -> Outcome {
         (&[], 2, 0, 20),
         (&[], 255, 0, 20),
         (&[], 1, 3, 20),
-        (&[], 1, u32::MAX, 20),
+        (&[], 1, u64::MAX, 20),
         (&[], 1, 0, 0),
         (&[], 1, 1, 17),
         (&[1], 1, 9, 18),

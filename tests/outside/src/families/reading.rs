@@ -5,10 +5,10 @@ use super::{room, told_number, with_small_budget, Damage};
 use crate::bench::Bench;
 use crate::session::{Outcome, Session};
 use crate::step::Step;
-use reference::paper::{ring, whole_sheet};
+use reference::paper::{done_and_full, ring, whole_sheet};
 use reference::random::Random;
 use reference::report::report;
-use reference::sheet::{encode, Sheet};
+use reference::sheet::{encode, of_one_cue, Sheet};
 use reference::{LONGEST_SHEET, MOST_CUES, S};
 
 /// The longest text of a report.
@@ -24,6 +24,7 @@ fn sheet(session: &mut Session, bytes: Vec<u8>, position: usize) -> Outcome {
     session.make(Step::Check)?;
     let refused = session.answer().number != 0;
     session.make(Step::Cue(position))?;
+    (0..2).try_for_each(|_| session.make(Step::Next))?;
     if refused || short {
         session.make(Step::Report(TEXT))?;
     }
@@ -54,10 +55,11 @@ pub fn sheets(bench: &mut Bench) -> Outcome {
     bench.case("two faults at once", |session, _| two_faults(session))
 }
 
-/// Every position, and some past the last.
+/// Every position, and some past the last; and a reader's calls, some of them past the last cue.
 fn cues(session: &mut Session, cues: usize) -> Outcome {
-    let mut positions = (0..=cues + 2).chain([usize::MAX]);
-    positions.try_for_each(|position| session.make(Step::Cue(position)))
+    let mut positions = (0..=cues + 2).chain([1 << 8, 1 << 16, 1 << 32, usize::MAX]);
+    positions.try_for_each(|position| session.make(Step::Cue(position)))?;
+    (0..=cues + 2).try_for_each(|_| session.make(Step::Next))
 }
 
 pub fn bytes(bench: &mut Bench) -> Outcome {
@@ -149,20 +151,13 @@ pub fn reports(bench: &mut Bench) -> Outcome {
         }
         session.make(Step::Report(random.between(8, 13)))
     })?;
-    bench.case("a run that ends full", |session, _| {
-        let table = ring();
-        let full = Sheet {
-            cues: vec![u16::MAX],
-            counts: vec![table.present.len() as u16],
-            weights: table.weights,
-            present: table.present,
-            absent: table.absent,
-            allowance: 0,
-            budget: 255,
-        };
-        session.make(Step::Sheet(encode(&full)))?;
-        session.make(Step::Report(TEXT))
-    })?;
+    for (name, table) in [("a run that ends full", ring()), ("a run that is done, the tree full", done_and_full())] {
+        bench.case(name, |session, _| {
+            let sheet = Sheet { cues: vec![u16::MAX], ..of_one_cue(table, 255) };
+            session.make(Step::Sheet(encode(&sheet)))?;
+            session.make(Step::Report(TEXT))
+        })?;
+    }
     bench.case("the longest sheet", longest)
 }
 

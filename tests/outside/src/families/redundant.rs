@@ -6,10 +6,9 @@ use crate::bench::Bench;
 use crate::session::{must, Outcome, Session};
 use crate::step::{Field, Step};
 use reference::paper::{every_fault_named, stairs, H};
-use reference::random::Random;
 use reference::redundant::{cases, sheet, stored, PRINTED, WAYS_BELOW_64};
 use reference::scripts::mostly_open;
-use reference::sheet::{encode, Sheet};
+use reference::sheet::{encode, of_one_cue};
 use reference::{Act, Table, MOST_FAULTS, MOST_WAYS};
 
 /// The two fields of a record that hold the numbers of its ways.
@@ -40,8 +39,8 @@ pub fn redundant(bench: &mut Bench) -> Outcome {
         session.run(0, 3)
     })?;
     bench.cases("any sheets of one cue", 300, |session, random| {
-        let bytes = encode(&of_one_cue(random));
-        session.make(Step::Sheet(bytes))?;
+        let sheet = of_one_cue(random.redundant_table(8, 10), 30);
+        session.make(Step::Sheet(encode(&sheet)))?;
         session.make(Step::Report(100))
     })?;
     bench.case("the number of a way that is left out", |session, _| left_out_stored(session))
@@ -66,12 +65,6 @@ fn largest(session: &mut Session) -> Outcome {
         session.run(0, 1)?;
     }
     Ok(())
-}
-
-fn of_one_cue(random: &mut Random) -> Sheet {
-    let Table { weights, present, absent } = random.redundant_table(8, 10);
-    let counts = vec![present.len() as u16];
-    Sheet { weights, cues: vec![1], counts, present, absent, allowance: 0, budget: 30 }
 }
 
 /// Each refused by 16, though every figure is right.

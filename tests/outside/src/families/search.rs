@@ -37,7 +37,7 @@ pub fn search(bench: &mut Bench) -> Outcome {
 fn any_records(session: &mut Session, random: &mut Random, count: usize) -> Outcome {
     let manner = random.below(4);
     let records = (0..count).map(|_| record(random, manner)).collect();
-    session.make(Step::Records(records))
+    session.make(Step::Records(0, records))
 }
 
 /// Mostly marked as open leaves, with ends that are often equal, crossed, or at the far ends of the numbers.

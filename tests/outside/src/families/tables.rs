@@ -1,10 +1,11 @@
-//! Tables of all shapes and sizes, opened and grown by calls of every kind; tables at the edges; refused tables.
+//! Tables of all shapes and sizes, opened and grown by calls of every kind; tables at the edges; refused tables; and
+//! tables opened over a tree that stands already.
 
-use super::{make, told_number};
+use super::{drawn, make, told_number};
 use crate::bench::Bench;
 use crate::session::{Outcome, Session};
 use crate::step::Step;
-use reference::paper::p4;
+use reference::paper::{largest_ring, limits, p4, ring, stairs};
 use reference::random::Random;
 use reference::scripts::{any_call, mostly_open};
 use reference::{Act, Table, MOST_FAULTS, MOST_WAYS, S};
@@ -85,4 +86,40 @@ pub fn refused(bench: &mut Bench) -> Outcome {
         session.run(0, 1)?;
         told_number(session, 16)
     })
+}
+
+/// Every record but the new root's is blank, and all of them if the table is refused.
+pub fn over(bench: &mut Bench) -> Outcome {
+    bench.case("over all 511 records", |session, _| {
+        session.opened(ring())?;
+        session.run(0, 255)?;
+        let sound = [p4(), stairs(), largest_ring(), ring()].map(|table| (0, table));
+        let mut tables = limits().into_iter().chain(sound);
+        tables.try_for_each(|(number, table)| over_a_copy(session, table, number))
+    })?;
+    bench.cases("over any tree", 150, |session, random| {
+        let table = mostly_open(random, |random| random.table_within(10, 14));
+        session.opened(table)?;
+        calls(session, random, 5)?;
+        let table = if random.one_in(2) { random.table_within(8, 10) } else { random.damaged_table() };
+        let number = table.table_number();
+        over_a_copy(session, table, number)
+    })?;
+    bench.cases("over any records", 60, |session, random| {
+        let table = if random.one_in(2) { p4() } else { random.damaged_table() };
+        session.make(Step::Lend(drawn::noise(random)))?;
+        let number = table.table_number();
+        over_a_copy(session, table, number)
+    })
+}
+
+/// Opened over a copy of the tree at hand, which stays.
+fn over_a_copy(session: &mut Session, table: Table, number: u64) -> Outcome {
+    session.make(Step::Copy)?;
+    session.make(Step::Tree(1))?;
+    session.opened(table)?;
+    told_number(session, number)?;
+    session.run(0, 2)?;
+    told_number(session, number)?;
+    session.make(Step::Tree(0))
 }

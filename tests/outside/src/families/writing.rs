@@ -71,7 +71,7 @@ const FAULTS: [Damage<Sheet>; 19] = [
     (12, |lists| lists.absent.push(1 << 63)),
     (13, |lists| lists.absent[0] |= lists.present[0]),
     (13, |lists| lists.absent[1] |= 1),
-    (14, |lists| lists.allowance = S as u32 + 1),
+    (14, |lists| lists.allowance = S + 1),
     (15, |lists| lists.budget = 256),
     (21, |lists| lists.present.push(0)),
     (21, |lists| lists.absent.push(0)),

@@ -1,11 +1,12 @@
 //! The page's search over lent records, and the steps on sheets: reading, a reader's call, the report and the writer,
 //! the last two with every byte in and around the lent space.
 
-use super::{Outcome, Session};
+use super::{must, Mismatch, Outcome, Session};
 use crate::calls::{self, Entry, Head, Node, Spot};
 use crate::lent::LentSpace;
-use reference::report::report_into;
-use reference::sheet::{cue_at, decode, write, Sheet};
+use crate::tally::Call;
+use reference::report::{enclosing_lines, report_into};
+use reference::sheet::{cue_at, cue_table, decode, write, Handed, Sheet};
 use reference::tree::first_widest;
 use reference::Answer;
 use std::mem;
@@ -18,7 +19,8 @@ impl Session {
             Some(at) => Spot { found: 1, at },
             None => Spot { found: 0, at: 0 },
         };
-        self.same("the first widest open leaf", &due, &calls::widest(records))
+        let got = self.stack.make(Call::Widest, || calls::widest(records));
+        self.same("the first widest open leaf", &due, &got)
     }
 
     pub(super) fn make_check(&mut self) -> Outcome {
@@ -28,16 +30,29 @@ impl Session {
                 number: 0,
                 faults: sheet.weights.len() as u64,
                 cues: sheet.cues.len() as u64,
-                allowance: sheet.allowance.into(),
-                budget: sheet.budget.into(),
+                allowance: sheet.allowance,
+                budget: sheet.budget,
             },
         };
-        let got = calls::check(&self.sheet);
-        self.keep_answer(Answer::refused(got.number));
+        let got = self.stack.make(Call::Check, || calls::check(&self.sheet));
+        self.keep_answer(Call::Check, Answer::refused(got.number));
         self.same("the sheet's head", &due, &got)
     }
 
     pub(super) fn make_cue(&mut self, position: usize) -> Outcome {
+        self.handed(position).map(drop)
+    }
+
+    /// A reader is a sheet and a place in its contents, which moves on as long as cues are handed over.
+    pub(super) fn make_next(&mut self) -> Outcome {
+        let (due, got) = self.handed(self.place)?;
+        let place = self.place + usize::from(got.number == 0 && got.past == 0);
+        self.place = place;
+        self.same("the reader's place", &due.position, &place)
+    }
+
+    /// The cue at a position, the reference's and the library's.
+    fn handed(&mut self, position: usize) -> Result<(Handed, Entry), Mismatch> {
         let handed = cue_at(&self.sheet, position);
         let due = Entry {
             number: handed.number,
@@ -46,30 +61,58 @@ impl Session {
             ways: handed.ways,
             start: handed.body,
         };
-        let got = calls::cue(&self.sheet, position);
-        self.same("the cue", &due, &got)
+        let got = self.stack.make(Call::Cue, || calls::cue(&self.sheet, position));
+        self.tally.answered(Call::Cue, got.number, 0);
+        self.same("the cue", &due, &got)?;
+        if got.number == 0 && got.past == 0 {
+            self.must_start(position, got.start as usize)?;
+        }
+        Ok((handed, got))
+    }
+
+    /// The words of the cue's ways stand in the sheet from `start` on.
+    fn must_start(&self, position: usize, start: usize) -> Outcome {
+        let table = decode(&self.sheet).ok().and_then(|sheet| cue_table(&sheet, position)).unwrap_or_default();
+        let words = table.present.iter().zip(&table.absent).flat_map(|(present, absent)| [present, absent]);
+        let body: Vec<u8> = words.flat_map(|word| word.to_le_bytes()).collect();
+        must("the cue's body", &Some(&body[..]), &self.sheet.get(start..start + body.len()))
     }
 
     pub(super) fn make_report(&mut self, space: usize) -> Outcome {
         let sheet = mem::take(&mut self.sheet);
-        let outcome = self.make_output(space, |space| calls::report(&sheet, space), |space| report_into(&sheet, space));
+        let library = |space: &mut [u8]| calls::report(&sheet, space);
+        let outcome = self.make_output(Call::Report, space, library, |space| report_into(&sheet, space));
+        let outcome = outcome.and_then(|()| self.counted_lines(&sheet));
         self.sheet = sheet;
         outcome
     }
 
+    /// The intervals that were just printed for a sheet, beside the count over all assignments.
+    fn counted_lines(&mut self, sheet: &[u8]) -> Outcome {
+        if self.answer().number != 0 {
+            return Ok(());
+        }
+        let text = String::from_utf8_lossy(&self.printed);
+        let lines = enclosing_lines(sheet, &text).map_err(Mismatch)?;
+        self.tally.compared += lines as u64;
+        Ok(())
+    }
+
     pub(super) fn make_write(&mut self, lists: &Sheet, space: usize) -> Outcome {
-        self.make_output(space, |space| calls::write(lists, space), |space| write(lists, space))
+        let library = |space: &mut [u8]| calls::write(lists, space);
+        self.make_output(Call::Write, space, library, |space| write(lists, space))
     }
 
     fn make_output(
         &mut self,
+        call: Call,
         space: usize,
-        library: impl Fn(&mut [u8]) -> calls::Answer,
+        library: impl Fn(&mut [u8]) -> calls::Answer + Sync,
         reference: impl Fn(&mut [u8]) -> Answer,
     ) -> Outcome {
         let (mut lent, mut due) = (LentSpace::new(space), LentSpace::new(space));
-        let got: Answer = library(lent.space()).into();
-        self.same_answer(reference(due.space()), got)?;
+        let got: Answer = self.stack.make(call, || library(lent.space())).into();
+        self.same_answer(call, reference(due.space()), got)?;
         self.same("the space", &due, &lent)?;
         self.printed = lent.space()[..got.count as usize].to_vec();
         Ok(())

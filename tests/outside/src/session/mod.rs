@@ -6,8 +6,9 @@ mod trees;
 
 use crate::calls;
 use crate::exact::Exact;
+use crate::stack::Stack;
 use crate::step::{parse, Field, Step};
-use crate::tally::Tally;
+use crate::tally::{Call, Tally};
 use reference::{Act, Answer, Table, Tree};
 use std::fmt::Debug;
 use std::fs::File;
@@ -29,7 +30,10 @@ pub struct Session {
     held: [Held; 2],
     at: usize,
     sheet: Vec<u8>,
+    /// The reader's place in the contents of the sheet.
+    place: usize,
     printed: Vec<u8>,
+    stack: Stack,
 }
 
 impl Session {
@@ -43,7 +47,9 @@ impl Session {
             held: [Held::new(), Held::new()],
             at: 0,
             sheet: Vec::new(),
+            place: 0,
             printed: Vec::new(),
+            stack: Stack::Ample,
         }
     }
 
@@ -82,19 +88,15 @@ impl Session {
         self.make(Step::Open)
     }
 
-    /// Panics at a fault that is no 32-bit number.
     pub fn refine(&mut self, place: Vec<u8>, act: Act) -> Outcome {
         let (what, fault) = match act {
             Act::Independence => (0, 0),
-            Act::Fault(fault) => (1, u32::try_from(fault).expect("a 32-bit fault")),
+            Act::Fault(fault) => (1, fault),
         };
         self.make(Step::Refine(place, what, fault))
     }
 
-    /// Panics at limits that are no 32-bit and 16-bit numbers.
     pub fn run(&mut self, allowance: u64, budget: u64) -> Outcome {
-        let allowance = u32::try_from(allowance).expect("a 32-bit allowance");
-        let budget = u16::try_from(budget).expect("a 16-bit budget");
         self.make(Step::Run(allowance, budget))
     }
 
@@ -104,7 +106,8 @@ impl Session {
     }
 
     pub fn make(&mut self, step: Step) -> Outcome {
-        debug_assert_eq!(parse(&step.to_string()), Ok(vec![step.clone()]), "its text is the step");
+        // What a case that fails is written as makes the same steps again.
+        must("the step read from its text", &Ok(vec![step.clone()]), &parse(&step.to_string()))?;
         if let Some(trace) = &mut self.trace {
             writeln!(trace, "{step}").expect("a step told");
         }
@@ -114,7 +117,9 @@ impl Session {
             Step::Tree(which) => self.at = which.min(1),
             Step::Copy => self.held[1 - self.at] = self.held[self.at].clone(),
             Step::Poke(field, value) => self.poke(field, value),
-            Step::Sheet(bytes) => self.sheet = bytes,
+            Step::Lend(tree) => self.held[self.at].lent.tree = *tree,
+            Step::Sheet(bytes) => (self.sheet, self.place) = (bytes, 0),
+            Step::Stack => self.stack = Stack::Least,
             Step::Open => self.make_open()?,
             Step::Refine(place, what, fault) => self.make_refine(&place, what, fault)?,
             Step::Run(allowance, budget) => self.make_run(allowance, budget)?,
@@ -122,9 +127,13 @@ impl Session {
                 let records = self.records().nodes[..count.min(calls::RECORDS)].to_vec();
                 self.make_search(&records)?;
             }
-            Step::Records(records) => self.make_search(&records)?,
+            Step::Records(blank, records) => {
+                let blank = vec![calls::Node::default(); blank];
+                self.make_search(&[blank, records].concat())?;
+            }
             Step::Check => self.make_check()?,
             Step::Cue(position) => self.make_cue(position)?,
+            Step::Next => self.make_next()?,
             Step::Report(space) => self.make_report(space)?,
             Step::Write(lists, space) => self.make_write(&lists, space)?,
             Step::Told(figures) => self.claim_told(figures)?,
@@ -143,14 +152,14 @@ impl Session {
     }
 
     /// The library's answer, beside the reference's.
-    fn same_answer(&mut self, due: Answer, got: Answer) -> Outcome {
-        self.keep_answer(got);
+    fn same_answer(&mut self, call: Call, due: Answer, got: Answer) -> Outcome {
+        self.keep_answer(call, got);
         self.same("the answer", &due, &got)
     }
 
-    fn keep_answer(&mut self, answer: Answer) {
+    fn keep_answer(&mut self, call: Call, answer: Answer) {
         self.held[self.at].answer = answer;
-        self.tally.answered(answer.number, answer.verdict);
+        self.tally.answered(call, answer.number, answer.verdict);
     }
 
     /// Figures typed from the paper; only all five together are a comparison.

@@ -7,6 +7,7 @@ use crate::exact::Exact;
 use crate::lent::LentTree;
 use crate::records::{self, Refinement, Seen};
 use crate::step::Field;
+use crate::tally::Call;
 use reference::run::run;
 use reference::tree::{open, refine_by_hand, Entry};
 use reference::{Act, Answer, Table, Tree};
@@ -63,36 +64,41 @@ impl Session {
 
     pub(super) fn make_open(&mut self) -> Outcome {
         let held = &mut self.held[self.at];
-        let got = calls::open(&mut held.lent.tree, &self.table).into();
+        let got = self.stack.make(Call::Open, || calls::open(&mut held.lent.tree, &self.table)).into();
         let (due, tree) = open(&self.table);
         held.tree = tree;
         held.made = 0;
-        self.same_answer(due, got)?;
+        self.same_answer(Call::Open, due, got)?;
         self.same_tree()
     }
 
-    pub(super) fn make_refine(&mut self, place: &[u8], what: u8, fault: u32) -> Outcome {
+    pub(super) fn make_refine(&mut self, place: &[u8], what: u64, fault: u64) -> Outcome {
         let act = match what {
             0 => Act::Independence,
-            1 => Act::Fault(u64::from(fault)),
+            1 => Act::Fault(fault),
             _ => Act::Fault(u64::MAX), // as a fault that occurs nowhere
         };
+        let stack = self.stack;
         self.make_call(
-            |tree, table| calls::refine(tree, table, place, what, fault),
+            Call::Refine,
+            |tree, table| stack.make(Call::Refine, || calls::refine(tree, table, place, what, fault)),
             |tree, table| refine_by_hand(table, tree, place, act),
         )
     }
 
-    pub(super) fn make_run(&mut self, allowance: u32, budget: u16) -> Outcome {
+    pub(super) fn make_run(&mut self, allowance: u64, budget: u64) -> Outcome {
+        let stack = self.stack;
         self.make_call(
-            |tree, table| calls::run(tree, table, allowance, budget),
-            |tree, table| run(table, tree, allowance.into(), budget.into()),
+            Call::Run,
+            |tree, table| stack.make(Call::Run, || calls::run(tree, table, allowance, budget)),
+            |tree, table| run(table, tree, allowance, budget),
         )
     }
 
     /// A hand refinement or a run: refused, the tree stays byte for byte.
     fn make_call(
         &mut self,
+        call: Call,
         library: impl Fn(&mut calls::Tree, &Table) -> calls::Answer,
         reference: impl Fn(&mut Tree, &Table) -> Answer,
     ) -> Outcome {
@@ -102,7 +108,7 @@ impl Session {
         let got: Answer = library(&mut held.lent.tree, &self.table).into();
         let due = reference(&mut held.tree, &self.table);
         held.made += got.count;
-        self.same_answer(due, got)?;
+        self.same_answer(call, due, got)?;
         if due.number != 0 {
             return self.same_bytes(&before);
         }

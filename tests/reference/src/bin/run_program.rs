@@ -3,19 +3,21 @@
 //! the same. The input that fails is left in the file FAILED.
 
 use reference::files::stored;
-use reference::paper::{ring, whole_sheet};
+use reference::paper::{done_and_full, ring, whole_sheet};
 use reference::random::Random;
-use reference::report::report;
-use reference::sheet::{encode, Sheet};
+use reference::report::{enclosing_lines, report};
+use reference::sheet::{encode, of_one_cue};
 use std::io::Write;
 use std::process::{Command, Stdio};
 use std::{env, fs, io};
 
-/// The program under test, where a failing input goes, and how many inputs it was run on.
+/// The program under test, where a failing input goes, how many inputs it was run on, and how many of its lines were
+/// set beside the count over all assignments.
 struct Program<'a> {
     path: &'a str,
     failed: &'a str,
     runs: usize,
+    counted: usize,
 }
 
 impl Program<'_> {
@@ -40,30 +42,28 @@ impl Program<'_> {
 
     fn check(&mut self, name: &str, bytes: &[u8]) -> io::Result<()> {
         self.runs += 1;
-        let expected = report(bytes);
-        match self.printed(bytes) {
-            Ok(printed) if printed == expected.as_bytes() => Ok(()),
-            other => {
+        match self.judged(bytes) {
+            Ok(lines) => {
+                self.counted += lines;
+                Ok(())
+            }
+            Err(told) => {
                 fs::write(self.failed, bytes)?;
-                let printed = other.map(|text| String::from_utf8_lossy(&text).into_owned());
-                let told = format!("{name}: expected {expected:?}, the program: {printed:?}");
-                Err(io::Error::other(told))
+                Err(io::Error::other(format!("{name}: {told}")))
             }
         }
     }
-}
 
-/// A sheet whose one cue takes all 255 refinements, so that its run ends full.
-fn full() -> Sheet {
-    let table = ring();
-    Sheet {
-        cues: vec![1],
-        counts: vec![table.present.len() as u16],
-        weights: table.weights,
-        present: table.present,
-        absent: table.absent,
-        allowance: 0,
-        budget: 255,
+    /// How many lines were counted, or in words what is wrong.
+    fn judged(&self, bytes: &[u8]) -> Result<usize, String> {
+        let expected = report(bytes);
+        match self.printed(bytes) {
+            Ok(printed) if printed == expected.as_bytes() => enclosing_lines(bytes, &expected),
+            other => {
+                let printed = other.map(|text| String::from_utf8_lossy(&text).into_owned());
+                Err(format!("expected {expected:?}, the program: {printed:?}"))
+            }
+        }
     }
 }
 
@@ -125,12 +125,15 @@ fn main() -> io::Result<()> {
         path,
         failed,
         runs: 0,
+        counted: 0,
     };
     let mut random = Random::new(20);
     for i in 0..count {
         program.check(&format!("seeded sheet {i}"), &sheet(&mut random, i))?;
     }
-    program.check("full", &encode(&full()))?;
+    program.check("full", &encode(&of_one_cue(ring(), 255)))?;
+    let done = encode(&of_one_cue(done_and_full(), 255));
+    program.check("done before full", &done)?;
     let paper = encode(&whole_sheet(40));
     cut(&mut program, "paper", &paper)?;
     damage(&mut program, "paper", &paper)?;
@@ -145,8 +148,8 @@ fn main() -> io::Result<()> {
     program.check("longest with zeros behind", &longer)?;
     noise(&mut program, &mut random)?;
     println!(
-        "{} inputs: the program prints what the reference does",
-        program.runs
+        "{} inputs: the program prints what the reference does; {} lines beside the count",
+        program.runs, program.counted
     );
     Ok(())
 }

@@ -1,0 +1,52 @@
+//! Every function of the library on the largest that it can be handed, in a thread with no more stack than the header says
+//! that a call may need. Trees, tables and spaces lie elsewhere.
+
+use super::{run_told, told_number};
+use crate::bench::Bench;
+use crate::calls::{Node, RECORDS};
+use crate::session::{Outcome, Session};
+use crate::step::Step;
+use reference::paper::{every_fault_named, largest_ring, stairs, H};
+use reference::sheet::{encode, Sheet};
+use reference::{Act, FULL, LONGEST_SHEET, MOST_CUES, MOST_WAYS, NONE, SPENT};
+
+pub fn stack(bench: &mut Bench) -> Outcome {
+    bench.case("the largest tables and a full tree", |session, _| trees(session))?;
+    bench.case("the longest sheet", |session, _| longest(session))
+}
+
+fn trees(session: &mut Session) -> Outcome {
+    session.make(Step::Stack)?;
+    session.opened(every_fault_named(H))?;
+    session.refine(vec![], Act::Fault(63))?;
+    told_number(session, 0)?;
+    session.opened(largest_ring())?;
+    run_told(session, (0, 254), 0, SPENT)?;
+    run_told(session, (0, 255), 0, FULL)?;
+    session.make(Step::Widest(RECORDS))?;
+    session.refine(vec![1; 64], Act::Fault(63))?;
+    session.make(Step::Records(1 << 16, vec![Node { kind: 1, live: 1, high: 1, ..Node::default() }]))
+}
+
+/// All 24 cues have 128 ways. The runs of the first 23 are done at once, the last one ends full.
+fn longest(session: &mut Session) -> Outcome {
+    let (certain, ring) = (stairs(), largest_ring());
+    let words = |first: &[u64], last: &[u64]| [first.repeat(MOST_CUES - 1), last.to_vec()].concat();
+    let lists = Sheet {
+        weights: ring.weights,
+        cues: (1..=MOST_CUES as u16).collect(),
+        counts: vec![MOST_WAYS as u16; MOST_CUES],
+        present: words(&certain.present, &ring.present),
+        absent: words(&certain.absent, &ring.absent),
+        allowance: 0,
+        budget: 255,
+    };
+    session.make(Step::Stack)?;
+    session.make(Step::Write(lists.clone(), LONGEST_SHEET))?;
+    session.told(0, (0, reference::S), LONGEST_SHEET as u64, NONE)?;
+    session.make(Step::Sheet(encode(&lists)))?;
+    session.make(Step::Check)?;
+    told_number(session, 0)?;
+    session.make(Step::Cue(MOST_CUES - 1))?;
+    session.make(Step::Report(1 << 16))
+}

@@ -1,0 +1,39 @@
+//! The least that all families together must have met: every number of every call that it concerns, and every verdict.
+//! The least comparisons of a family stand beside its name (`families`).
+
+use crate::tally::{Call, Tally};
+use reference::{DONE, FULL, MET, SPENT};
+
+/// For each call the numbers that concern it, 0 for accepted, and how often each must have been given.
+const NUMBERS: [(Call, u64, &[u64]); 7] = [
+    (Call::Open, 30, &[0, 9, 10, 11, 12, 13]),
+    (Call::Refine, 30, &[0, 9, 10, 11, 12, 13, 16, 17, 18, 19, 20]),
+    (Call::Run, 30, &[0, 9, 10, 11, 12, 13, 14, 15, 16]),
+    (Call::Check, 100, &[0, 1, 2, 3, 4, 5, 6, 7, 8, 10, 12, 13, 14, 15]),
+    (Call::Cue, 100, &[0, 1, 2, 3, 4, 5, 6, 7, 8, 10, 12, 13, 14, 15]),
+    (Call::Write, 100, &[0, 2, 5, 6, 10, 12, 13, 14, 15, 21, 22]),
+    (Call::Report, 100, &[0, 22]),
+];
+
+/// The verdicts of runs, and how often each must have been given.
+const VERDICTS: [(u64, u64); 4] = [(MET, 1000), (DONE, 1000), (FULL, 50), (SPENT, 1000)];
+
+/// Whether all of it was met often enough; what was not is printed.
+pub fn is_met(tally: &Tally) -> bool {
+    let mut enough = true;
+    let mut judge = |what: String, times: u64, least: u64| {
+        if times < least {
+            enough = false;
+            println!("{what}: {times} times, and {least} at least are due");
+        }
+    };
+    for (call, least, numbers) in NUMBERS {
+        for &number in numbers {
+            judge(format!("{} with {number}", call.name()), tally.met(call, number), least);
+        }
+    }
+    for (verdict, least) in VERDICTS {
+        judge(format!("verdict {verdict}"), tally.met_verdict(verdict), least);
+    }
+    enough
+}
