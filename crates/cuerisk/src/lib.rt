@@ -1,6 +1,6 @@
 //! The C interface (include/cue_risk.h): trees, slices and spaces are lent and written where they are, answers are handed back as plain numbers.
 //! Each export is one call of `dtree`, `page`, `sheet`, `writer` or `report`, and carries its promise whole (specs/Told.antt); specs/Numbers.antt
-//! says which numbers stand for which answer. No enum crosses this border.
+//! says which numbers stand for which answer. No enum crosses this border, and a number that a rule judges crosses it whole, in 64 bits.
 mod numbers;
 mod reports;
 
@@ -98,7 +98,7 @@ pub extern "C" fn cue_open(
 }
 
 /// Refines one leaf of the tree. The place is a list of steps from the root, 0 for left and 1 for right; `what` is 0 for
-/// independence and 1 for the fault.
+/// independence and 1 for the fault. Any other `what`, and any fault from 64 on, is refused by 20 where nothing before refuses.
 #[no_mangle]
 pub extern "C" fn cue_refine(
     tree: &mut Words,
@@ -106,8 +106,8 @@ pub extern "C" fn cue_refine(
     present: &[u64],
     absent: &[u64],
     place: &[u8],
-    what: u8,
-    fault: u32,
+    what: u64,
+    fault: u64,
 ) -> CueAnswer
     ensures promise { λ r. ⌜ RefiningTold (table (now (weights .entry)) (now (present .entry)) (now (absent .entry)))
         (treeOf (now (tree .entry))) (now (place .entry)) (kindAsked what fault) (treeOf (now (tree .exit))) r ⌝ }
@@ -123,8 +123,8 @@ pub extern "C" fn cue_run(
     weights: &[u32],
     present: &[u64],
     absent: &[u64],
-    allowance: u32,
-    budget: u16,
+    allowance: u64,
+    budget: u64,
 ) -> CueAnswer
     ensures promise { λ r. ⌜ RunningTold (table (now (weights .entry)) (now (present .entry)) (now (absent .entry)))
         (treeOf (now (tree .entry))) (record { allowance = allowance; budget = budget }) (treeOf (now (tree .exit))) r ⌝ }
@@ -177,8 +177,8 @@ pub extern "C" fn cue_sheet_write(
     counts: &[u16],
     present: &[u64],
     absent: &[u64],
-    allowance: u32,
-    budget: u16,
+    allowance: u64,
+    budget: u64,
     space: &mut [u8],
 ) -> CueAnswer
     ensures promise { λ r. ⌜ WritingTold (given (now (weights .entry)) (now (numbers .entry)) (now (counts .entry)) (now (present .entry)) (now (absent .entry))

@@ -16,11 +16,12 @@ use rules::Figures;
 use rules::Kind;
 use rules::ReadAnswer;
 use rules::RunAnswer;
+use rules::S;
 use rules::Verdict;
 use rules::WriteAnswer;
 
 /// The refinement asked for: 0 is independence, 1 the fault. Any other number asks for fault 64, which no table has: 20.
-pub fn kind_asked(what: u8, fault: u32) -> Kind
+pub fn kind_asked(what: u64, fault: u64) -> Kind
     ensures { λ r. ⌜ r ≡ kindAsked what fault ⌝ }
 {
     if what == 0 {
@@ -51,7 +52,7 @@ fn refused(n: u8) -> CueAnswer
     CueAnswer {
         number: n as u64,
         low: 0,
-        high: 1000000000,
+        high: S,
         count: 0,
         verdict: 0,
     }
@@ -111,8 +112,8 @@ pub fn of_read(a: ReadAnswer) -> CueSheet
                 number: 0,
                 faults: h.faults as u64,
                 cues: h.cues as u64,
-                allowance: m.allowance as u64,
-                budget: m.budget as u64,
+                allowance: m.allowance,
+                budget: m.budget,
             }
         }
         ReadAnswer::Refused(n) => CueSheet {
@@ -197,7 +198,7 @@ pub fn of_write(a: WriteAnswer) -> CueAnswer
         WriteAnswer::Written(n) => CueAnswer {
             number: 0,
             low: 0,
-            high: 1000000000,
+            high: S,
             count: n,
             verdict: 0,
         },

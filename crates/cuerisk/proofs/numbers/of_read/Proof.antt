@@ -15,20 +15,14 @@ cast-t6 c = search needs
 cast-t7 : tie.Need-cast-t7
 cast-t7 c = search needs
 
-cast-t8 : tie.Need-cast-t8
-cast-t8 c = search needs
-
-cast-t9 : tie.Need-cast-t9
-cast-t9 c = search needs
-
 enum-known-a-2 : tie.Need-enum-known-a-2
 enum-known-a-2 c = search needs
 
-cast-t10 : tie.Need-cast-t10
-cast-t10 c = search needs
+cast-t8 : tie.Need-cast-t8
+cast-t8 c = search needs
 
 returns : tie.Need-returns
-returns c = sym (ap flatSheet (c .before .before .before .before .before .before .a .given .1))
+returns c = sym (ap flatSheet (c .before .before .before .before .a .given .1))
 
 returns-2 : tie.Need-returns-2
 returns-2 c = sym (ap flatSheet (c .before .a2 .given .1))
@@ -40,9 +34,7 @@ of-read-spec =
     enum-known-a
     cast-t6
     cast-t7
-    cast-t8
-    cast-t9
     enum-known-a-2
-    cast-t10
+    cast-t8
     returns
     returns-2)
