@@ -1,5 +1,5 @@
 -- What each call of the library promises: its tree and its answer are the defined ones, and the claims that a reader cares for.
--- Rests on `records`, Library, on `rules`, Calls and Answers, and on `rules`, Table, for the exact sum.
+-- Rests on `records`, Library, on `rules`, Calls and Answers, on `rules`, Table, for the exact sum, and on its Leaf and Tree for every place.
 use mathlib.Core.Path.{_≡_}
 use mathlib.Core.Bool.{false}
 use mathlib.Core.List.{List, [], _∷_, _++_}
