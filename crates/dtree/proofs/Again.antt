@@ -131,13 +131,15 @@ module _ (t : Table) (x y z : Tree) (next : ℕ) (e : next ≡ y .used) where
       told : r ≡ eqb (recordIn (y .nodes) (nextAt x y) .live) 1 && possible (nextKind x y) (recordWays t (recordIn (y .nodes) (nextAt x y)))
       told =
           may
-          ∙ ap₂ (λ (a b : Node). eqb (b .live) 1 && possible (kindOf a) (recordWays t b)) (g ∙ ap (recordIn (x .nodes)) at-is) (h ∙ ap (recordIn (y .nodes)) at-is)
+          ∙ ap₂ (λ (a b : Node). eqb (b .live) 1 && possible (kindOf a) (recordWays t b))
+          (g ∙ ap (recordIn (x .nodes)) at-is) (h ∙ ap (recordIn (y .nodes)) at-is)
 
       -- The leaf is closed, or what the record tells is not possible.
       pub cannot : r ≡ false → Remade t x y z false
       unfolding mayAt
       cannot f =
-          unmade t x y z (by (eqb (recordIn (y .nodes) (nextAt x y) .live) 1) (possible (nextKind x y) (recordWays t (recordIn (y .nodes) (nextAt x y)))) (sym told ∙ f))
+          let leaf = recordIn (y .nodes) (nextAt x y) in
+          unmade t x y z (by (eqb (leaf .live) 1) (possible (nextKind x y) (recordWays t leaf)) (sym told ∙ f))
         where
           by : (b d : Bool) → b && d ≡ false → ltb (nextAt x y) (y .used) && (b && (ltb (y .used) 511 && d)) ≡ false
           by true d h = rw (h, and-false (ltb (y .used) 511)) (and-false (ltb (nextAt x y) (y .used)))
@@ -148,7 +150,9 @@ module _ (t : Table) (x y z : Tree) (next : ℕ) (e : next ≡ y .used) where
           → z .used ≡ y .used + 2 → Safe (z .nodes) → Accepted t → Good t y → Remade t x y z true
       unfolding mayAt
       can o room inside k d w u s ok good-before =
-          let yes : mayNext t x y ≡ true = rw (lt-ltb (nextAt x y) (y .used) (omega (arith, e, at-is, inside)), lt-ltb (y .used) 511 (omega (arith, e, room))) (sym told ∙ o) in
+          let there = lt-ltb (nextAt x y) (y .used) (omega (arith, e, at-is, inside)) in
+          let roomy = lt-ltb (y .used) 511 (omega (arith, e, room)) in
+          let yes : mayNext t x y ≡ true = rw (there, roomy) (sym told ∙ o) in
           let so : z .nodes ≡ grownAt t (y .nodes) (y .used) (nextAt x y) (nextKind x y) =
           w ∙ ap₂ (grownAt t (y .nodes) (y .used)) at-is (d ∙ ap kindOf (g ∙ ap (recordIn (x .nodes)) at-is)) in
           record {

@@ -38,7 +38,8 @@ grown-layout t ok ns h n a j e y f u =
     λ i. record { nodes = nodes-are i; used = used-is i }
 
 -- What an accepted hand refinement makes.
-pub made-one : (t : Table) (s : DTree) (bs : List ℕ) (k : Kind) (n : Refinement) → handNumber t false s bs k ≡ 0 → handMakes bs k ≡ n ∷ [] → makes t s (byHand bs k) ≡ n ∷ []
+pub made-one : (t : Table) (s : DTree) (bs : List ℕ) (k : Kind) (n : Refinement) → handNumber t false s bs k ≡ 0 → handMakes bs k ≡ n ∷ []
+    → makes t s (byHand bs k) ≡ n ∷ []
 unfolding makes makesBy callNumber wouldMake
 made-one t s bs k n z e = ap (λ (m : ℕ). makesBy m (handMakes bs k)) z ∙ e
 
@@ -65,8 +66,9 @@ module _ (t : Table) (ok : Accepted t) (x : Tree) (g : Good t x) (b : bad t x �
       ∙ sym (weightless t x bs k) ∙ e
 
   -- The refinement is made.
-  pub made : (j : ℕ) → Refinable (wordTable (t .present) (t .absent)) x bs k j → (y : Tree) → y .nodes ≡ grownAt t (x .nodes) (x .used) j k → y .used ≡ x .used + 2
-      → (top : Node) → top ≡ rootOf y → Called t x (byHand bs k) y (handed (Answer.Accepted (record { low = top .low; high = top .high; count = 1 })))
+  pub made : (j : ℕ) → Refinable (wordTable (t .present) (t .absent)) x bs k j → (y : Tree) → y .nodes ≡ grownAt t (x .nodes) (x .used) j k
+      → y .used ≡ x .used + 2 → (top : Node) → top ≡ rootOf y
+      → Called t x (byHand bs k) y (handed (Answer.Accepted (record { low = top .low; high = top .high; count = 1 })))
   made j r y e u top o = called t x (byHand bs k) y _ tree-is outcome-is
     where
       h : series t ns ≡ true
@@ -91,10 +93,11 @@ module _ (t : Table) (ok : Accepted t) (x : Tree) (g : Good t x) (b : bad t x �
 
       tree-is : y ≡ callTree t x (byHand bs k)
       tree-is =
-          grown ∙ ap (λ (ms : List Refinement). layout t (ns ++ ms)) (sym (made-one t (tree ns) bs k n zeroed (w .makes))) ∙ sym (call-tree t ns h (byHand bs k))
-          ∙ ap (λ (z : Tree). callTree t z (byHand bs k)) (sym (g .is))
+          grown ∙ ap (λ (ms : List Refinement). layout t (ns ++ ms)) (sym (made-one t (tree ns) bs k n zeroed (w .makes)))
+          ∙ sym (call-tree t ns h (byHand bs k)) ∙ ap (λ (z : Tree). callTree t z (byHand bs k)) (sym (g .is))
 
       outcome-is : handed (Answer.Accepted (record { low = top .low; high = top .high; count = 1 })) ≡ callOutcome t x (byHand bs k)
       outcome-is =
           ap (λ (m : Node). handed (Answer.Accepted (record { low = m .low; high = m .high; count = 1 }))) (o ∙ ap rootOf grown)
-          ∙ sym (said-one t ns bs k n zeroed (w .makes)) ∙ sym (call-outcome t ns h (byHand bs k)) ∙ ap (λ (z : Tree). callOutcome t z (byHand bs k)) (sym (g .is))
+          ∙ sym (said-one t ns bs k n zeroed (w .makes)) ∙ sym (call-outcome t ns h (byHand bs k))
+          ∙ ap (λ (z : Tree). callOutcome t z (byHand bs k)) (sym (g .is))

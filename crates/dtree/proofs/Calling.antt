@@ -13,7 +13,8 @@ use Rattle.rules.specs.Tree.{DTree, leaf, Refinement, tree, low, high, series, 
 use Rattle.rules.specs.Run.{verdict}
 use Rattle.rules.specs.Refusals.{Refusal, refusal, first, tableRefusals, wayRefusals, limitRefusals, tableNumber, Accepted}
 use Rattle.rules.specs.Answers.{Reply, refused, accepted, answerReply, runReply}
-use Rattle.rules.specs.Calls.{handNumber, runNumber, handRefusals, runRefusals, handAnswer, runAnswer, answerBy, runAnswerBy, Call, byHand, byRun, Outcome, handed, ran, reply, callNumber, outcome, makes, makesBy, wouldMake, handMakes, runMakes, figures}
+use Rattle.rules.specs.Calls.{handNumber, runNumber, handRefusals, runRefusals, handAnswer, runAnswer, answerBy, runAnswerBy, figures}
+use Rattle.rules.specs.Calls.{Call, byHand, byRun, Outcome, handed, ran, reply, callNumber, outcome, makes, makesBy, wouldMake, handMakes, runMakes}
 use Rattle.rules.proofs.First.{numbered, none-applies, first-here, first-after, first-before}
 use Rattle.rules.proofs.Series.{grow-append}
 use Rattle.rules.proofs.Demand3.{HandsBack, hands-back, report-is}
@@ -68,7 +69,8 @@ free t x (byRun m) h =
 -- ---- accepted
 
 -- On the tree of a series the number is the rules' own.
-pub number-is : (t : Table) (ns : List Refinement) → series t ns ≡ true → (x : Tree) → x ≡ layout t ns → bad t x ≡ false → (c : Call) → numberOf t x c ≡ callNumber t (tree ns) c
+pub number-is : (t : Table) (ns : List Refinement) → series t ns ≡ true → (x : Tree) → x ≡ layout t ns → bad t x ≡ false → (c : Call)
+    → numberOf t x c ≡ callNumber t (tree ns) c
 unfolding numberOf callNumber
 number-is t ns h x e b (byHand bs k) =
     ap₂ (λ (o : Bool) (r : List Refinement). handNumber t o (tree r) bs k) b (ap history e ∙ history-layout t ns h)
@@ -139,7 +141,8 @@ pub refused-outcome : (t : Table) (x : Tree) (c : Call) (n : ℕ) → numberOf t
 unfolding numberOf callOutcome handAnswer runAnswer answerBy runAnswerBy
 refused-outcome t x (byHand bs k) n e = ap (λ (m : ℕ). handed (answerBy m (figures t (tree (history x)) (handMakes bs k)))) e
 refused-outcome t x (byRun l) n e =
-    ap (λ (m : ℕ). ran (runAnswerBy m (verdict t (l .allowance) (l .budget) (tree (history x))) (figures t (tree (history x)) (runMakes t (tree (history x)) l)))) e
+    let s = tree (history x) in
+    ap (λ (m : ℕ). ran (runAnswerBy m (verdict t (l .allowance) (l .budget) s) (figures t s (runMakes t s l)))) e
 
 -- In the reply too, with nought to the full billion and count 0.
 refused-reply : (t : Table) (x : Tree) (c : Call) (n : ℕ) → numberOf t x c ≡ suc n → reply (callOutcome t x c) ≡ refused (suc n)
@@ -153,7 +156,8 @@ accepted-number : (t : Table) (x : Tree) (c : Call) → numberOf t x c ≡ 0 →
 unfolding numberOf callOutcome handAnswer runAnswer answerBy runAnswerBy
 accepted-number t x (byHand bs k) e = ap (λ (m : ℕ). answerReply (answerBy m (figures t (tree (history x)) (handMakes bs k))) .number) e
 accepted-number t x (byRun l) e =
-    ap (λ (m : ℕ). runReply (runAnswerBy m (verdict t (l .allowance) (l .budget) (tree (history x))) (figures t (tree (history x)) (runMakes t (tree (history x)) l))) .number) e
+    let s = tree (history x) in
+    ap (λ (m : ℕ). runReply (runAnswerBy m (verdict t (l .allowance) (l .budget) s) (figures t s (runMakes t s l))) .number) e
 
 -- WHAT THE DEFINITIONS PROMISE.
 promised : (t : Table) (x : Tree) (c : Call) → Called t x c (callTree t x c) (callOutcome t x c)

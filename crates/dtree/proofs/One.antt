@@ -8,7 +8,8 @@ use Prim.Native.Nat.{ℕ}
 use native.Mathlib.Omega.{arith}
 use lib.ListN.{length-append}
 use Rattle.rules.specs.Table.{Table}
-use Rattle.rules.specs.Tree.{left, right, Place, Refinement, leaf, tree, grow, refine, series, acceptable, leafAt, kindAt, Subtree, subtree, root, Interval, interval, intervalAt}
+use Rattle.rules.specs.Tree.{left, right, Place, Refinement, leaf, tree, grow, refine, series, acceptable}
+use Rattle.rules.specs.Tree.{leafAt, kindAt, Subtree, subtree, root, Interval, interval, intervalAt}
 use Rattle.rules.specs.Refusals.{Accepted}
 use Rattle.rules.specs.Calls.{handNumber, callNumber, byHand, handed, makes, placeOf}
 use Rattle.rules.specs.declared.Kind.{Kind}
@@ -34,7 +35,9 @@ leaf-seen t ns p l =
     let y = has-subtree p (root t) (tree ns) (leaf-has p (tree ns) l) in
     record {
       stands = interval (t .weights) (y .0);
-      shown = seen-interval t ns p ∙ ap (λ (o : Option Subtree). elim o as (λ o. Option Interval) [ none ↦ none | some z ↦ some (interval (t .weights) z) ]) (y .1);
+      shown =
+          seen-interval t ns p
+          ∙ ap (λ (o : Option Subtree). elim o as (λ o. Option Interval) [ none ↦ none | some z ↦ some (interval (t .weights) z) ]) (y .1);
       undone = seen-kind t ns p ∙ leaf-undone p (tree ns) l;
     }
 

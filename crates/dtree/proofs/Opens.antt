@@ -22,7 +22,8 @@ use Rattle.dtree.proofs.Stored.{every-place}
 
 -- The root leaf's record, from what stays of the ways of the table.
 pub root-record : (t : Table)
-    → freshRecord (record { weights = t .weights; present = []; absent = [] }) (record { set = []; present = 0; absent = 0; ways = rootWays t }) 0 ≡ recordAt t [] []
+    → freshRecord (record { weights = t .weights; present = []; absent = [] }) (record { set = []; present = 0; absent = 0; ways = rootWays t }) 0
+    ≡ recordAt t [] []
 unfolding recordAt grow kindAt subtree subtreeOr places above leftCode position samePlace descend ways
 root-record t = refl
 
@@ -52,12 +53,14 @@ refuses t (suc n) x e f g =
     }
 
 -- The answer with that record's interval is the defined one.
-root-figures : (t : Table) → Accepted t → (x : Node) → x ≡ recordAt t [] [] → Answer.Accepted (record { low = x .low; high = x .high; count = 0 }) ≡ openAnswer t
+root-figures : (t : Table) → Accepted t → (x : Node) → x ≡ recordAt t [] []
+    → Answer.Accepted (record { low = x .low; high = x .high; count = 0 }) ≡ openAnswer t
 unfolding openAnswer answerBy figures low high grow recordAt kindAt subtree subtreeOr descend
 root-figures t ok x e = rw (e, ok)
 
 -- A table without refusal is opened with its root leaf's record.
-pub opens : (t : Table) → Accepted t → (x : Node) (y : Tree) → x ≡ recordAt t [] [] → y ≡ oneRecord x → Opening t y (Answer.Accepted (record { low = x .low; high = x .high; count = 0 }))
+pub opens : (t : Table) → Accepted t → (x : Node) (y : Tree) → x ≡ recordAt t [] [] → y ≡ oneRecord x
+    → Opening t y (Answer.Accepted (record { low = x .low; high = x .high; count = 0 }))
 unfolding openAnswer answerBy seriesFrom
 opens t ok x y e f =
     let a = root-figures t ok x e in
