@@ -1,9 +1,9 @@
 // The calls on a tree, and the report on a sheet, from Rust. Built and run, in the folder of this file:
 //
-//   rustc --edition 2021 table.rs -L ../target/staticlib -l static=capi -o table
+//   rustc --edition 2021 table.rs -L ../target/staticlib -l static=cuerisk -o table
 //   ./table ../samples/show.sheet
 //
-// `rt staticlib capi` makes the library. The declarations repeat those of ../include/cue_risk.h.
+// `rt staticlib cuerisk` makes the library. The declarations repeat those of ../include/cue_risk.h.
 use std::io::Write;
 
 #[repr(C)]
@@ -69,8 +69,8 @@ mod c {
             nq: usize,
             place: *const u8,
             nplace: usize,
-            what: u8,
-            fault: u32,
+            what: u64,
+            fault: u64,
         ) -> Answer;
         pub fn cue_run(
             tree: &mut Tree,
@@ -80,8 +80,8 @@ mod c {
             np: usize,
             q: *const u64,
             nq: usize,
-            allowance: u32,
-            budget: u16,
+            allowance: u64,
+            budget: u64,
         ) -> Answer;
         pub fn cue_widest(records: *const Node, n: usize) -> Spot;
         pub fn cue_sheet_report(sheet: *const u8, n: usize, space: *mut u8, nspace: usize) -> Answer;
@@ -94,12 +94,12 @@ fn open(tree: &mut Tree, t: &Table) -> Answer {
     unsafe { c::cue_open(tree, t.weights.as_ptr(), t.weights.len(), t.present.as_ptr(), t.present.len(), t.absent.as_ptr(), t.absent.len()) }
 }
 
-fn refine(tree: &mut Tree, t: &Table, place: &[u8], what: u8, fault: u32) -> Answer {
+fn refine(tree: &mut Tree, t: &Table, place: &[u8], what: u64, fault: u64) -> Answer {
     let (w, p, q) = (t.weights, t.present, t.absent);
     unsafe { c::cue_refine(tree, w.as_ptr(), w.len(), p.as_ptr(), p.len(), q.as_ptr(), q.len(), place.as_ptr(), place.len(), what, fault) }
 }
 
-fn run(tree: &mut Tree, t: &Table, allowance: u32, budget: u16) -> Answer {
+fn run(tree: &mut Tree, t: &Table, allowance: u64, budget: u64) -> Answer {
     let (w, p, q) = (t.weights, t.present, t.absent);
     unsafe { c::cue_run(tree, w.as_ptr(), w.len(), p.as_ptr(), p.len(), q.as_ptr(), q.len(), allowance, budget) }
 }

@@ -1,16 +1,19 @@
 #!/bin/bash
 # Measures the library, through its C interface, against the same rules and loops in Rust: prints the tables of docs/PERFORMANCE.md.
-# Usage: tests/bench.sh [stack | once library|rust FAMILY | beside ARCHIVE]; the library is target/staticlib/libcapi.a (rt staticlib capi),
-# or the libcapi.a in the folder that CUE_RISK_LIB names. `beside` measures the libcapi.a of another build and the library, in turn.
+# Usage: tests/bench.sh [stack | once library|rust FAMILY | beside ARCHIVE]; the library is target/staticlib/libcuerisk.a, built first,
+# or the libcuerisk.a in the folder that CUE_RISK_LIB names. `beside` measures the archive of another build and the library, in turn.
 set -e
 here=$(realpath "$(dirname "$0")")
+if [ -z "$CUE_RISK_LIB" ]; then
+    (cd "$here/.." && rt staticlib cuerisk)
+fi
 if [ "$1" = beside ]; then
     made=$here/bench/target/beside
     mkdir -p "$made"
     # One program has both: the other's symbols are renamed, and all functions aligned, so that their places in it make no difference.
     renamed=$(nm "$2" | sed -n 's/.* T \(.*\)/--redefine-sym=\1=other_\1/p')
     objcopy --set-section-alignment '.text.*=64' $renamed "$2" "$made/libother.a"
-    objcopy --set-section-alignment '.text.*=64' "${CUE_RISK_LIB:-$here/../target/staticlib}/libcapi.a" "$made/libcapi.a"
+    objcopy --set-section-alignment '.text.*=64' "${CUE_RISK_LIB:-$here/../target/staticlib}/libcuerisk.a" "$made/libcuerisk.a"
     export CUE_RISK_LIB=$made CARGO_TARGET_DIR=$made
     set -- beside
 fi

@@ -34,8 +34,8 @@ macro_rules! build {
                 presents: usize,
                 absent: *const u64,
                 absents: usize,
-                allowance: u32,
-                budget: u16,
+                allowance: u64,
+                budget: u64,
             ) -> Answer;
         }
 
@@ -64,7 +64,7 @@ macro_rules! build {
             }
         }
 
-        pub fn run(tree: &mut Tree, table: &Table, allowance: u32, budget: u16) -> Answer {
+        pub fn run(tree: &mut Tree, table: &Table, allowance: u64, budget: u64) -> Answer {
             // Sound: as above.
             unsafe {
                 cue_run(

@@ -132,12 +132,12 @@ fn heading(first: &str) {
 // Runs in pieces: each call builds the tree again for 16
 
 type Open = fn(&mut Tree, &Table) -> Answer;
-type Run = fn(&mut Tree, &Table, u32, u16) -> Answer;
+type Run = fn(&mut Tree, &Table, u64, u64) -> Answer;
 type Calls = (Open, Run);
 type Rows = (Vec<u32>, Vec<u64>, Vec<u64>);
 
 /// A table opened and run in eight pieces of the budget; the tree and the answers of the calls.
-fn pieces((open, run): Calls, rows: &Rows, budget: u16, tree: &mut Tree) -> [Answer; 8] {
+fn pieces((open, run): Calls, rows: &Rows, budget: u64, tree: &mut Tree) -> [Answer; 8] {
     let (weights, present, absent) = rows;
     let table = Table {
         weights,
@@ -149,7 +149,7 @@ fn pieces((open, run): Calls, rows: &Rows, budget: u16, tree: &mut Tree) -> [Ans
 }
 
 /// Microseconds of the eight calls.
-fn measure_pieces(sides: [Calls; 2], rows: &Rows, budget: u16) -> Medians {
+fn measure_pieces(sides: [Calls; 2], rows: &Rows, budget: u64) -> Medians {
     let mut tree = Tree::new();
     in_turn(sides, |calls| {
         let start = clock::now();

@@ -80,12 +80,12 @@ fn choose(table: &Table, ways: &Clauses) -> Kind {
 }
 
 /// 9 to 15, or 0.
-fn run_number(table: &Table, allowance: u32, budget: u16) -> u64 {
+fn run_number(table: &Table, allowance: u64, budget: u64) -> u64 {
     let number = table_number(table);
     if number != 0 {
         return number;
     }
-    if u64::from(allowance) > S {
+    if allowance > S {
         return 14;
     }
     if budget > 255 {
@@ -95,11 +95,11 @@ fn run_number(table: &Table, allowance: u32, budget: u16) -> u64 {
 }
 
 /// The run itself, on a good tree where none of 9 to 15 applies.
-fn run_good(tree: &mut Tree, table: &Table, allowance: u32, budget: u16) -> Answer {
+fn run_good(tree: &mut Tree, table: &Table, allowance: u64, budget: u64) -> Answer {
     let mut count = 0;
     let verdict = loop {
         let root = &tree.nodes[0];
-        if root.high.saturating_sub(root.low) <= u64::from(allowance) {
+        if root.high.saturating_sub(root.low) <= allowance {
             break MET;
         }
         let Some(at) = tree.widest() else {
@@ -108,7 +108,7 @@ fn run_good(tree: &mut Tree, table: &Table, allowance: u32, budget: u16) -> Answ
         if tree.used == MOST_NODES {
             break FULL;
         }
-        if count == u64::from(budget) {
+        if count == budget {
             break SPENT;
         }
         let ways = tree.ways(table, at);
@@ -125,7 +125,7 @@ fn run_good(tree: &mut Tree, table: &Table, allowance: u32, budget: u16) -> Answ
     }
 }
 
-pub fn run(tree: &mut Tree, table: &Table, allowance: u32, budget: u16) -> Answer {
+pub fn run(tree: &mut Tree, table: &Table, allowance: u64, budget: u64) -> Answer {
     let number = run_number(table, allowance, budget);
     if number != 0 {
         return refused(number);
@@ -137,7 +137,7 @@ pub fn run(tree: &mut Tree, table: &Table, allowance: u32, budget: u16) -> Answe
 }
 
 /// What one run answers on the root leaf of a table, on a tree of its own.
-pub fn run_afresh(table: &Table, allowance: u32, budget: u16) -> Answer {
+pub fn run_afresh(table: &Table, allowance: u64, budget: u64) -> Answer {
     let number = run_number(table, allowance, budget);
     if number != 0 {
         return refused(number);

@@ -45,12 +45,12 @@ impl Sheet<'_> {
         self.weights() + 4 * self.faults
     }
 
-    fn allowance(&self) -> u32 {
-        u32_at(self.bytes, 4)
+    fn allowance(&self) -> u64 {
+        u64::from(u32_at(self.bytes, 4))
     }
 
-    fn budget(&self) -> u16 {
-        u16_at(self.bytes, 8)
+    fn budget(&self) -> u64 {
+        u64::from(u16_at(self.bytes, 8))
     }
 
     /// 5 to 8, or 0: the contents.
@@ -93,7 +93,7 @@ impl Sheet<'_> {
         if ways().any(|(p, a)| p & a != 0) {
             return 13;
         }
-        if u64::from(self.allowance()) > S {
+        if self.allowance() > S {
             return 14;
         }
         if self.budget() > 255 {

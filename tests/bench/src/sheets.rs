@@ -11,8 +11,8 @@ pub struct Shape {
     /// The faults lie in so many groups, and a way names faults of one group alone.
     pub groups: usize,
     pub heaviest: u32,
-    pub allowance: u32,
-    pub budget: u16,
+    pub allowance: u64,
+    pub budget: u64,
 }
 
 /// Splitmix64.
@@ -54,8 +54,8 @@ pub fn sheet(shape: &Shape, seed: u64) -> Vec<u8> {
     let mut bytes = Vec::new();
     bytes.extend((shape.faults as u16).to_le_bytes());
     bytes.extend((shape.cues as u16).to_le_bytes());
-    bytes.extend(shape.allowance.to_le_bytes());
-    bytes.extend(shape.budget.to_le_bytes());
+    bytes.extend((shape.allowance as u32).to_le_bytes());
+    bytes.extend((shape.budget as u16).to_le_bytes());
     bytes.extend([0, 0]);
     let mut place = 12 + 8 * shape.cues + 4 * shape.faults;
     for cue in 0..shape.cues {
@@ -170,7 +170,7 @@ pub fn growth() -> Vec<(&'static str, usize, Shape)> {
             "budget",
             n,
             Shape {
-                budget: n as u16,
+                budget: n as u64,
                 ..one
             },
         )

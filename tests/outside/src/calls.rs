@@ -2,13 +2,16 @@
 //! for each. Nothing is judged here.
 
 use reference::sheet::Sheet;
-use reference::Table;
+use reference::{Table, MOST_FAULTS, MOST_WAYS};
 use std::ptr;
 
 pub const RECORDS: usize = 511;
 
 /// The stack that a call may need.
 pub const STACK: usize = 262_144;
+
+/// The version of the header.
+pub const VERSION: u64 = 1;
 
 /// A record of a tree; its fields have one width, so that they can be told by number too.
 #[repr(C)]
@@ -101,27 +104,42 @@ pub struct Entry {
     pub start: u64,
 }
 
+/// The table of a cue of a sheet, by value.
+#[repr(C)]
+#[derive(Clone, Copy, Debug, PartialEq, Eq)]
+pub struct Inside {
+    pub number: u64,
+    pub past: u64,
+    pub faults: u64,
+    pub ways: u64,
+    pub weights: [u32; MOST_FAULTS],
+    pub present: [u64; MOST_WAYS],
+    pub absent: [u64; MOST_WAYS],
+}
+
 // The header asserts the same.
 const _: () = {
     assert!(size_of::<Node>() == 104 && size_of::<Tree>() == 53_152);
     assert!(size_of::<Answer>() == 40 && size_of::<Spot>() == 16);
-    assert!(size_of::<Head>() == 40 && size_of::<Entry>() == 40);
+    assert!(size_of::<Head>() == 40 && size_of::<Entry>() == 40 && size_of::<Inside>() == 2_336);
 };
 
 #[rustfmt::skip]
 extern "C" {
+    fn cue_version() -> u64;
     fn cue_open(tree: *mut Tree, weights: *const u32, faults: usize, present: *const u64, presents: usize,
         absent: *const u64, absents: usize) -> Answer;
     fn cue_refine(tree: *mut Tree, weights: *const u32, faults: usize, present: *const u64, presents: usize,
-        absent: *const u64, absents: usize, place: *const u8, steps: usize, what: u8, fault: u32) -> Answer;
+        absent: *const u64, absents: usize, place: *const u8, steps: usize, what: u64, fault: u64) -> Answer;
     fn cue_run(tree: *mut Tree, weights: *const u32, faults: usize, present: *const u64, presents: usize,
-        absent: *const u64, absents: usize, allowance: u32, budget: u16) -> Answer;
+        absent: *const u64, absents: usize, allowance: u64, budget: u64) -> Answer;
     fn cue_widest(records: *const Node, count: usize) -> Spot;
     fn cue_sheet_check(sheet: *const u8, length: usize) -> Head;
     fn cue_sheet_cue(sheet: *const u8, length: usize, position: usize) -> Entry;
+    fn cue_sheet_table(sheet: *const u8, length: usize, position: usize) -> Inside;
     fn cue_sheet_write(weights: *const u32, faults: usize, numbers: *const u16, cues: usize, counts: *const u16,
-        counted: usize, present: *const u64, presents: usize, absent: *const u64, absents: usize, allowance: u32,
-        budget: u16, space: *mut u8, length: usize) -> Answer;
+        counted: usize, present: *const u64, presents: usize, absent: *const u64, absents: usize, allowance: u64,
+        budget: u64, space: *mut u8, length: usize) -> Answer;
     fn cue_sheet_report(sheet: *const u8, length: usize, space: *mut u8, room: usize) -> Answer;
 }
 
@@ -144,6 +162,10 @@ fn at_mut(space: &mut [u8]) -> *mut u8 {
     }
 }
 
+pub fn version() -> u64 {
+    unsafe { cue_version() }
+}
+
 pub fn open(tree: &mut Tree, table: &Table) -> Answer {
     let Table { weights: w, present: p, absent: a } = table;
     unsafe { cue_open(tree, at(w), w.len(), at(p), p.len(), at(a), a.len()) }
@@ -152,7 +174,6 @@ pub fn open(tree: &mut Tree, table: &Table) -> Answer {
 #[rustfmt::skip]
 pub fn refine(tree: &mut Tree, table: &Table, place: &[u8], what: u64, fault: u64) -> Answer {
     let Table { weights: w, present: p, absent: a } = table;
-    let (what, fault) = (what.min(u8::MAX.into()) as u8, fault.min(u32::MAX.into()) as u32);
     unsafe {
         cue_refine(tree, at(w), w.len(), at(p), p.len(), at(a), a.len(), at(place), place.len(), what, fault)
     }
@@ -160,7 +181,6 @@ pub fn refine(tree: &mut Tree, table: &Table, place: &[u8], what: u64, fault: u6
 
 pub fn run(tree: &mut Tree, table: &Table, allowance: u64, budget: u64) -> Answer {
     let Table { weights: w, present: p, absent: a } = table;
-    let (allowance, budget) = (allowance.min(u32::MAX.into()) as u32, budget.min(u16::MAX.into()) as u16);
     unsafe { cue_run(tree, at(w), w.len(), at(p), p.len(), at(a), a.len(), allowance, budget) }
 }
 
@@ -176,14 +196,17 @@ pub fn cue(sheet: &[u8], position: usize) -> Entry {
     unsafe { cue_sheet_cue(at(sheet), sheet.len(), position) }
 }
 
+pub fn table(sheet: &[u8], position: usize) -> Inside {
+    unsafe { cue_sheet_table(at(sheet), sheet.len(), position) }
+}
+
 #[rustfmt::skip]
 pub fn write(lists: &Sheet, space: &mut [u8]) -> Answer {
     let Sheet { weights: w, cues: n, counts: c, present: p, absent: a, allowance, budget } = lists;
     let room = space.len();
-    let (allowance, budget) = ((*allowance).min(u32::MAX.into()) as u32, (*budget).min(u16::MAX.into()) as u16);
     unsafe {
         cue_sheet_write(at(w), w.len(), at(n), n.len(), at(c), c.len(), at(p), p.len(), at(a), a.len(),
-            allowance, budget, at_mut(space), room)
+            *allowance, *budget, at_mut(space), room)
     }
 }
 

@@ -25,6 +25,7 @@ pub enum Step {
     Stack,
 
     // Calls, made on both sides.
+    Version,
     Open,
     /// Place, what to do and the fault.
     Refine(Vec<u8>, u64, u64),
@@ -39,6 +40,8 @@ pub enum Step {
     Cue(usize),
     /// The reader's next call.
     Next,
+    /// The table of the cue at a position.
+    Inside(usize),
     /// The report into a space of this length.
     Report(usize),
     /// Lists for the writer, and the length of the space.
@@ -79,6 +82,7 @@ impl Display for Step {
             Step::Lend(tree) => write!(f, "lend {} {}", tree.used, fields(without_blank_end(tree))),
             Step::Sheet(bytes) => write!(f, "sheet {}", hex(bytes)),
             Step::Stack => write!(f, "stack"),
+            Step::Version => write!(f, "version"),
             Step::Open => write!(f, "open"),
             Step::Refine(place, what, fault) => write!(f, "refine {} {what} {fault}", list(place)),
             Step::Run(allowance, budget) => write!(f, "run {allowance} {budget}"),
@@ -87,6 +91,7 @@ impl Display for Step {
             Step::Check => write!(f, "check"),
             Step::Cue(position) => write!(f, "cue {position}"),
             Step::Next => write!(f, "next"),
+            Step::Inside(position) => write!(f, "inside {position}"),
             Step::Report(space) => write!(f, "report {space}"),
             Step::Write(lists, space) => {
                 let Sheet { weights, cues, counts, present, absent, allowance, budget } = lists;
@@ -152,6 +157,7 @@ fn step(line: &str) -> Option<Step> {
         "lend" => Step::Lend(words.tree()?),
         "sheet" => Step::Sheet(words.bytes()?),
         "stack" => Step::Stack,
+        "version" => Step::Version,
         "open" => Step::Open,
         "refine" => Step::Refine(words.list()?, words.number()?, words.number()?),
         "run" => Step::Run(words.number()?, words.number()?),
@@ -160,6 +166,7 @@ fn step(line: &str) -> Option<Step> {
         "check" => Step::Check,
         "cue" => Step::Cue(words.number()?),
         "next" => Step::Next,
+        "inside" => Step::Inside(words.number()?),
         "report" => Step::Report(words.number()?),
         "write" => {
             let lists = Sheet {

@@ -1,16 +1,19 @@
 //! How many comparisons were made, and how often each call of the library gave each number and each verdict.
 
+use reference::NONE;
 use std::collections::BTreeMap;
 
 /// The functions of the library.
 #[derive(Clone, Copy, Debug, PartialEq, Eq, PartialOrd, Ord)]
 pub enum Call {
+    Version,
     Open,
     Refine,
     Run,
     Widest,
     Check,
     Cue,
+    Table,
     Write,
     Report,
 }
@@ -18,12 +21,14 @@ pub enum Call {
 impl Call {
     pub fn name(self) -> &'static str {
         match self {
+            Call::Version => "cue_version",
             Call::Open => "cue_open",
             Call::Refine => "cue_refine",
             Call::Run => "cue_run",
             Call::Widest => "cue_widest",
             Call::Check => "cue_sheet_check",
             Call::Cue => "cue_sheet_cue",
+            Call::Table => "cue_sheet_table",
             Call::Write => "cue_sheet_write",
             Call::Report => "cue_sheet_report",
         }
@@ -40,7 +45,9 @@ pub struct Tally {
 impl Tally {
     pub fn answered(&mut self, call: Call, number: u64, verdict: u64) {
         *self.numbers.entry((call, number)).or_default() += 1;
-        *self.verdicts.entry(verdict).or_default() += 1;
+        if verdict != NONE {
+            *self.verdicts.entry(verdict).or_default() += 1;
+        }
     }
 
     pub fn add(&mut self, other: &Tally) {

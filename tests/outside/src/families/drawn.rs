@@ -32,7 +32,9 @@ pub fn drawn(bench: &mut Bench) -> Outcome {
         let mut tree = Box::new(session.records().clone());
         for _ in 0..random.between(1, 4) {
             let at = random.below(tree.used + 2).min(RECORDS - 1);
-            tree.nodes[at] = likely_record(random, session.table());
+            let inner = random.one_in(2);
+            let Node { parent, left, .. } = tree.nodes[at];
+            tree.nodes[at] = Node { parent, left, ..likely_record(random, session.table(), inner) };
         }
         session.make(Step::Lend(tree))?;
         both(session, random)
@@ -59,25 +61,27 @@ pub(super) fn noise(random: &mut Random) -> Box<Tree> {
     tree
 }
 
-/// A few records in use, linked as some tree's, with numbers that such records may have.
+/// A few records in use, linked as those of a tree whose first records are its inner nodes.
 fn likely(random: &mut Random, table: &Table) -> Box<Tree> {
     let mut tree = Box::<Tree>::default();
-    tree.used = 2 * random.below(4) + 1;
+    let inner = random.below(4);
+    tree.used = 2 * inner + 1;
     for at in 0..tree.used {
-        let left = random.below(tree.used);
-        tree.nodes[at] = Node { parent: at.saturating_sub(1) / 2, left, ..likely_record(random, table) };
+        let left = if at < inner { 2 * at + 1 } else { 0 };
+        tree.nodes[at] = Node { parent: at.saturating_sub(1) / 2, left, ..likely_record(random, table, at < inner) };
     }
     tree
 }
 
-fn likely_record(random: &mut Random, table: &Table) -> Node {
+/// A record without links, its numbers such as an inner node or a leaf may have.
+fn likely_record(random: &mut Random, table: &Table, inner: bool) -> Node {
     let [fault, present, absent] = [0; 3].map(|_| random.below(table.faults()) as u64);
     let [low, high, ownlow, ownhigh] = [0; 4].map(|_| random.below(S as usize + 1) as u64);
-    let (kind, live, fault) = random.one_of(&[(1, 0, 0), (1, 1, 0), (2, 0, 0), (3, 0, fault), (0, 0, 0)]);
+    let (kind, fault) = if inner { random.one_of(&[(2, 0), (3, fault)]) } else { (1, 0) };
     Node {
         kind,
         fault,
-        live,
+        live: if inner { 0 } else { random.below(2) as u64 },
         waysa: random.draw() & ((1 << table.present.len()) - 1),
         present: random.one_of(&[0, 0, 1 << present]),
         absent: random.one_of(&[0, 0, 1 << absent]),
@@ -89,7 +93,7 @@ fn likely_record(random: &mut Random, table: &Table) -> Node {
     }
 }
 
-/// A copy of the tree grows in another way; then each record is one of the two trees', and so is how many are in use.
+/// The tree grows on; then each record is that of the tree before or after, and so is how many are in use.
 fn mixed(session: &mut Session, random: &mut Random) -> Outcome {
     let first = Box::new(session.records().clone());
     if let Some((place, act)) = random.sound_refinement(session.table(), session.tree()) {

@@ -1,7 +1,7 @@
-//! Numbers, positions and lengths far beyond what the rules allow, each of which would be allowed if it were cut to fewer
-//! bits; and spaces that would be too short then.
+//! Numbers, positions and lengths far beyond what the rules allow, each of which would be allowed if it were cut to
+//! fewer bits; and spaces that would be too short then.
 
-use super::{run_told, told_number};
+use super::{open_leaf, run_told, told_number};
 use crate::bench::Bench;
 use crate::calls::Node;
 use crate::session::{Outcome, Session};
@@ -11,13 +11,12 @@ use reference::random::Random;
 use reference::report::report;
 use reference::scripts::mostly_open;
 use reference::sheet::{encode, length, Sheet};
-use reference::tree::State;
 use reference::{Act, Table, NONE, S};
 
-/// The first number that is cut to 0, by how many bits are left.
+/// Cut to 8, 16, 24 .. bits each of these is 0, and to more bits it stays.
 const CUTS: [u64; 7] = [1 << 8, 1 << 16, 1 << 24, 1 << 32, 1 << 48, 1 << 56, 1 << 63];
 
-/// Lists can be that much too long, and spaces.
+/// How much too long lists can be.
 const LENGTHS: [usize; 2] = [1 << 8, 1 << 16];
 
 pub fn far(bench: &mut Bench) -> Outcome {
@@ -95,10 +94,11 @@ fn long_sheet(session: &mut Session, more: usize) -> Outcome {
     cues.counts.resize(2 + more, 0);
     let faults = Sheet { weights: vec![0; 3 + more], ..sheet.clone() };
     let bytes = encode(&sheet);
-    let with = |at: usize| [&bytes[..at], &[1], &bytes[at + 1..]].concat();
+    let with_1_at = |at: usize| [&bytes[..at], &[1], &bytes[at + 1..]].concat();
     let off = if more < 1 << 16 { 2 } else { 7 };
     let behind = [&bytes[..], &vec![0; more]].concat();
-    for (number, bytes) in [(8, behind), (off, encode(&cues)), (off, encode(&faults)), (2, with(1)), (2, with(3))] {
+    let heads = [(2, with_1_at(1)), (2, with_1_at(3))];
+    for (number, bytes) in [(8, behind), (off, encode(&cues)), (off, encode(&faults))].into_iter().chain(heads) {
         session.make(Step::Sheet(bytes))?;
         session.make(Step::Check)?;
         told_number(session, number)?;
@@ -134,6 +134,7 @@ fn positions(session: &mut Session) -> Outcome {
         session.make(Step::Sheet(sheet.to_vec()))?;
         for position in CUTS.into_iter().flat_map(|cut| [cut, cut + 1, cut + 2, cut - 1]) {
             session.make(Step::Cue(position as usize))?;
+            session.make(Step::Inside(position as usize))?;
         }
     }
     Ok(())
@@ -163,9 +164,7 @@ fn what(session: &mut Session) -> Outcome {
     }
     session.opened(ring())?;
     session.run(0, 255)?;
-    let entries = session.tree().places(session.table());
-    let open = entries.into_iter().find(|entry| entry.state == State::Open);
-    let place = open.map(|entry| entry.place).unwrap_or_default();
+    let (place, _) = open_leaf(session);
     for &what in others.iter().step_by(9) {
         session.make(Step::Refine(place.clone(), what, 0))?;
         told_number(session, 19)?;
@@ -225,8 +224,8 @@ fn limits_of_a_sheet(session: &mut Session) -> Outcome {
     told(S, u64::MAX, 15)
 }
 
-/// Some number with others of its bits set, or not.
-fn drawn(random: &mut Random, number: u64) -> u64 {
+/// The number, or mostly one that has upper bits too.
+fn with_upper_bits(random: &mut Random, number: u64) -> u64 {
     if random.one_in(3) {
         return number;
     }
@@ -243,16 +242,18 @@ fn any_of_them(session: &mut Session, random: &mut Random) -> Outcome {
             Act::Independence => (0, 0),
             Act::Fault(fault) => (1, fault),
         };
-        session.make(Step::Refine(place, drawn(random, what), drawn(random, fault)))?;
+        session.make(Step::Refine(place, with_upper_bits(random, what), with_upper_bits(random, fault)))?;
         let (allowance, budget) = (random.allowance(), random.budget().min(20));
-        session.run(drawn(random, allowance), drawn(random, budget))?;
+        session.run(with_upper_bits(random, allowance), with_upper_bits(random, budget))?;
     }
     let mut lists = random.sheet_within(8, 4, 4);
     session.make(Step::Sheet(encode(&lists)))?;
     for position in 0..4 {
-        session.make(Step::Cue(drawn(random, position) as usize))?;
+        let position = with_upper_bits(random, position) as usize;
+        session.make(Step::Cue(position))?;
+        session.make(Step::Inside(position))?;
     }
-    (lists.allowance, lists.budget) = (drawn(random, lists.allowance), drawn(random, lists.budget));
+    (lists.allowance, lists.budget) = (with_upper_bits(random, lists.allowance), with_upper_bits(random, lists.budget));
     let space = length(&lists);
     session.make(Step::Write(lists, space))
 }

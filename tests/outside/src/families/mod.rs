@@ -19,8 +19,11 @@ use crate::bench::Bench;
 use crate::session::{Outcome, Session};
 use crate::step::Step;
 use reference::random::Random;
+use reference::run::pick;
 use reference::scripts::Call;
 use reference::sheet::Sheet;
+use reference::tree::State;
+use reference::Act;
 
 /// What brings a refusal about, with its number.
 type Damage<T> = (u64, fn(&mut T));
@@ -32,9 +35,9 @@ pub struct Family {
     pub least: u64,
 }
 
-pub const FAMILIES: [Family; 22] = [
+pub const FAMILIES: [Family; 23] = [
     family("paper", paper::cases_on_paper, 113),
-    family("tests", paper::run_in_the_tests, 134),
+    family("tests", paper::run_in_the_tests, 135),
     family("wrong", named::easy_to_get_wrong, 11_170),
     family("orders", named::orders, 155),
     family("scripts", scripts::scripts, 142_436),
@@ -51,10 +54,11 @@ pub const FAMILIES: [Family; 22] = [
     family("sheets", reading::sheets, 53_000),
     family("bytes", reading::bytes, 90_000),
     family("reports", reading::reports, 4300),
+    family("inside", reading::inside, 5000),
     family("writing", writing::writing, 12_000),
     family("search", search::search, 7200),
     family("far", far::far, 5700),
-    family("stack", stack::stack, 1046),
+    family("stack", stack::stack, 1055),
 ];
 
 const fn family(name: &'static str, play: fn(&mut Bench) -> Outcome, least: u64) -> Family {
@@ -77,6 +81,14 @@ fn run_told(session: &mut Session, (allowance, budget): (u64, u64), number: u64,
 
 fn told_number(session: &mut Session, number: u64) -> Outcome {
     session.make(Step::Told([Some(number), None, None, None, None]))
+}
+
+/// A leaf of the tree at hand that is open, there has to be one, and what a run would do there.
+fn open_leaf(session: &Session) -> (Vec<u8>, Act) {
+    let entries = session.tree().places(session.table());
+    let open = entries.into_iter().find(|entry| entry.state == State::Open).expect("an open leaf");
+    let act = pick(&open.ways);
+    (open.place, act)
 }
 
 /// A length at an output's own, one less, or a little more, or none at all.

@@ -1,4 +1,4 @@
-//! The figures of the paper, typed from it: P1 to P9, those under "Run in the tests", and the whole sheet.
+//! The figures of the rules, typed from them: P1 to P9, the numbers at the limits, and the whole sheet.
 
 use super::{run_told, told_number};
 use crate::bench::Bench;
@@ -28,6 +28,7 @@ pub fn cases_on_paper(bench: &mut Bench) -> Outcome {
 }
 
 pub fn run_in_the_tests(bench: &mut Bench) -> Outcome {
+    bench.case("the version", |session, _| session.make(Step::Version))?;
     bench.case("P3 with allowance 0 is done, with 1 is met", |session, _| {
         let root = (111_111_110, 111_111_111);
         session.opened(p3())?;
@@ -50,7 +51,7 @@ pub fn run_in_the_tests(bench: &mut Bench) -> Outcome {
         })?;
     }
     bench.case("the limits of a sheet", |session, _| sheet_limits(session))?;
-    bench.case("the whole sheet", |session, _| sheet_of_the_paper(session))
+    bench.case("the whole sheet", |session, _| sheet_of_the_rules(session))
 }
 
 /// A sheet with so many faults and one cue of so many empty ways.
@@ -93,7 +94,7 @@ fn sheet_limits(session: &mut Session) -> Outcome {
     told_number(session, 1)
 }
 
-fn sheet_of_the_paper(session: &mut Session) -> Outcome {
+fn sheet_of_the_rules(session: &mut Session) -> Outcome {
     let lines = [(40, "7 300000000 300000000 2 met"), (1, "7 300000000 350000000 1 spent")];
     for (budget, line) in lines {
         let lists = whole_sheet(budget);

@@ -1,5 +1,5 @@
 //! Sheets: sound ones cue by cue, cut at every length, with changed bytes, with two faults at once so that the first
-//! listed number must win; and the report of each.
+//! listed number must win; the report of each; and the tables of their cues, opened and run.
 
 use super::{room, told_number, with_small_budget, Damage};
 use crate::bench::Bench;
@@ -8,8 +8,9 @@ use crate::step::Step;
 use reference::paper::{done_and_full, ring, whole_sheet};
 use reference::random::Random;
 use reference::report::report;
-use reference::sheet::{encode, of_one_cue, Sheet};
-use reference::{LONGEST_SHEET, MOST_CUES, S};
+use reference::run::verdict_word;
+use reference::sheet::{cue_table, encode, of_one_cue, Sheet};
+use reference::{Answer, LONGEST_SHEET, MOST_CUES, S};
 
 /// The longest text of a report.
 const TEXT: usize = 939;
@@ -17,13 +18,14 @@ const TEXT: usize = 939;
 /// The runs of a longer sheet may take the reference long.
 const SHORT: usize = 600;
 
-/// The sheet read as a whole, at one position of its contents, and reported.
+/// The sheet read as a whole, at one position of its contents, by a reader, and reported.
 fn sheet(session: &mut Session, bytes: Vec<u8>, position: usize) -> Outcome {
     let short = bytes.len() <= SHORT;
     session.make(Step::Sheet(bytes))?;
     session.make(Step::Check)?;
     let refused = session.answer().number != 0;
     session.make(Step::Cue(position))?;
+    session.make(Step::Inside(position))?;
     (0..2).try_for_each(|_| session.make(Step::Next))?;
     if refused || short {
         session.make(Step::Report(TEXT))?;
@@ -55,11 +57,40 @@ pub fn sheets(bench: &mut Bench) -> Outcome {
     bench.case("two faults at once", |session, _| two_faults(session))
 }
 
-/// Every position, and some past the last; and a reader's calls, some of them past the last cue.
+/// Every position, and some past the last, with cue and table; and a reader's calls, some of them past the last cue.
 fn cues(session: &mut Session, cues: usize) -> Outcome {
-    let mut positions = (0..=cues + 2).chain([1 << 8, 1 << 16, 1 << 32, usize::MAX]);
-    positions.try_for_each(|position| session.make(Step::Cue(position)))?;
+    for position in (0..=cues + 2).chain([1 << 8, 1 << 16, 1 << 32, usize::MAX]) {
+        session.make(Step::Cue(position))?;
+        session.make(Step::Inside(position))?;
+    }
     (0..=cues + 2).try_for_each(|_| session.make(Step::Next))
+}
+
+/// Each cue's table handed over, opened and run by itself: every place of up to 12 faults stands beside the count too,
+/// and the report prints what these runs answer.
+pub fn inside(bench: &mut Bench) -> Outcome {
+    bench.cases("up to 12 faults", 120, |session, random| {
+        let sheet = with_small_budget(random.sheet_within(12, 8, 10));
+        each_alone(session, &sheet)
+    })?;
+    bench.cases("of any size", 20, |session, random| {
+        let sheet = with_small_budget(random.sheet());
+        each_alone(session, &sheet)
+    })
+}
+
+fn each_alone(session: &mut Session, sheet: &Sheet) -> Outcome {
+    session.make(Step::Sheet(encode(sheet)))?;
+    let mut text = String::from("cue low high steps verdict\n");
+    for (position, cue) in sheet.cues.iter().enumerate() {
+        session.make(Step::Inside(position))?;
+        session.opened(cue_table(sheet, position).unwrap_or_default())?;
+        session.run(sheet.allowance, sheet.budget)?;
+        let Answer { low, high, count, verdict, .. } = session.answer();
+        text += &format!("{cue} {low} {high} {count} {}\n", verdict_word(verdict));
+    }
+    session.make(Step::Report(TEXT))?;
+    session.make(Step::Printed(text.into_bytes()))
 }
 
 pub fn bytes(bench: &mut Bench) -> Outcome {
@@ -86,7 +117,7 @@ pub fn bytes(bench: &mut Bench) -> Outcome {
     })
 }
 
-/// What makes the paper's sheet refused, with the number. None undoes another, and those that cut it cut enough.
+/// What makes the rules' sheet refused, with the number. None undoes another, and those that cut it cut enough.
 const FAULTS: [Damage<Vec<u8>>; 15] = [
     (1, |bytes| bytes.truncate(7)),
     (2, |bytes| put(bytes, 0, &[0, 0])),

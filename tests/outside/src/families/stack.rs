@@ -1,14 +1,14 @@
-//! Every function of the library on the largest that it can be handed, in a thread with no more stack than the header says
-//! that a call may need. Trees, tables and spaces lie elsewhere.
+//! Every function of the library on the largest that it can be handed, in a thread with no more stack than the header
+//! says that a call may need. Trees, tables and spaces lie elsewhere.
 
-use super::{run_told, told_number};
+use super::{open_leaf, run_told, told_number};
 use crate::bench::Bench;
 use crate::calls::{Node, RECORDS};
 use crate::session::{Outcome, Session};
 use crate::step::Step;
 use reference::paper::{every_fault_named, largest_ring, stairs, H};
 use reference::sheet::{encode, Sheet};
-use reference::{Act, FULL, LONGEST_SHEET, MOST_CUES, MOST_WAYS, NONE, SPENT};
+use reference::{Act, FULL, LONGEST_SHEET, MOST_CUES, MOST_WAYS, NONE, S};
 
 pub fn stack(bench: &mut Bench) -> Outcome {
     bench.case("the largest tables and a full tree", |session, _| trees(session))?;
@@ -17,14 +17,18 @@ pub fn stack(bench: &mut Bench) -> Outcome {
 
 fn trees(session: &mut Session) -> Outcome {
     session.make(Step::Stack)?;
+    session.make(Step::Version)?;
     session.opened(every_fault_named(H))?;
     session.refine(vec![], Act::Fault(63))?;
     told_number(session, 0)?;
     session.opened(largest_ring())?;
-    run_told(session, (0, 254), 0, SPENT)?;
+    session.refine(vec![], Act::Fault(63))?;
     run_told(session, (0, 255), 0, FULL)?;
+    run_told(session, (0, 255), 0, FULL)?;
+    let (place, act) = open_leaf(session);
+    session.refine(place, act)?;
+    told_number(session, 19)?;
     session.make(Step::Widest(RECORDS))?;
-    session.refine(vec![1; 64], Act::Fault(63))?;
     session.make(Step::Records(1 << 16, vec![Node { kind: 1, live: 1, high: 1, ..Node::default() }]))
 }
 
@@ -43,10 +47,11 @@ fn longest(session: &mut Session) -> Outcome {
     };
     session.make(Step::Stack)?;
     session.make(Step::Write(lists.clone(), LONGEST_SHEET))?;
-    session.told(0, (0, reference::S), LONGEST_SHEET as u64, NONE)?;
+    session.told(0, (0, S), LONGEST_SHEET as u64, NONE)?;
     session.make(Step::Sheet(encode(&lists)))?;
     session.make(Step::Check)?;
     told_number(session, 0)?;
     session.make(Step::Cue(MOST_CUES - 1))?;
+    session.make(Step::Inside(MOST_CUES - 1))?;
     session.make(Step::Report(1 << 16))
 }

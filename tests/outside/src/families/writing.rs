@@ -57,7 +57,7 @@ fn disagree(session: &mut Session, random: &mut Random) -> Outcome {
     session.make(Step::Write(lists, space))
 }
 
-/// What makes the paper's lists refused, with the number. None undoes another.
+/// What makes the rules' lists refused, with the number. None undoes another.
 const FAULTS: [Damage<Sheet>; 19] = [
     (2, |lists| lists.weights.resize(65, 0)),
     (2, |lists| lists.cues = (1..26).collect()),

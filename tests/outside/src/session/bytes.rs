@@ -1,15 +1,15 @@
-//! The page's search over lent records, and the steps on sheets: reading, a reader's call, the report and the writer,
-//! the last two with every byte in and around the lent space.
+//! The page's search over lent records, and the steps on sheets: reading, a reader's call, a cue's table, the report
+//! and the writer, the last two with every byte in and around the lent space.
 
 use super::{must, Mismatch, Outcome, Session};
-use crate::calls::{self, Entry, Head, Node, Spot};
+use crate::calls::{self, Entry, Head, Inside, Node, Spot};
 use crate::lent::LentSpace;
 use crate::tally::Call;
 use reference::report::{enclosing_lines, report_into};
 use reference::sheet::{cue_at, cue_table, decode, write, Handed, Sheet};
 use reference::tree::first_widest;
-use reference::Answer;
-use std::mem;
+use reference::{Answer, Table};
+use std::{array, mem};
 
 impl Session {
     pub(super) fn make_search(&mut self, records: &[Node]) -> Outcome {
@@ -78,6 +78,19 @@ impl Session {
         must("the cue's body", &Some(&body[..]), &self.sheet.get(start..start + body.len()))
     }
 
+    pub(super) fn make_inside(&mut self, position: usize) -> Outcome {
+        let due = match decode(&self.sheet) {
+            Err(number) => Inside { number, ..of_table(&Table::default()) },
+            Ok(sheet) => match cue_table(&sheet, position) {
+                None => Inside { past: 1, ..of_table(&Table::default()) },
+                Some(table) => of_table(&table),
+            },
+        };
+        let got = self.stack.make(Call::Table, || calls::table(&self.sheet, position));
+        self.tally.answered(Call::Table, got.number, 0);
+        self.same("the cue's table", &due, &got)
+    }
+
     pub(super) fn make_report(&mut self, space: usize) -> Outcome {
         let sheet = mem::take(&mut self.sheet);
         let library = |space: &mut [u8]| calls::report(&sheet, space);
@@ -121,5 +134,19 @@ impl Session {
     pub(super) fn claim_printed(&mut self, text: &[u8]) -> Outcome {
         let got = self.printed.escape_ascii().to_string();
         self.same("the text", &text.escape_ascii().to_string(), &got)
+    }
+}
+
+/// A table as it is handed over, zeros behind its lists.
+fn of_table(table: &Table) -> Inside {
+    let word = |words: &[u64], at: usize| words.get(at).copied().unwrap_or(0);
+    Inside {
+        number: 0,
+        past: 0,
+        faults: table.weights.len() as u64,
+        ways: table.present.len() as u64,
+        weights: array::from_fn(|at| table.weights.get(at).copied().unwrap_or(0)),
+        present: array::from_fn(|at| word(&table.present, at)),
+        absent: array::from_fn(|at| word(&table.absent, at)),
     }
 }

@@ -120,6 +120,7 @@ impl Session {
             Step::Lend(tree) => self.held[self.at].lent.tree = *tree,
             Step::Sheet(bytes) => (self.sheet, self.place) = (bytes, 0),
             Step::Stack => self.stack = Stack::Least,
+            Step::Version => self.make_version()?,
             Step::Open => self.make_open()?,
             Step::Refine(place, what, fault) => self.make_refine(&place, what, fault)?,
             Step::Run(allowance, budget) => self.make_run(allowance, budget)?,
@@ -134,6 +135,7 @@ impl Session {
             Step::Check => self.make_check()?,
             Step::Cue(position) => self.make_cue(position)?,
             Step::Next => self.make_next()?,
+            Step::Inside(position) => self.make_inside(position)?,
             Step::Report(space) => self.make_report(space)?,
             Step::Write(lists, space) => self.make_write(&lists, space)?,
             Step::Told(figures) => self.claim_told(figures)?,
@@ -143,6 +145,11 @@ impl Session {
             Step::Equal => self.claim_equal()?,
         }
         Ok(())
+    }
+
+    fn make_version(&mut self) -> Outcome {
+        let got = self.stack.make(Call::Version, calls::version);
+        self.same("the version", &calls::VERSION, &got)
     }
 
     /// One comparison: an answer, a place, or a whole output.
@@ -162,13 +169,13 @@ impl Session {
         self.tally.answered(call, answer.number, answer.verdict);
     }
 
-    /// Figures typed from the paper; only all five together are a comparison.
+    /// Figures typed from the rules; only all five together are a comparison.
     fn claim_told(&mut self, figures: [Option<u64>; 5]) -> Outcome {
         let Answer { number, low, high, count, verdict } = self.answer();
         let got = [number, low, high, count, verdict];
         let due = [0, 1, 2, 3, 4].map(|i| figures[i].unwrap_or(got[i]));
         self.tally.compared += u64::from(figures.iter().all(Option::is_some));
-        must("the paper's figures", &due, &got)
+        must("the figures", &due, &got)
     }
 }
 
