@@ -47,7 +47,8 @@ module _ (t : Table) (ok : Accepted t) (s : DTree) (bs : List ℕ) (f : ℕ) (fa
   unfolding leafNamed noLeaf ofLeaf
   twenty h = at-place (placeOf bs) h
     where
-      at-leaf : (p : Place) (o : Option (List Way)) → leafWays p (rootWays t) s ≡ o → noLeaf bs o ≡ false → ofLeaf (λ vs. not (possible (Kind.Shannon f) vs)) o ≡ true
+      at-leaf : (p : Place) (o : Option (List Way)) → leafWays p (rootWays t) s ≡ o → noLeaf bs o ≡ false
+          → ofLeaf (λ vs. not (possible (Kind.Shannon f) vs)) o ≡ true
       at-leaf p none q e = absurd (true≢false e)
       at-leaf p (some vs) q e = not-there p vs q
 
@@ -66,15 +67,19 @@ far-fault t bad s bs f far = by (first (tableRefusals t)) refl
     by zero e =
         let k = none-applies (tableRefusals t) refl e in
         first-after (tableRefusals t) _ k
-        ∙ first-same _ _ _ (λ _. first-same _ _ _ (λ leaf. first-same _ _ _ (λ _. first-same _ _ _ (λ _. ap (λ (b : Bool). first (refusal 20 b ∷ [])) (twenty t e s bs f far leaf)))))
+        ∙ first-same _ _ _ (λ _. first-same _ _ _ (λ leaf. first-same _ _ _ (λ _. first-same _ _ _ (λ _.
+        ap (λ (b : Bool). first (refusal 20 b ∷ [])) (twenty t e s bs f far leaf)))))
         ∙ sym (first-after (tableRefusals t) _ k)
 
 -- THE NUMBER of a hand refinement that asks for neither: `what` is neither 0 nor 1.
-pub never-asked : (t : Table) (bad : Bool) (s : DTree) (bs : List ℕ) (what fault : ℕ) → 1 < what → handNumber t bad s bs (kindAsked what fault) ≡ first (neverRefusals t bad s bs)
+pub never-asked : (t : Table) (bad : Bool) (s : DTree) (bs : List ℕ) (what fault : ℕ) → 1 < what
+    → handNumber t bad s bs (kindAsked what fault) ≡ first (neverRefusals t bad s bs)
 unfolding kindAsked
-never-asked t bad s bs what fault h = rw (ne-eqb what 0 (λ e. omega (arith, e)), kindAsked) (rw (ne-eqb what 1 (λ e. omega (arith, e))) (far-fault t bad s bs 64 (omega arith)))
+never-asked t bad s bs what fault h =
+    rw (ne-eqb what 0 (λ e. omega (arith, e)), kindAsked) (rw (ne-eqb what 1 (λ e. omega (arith, e))) (far-fault t bad s bs 64 (omega arith)))
 
 -- THE NUMBER of one that asks for a fault that no table has, however large.
-pub never-there : (t : Table) (bad : Bool) (s : DTree) (bs : List ℕ) (fault : ℕ) → 64 ≤ fault → handNumber t bad s bs (kindAsked 1 fault) ≡ first (neverRefusals t bad s bs)
+pub never-there : (t : Table) (bad : Bool) (s : DTree) (bs : List ℕ) (fault : ℕ) → 64 ≤ fault
+    → handNumber t bad s bs (kindAsked 1 fault) ≡ first (neverRefusals t bad s bs)
 unfolding kindAsked
 never-there t bad s bs fault h = far-fault t bad s bs fault h

@@ -9,9 +9,9 @@ use borrow.Author.Tests.{ltb-true, ltb-false}
 use lib.Dec.{ltb}
 use lib.ListN.{length, take, drop, getD, length-take, drop-of-length-le}
 use lib.Seq.{drop-cons}
-use Rattle.rules.specs.Table.{Table}
 use Rattle.rules.specs.Refusals.{Accepted}
-use Rattle.rules.specs.Sheet.{Cue, tableOf, column, faultsIn, cuesIn, weightsIn, weightsStart, decode, readNumber, entryIn, entryAnswerBy, entryAnswer, AllBelow}
+use Rattle.rules.specs.Sheet.{Cue, tableOf, column, faultsIn, cuesIn, weightsIn, weightsStart, decode}
+use Rattle.rules.specs.Sheet.{readNumber, entryIn, entryAnswerBy, entryAnswer, AllBelow}
 use Rattle.rules.specs.declared.Entry.{Entry}
 use Rattle.rules.specs.declared.EntryAnswer.{EntryAnswer}
 use Rattle.rules.proofs.Bytes.{each-below, length-column}
@@ -126,7 +126,8 @@ module _ (bs : List ℕ) (h : AllBelow 256 bs) (i : ℕ) where
         subst Accepted (sym (held noCue)) (read-cue-accepted bs h accepted (getD (decode bs .cues) i noCue) (listed (decode bs .cues) i noCue (omega arith)))
 
 -- A CALL FOR A TABLE told in numbers, of any bytes and any position.
-pub table-told : (bs : List ℕ) → ((k : ℕ) → getD bs k 0 < 256) → (i : ℕ) {a : EntryAnswer} {r : CueTable} → a ≡ entryAnswer bs i → r ≡ tableFor bs a → TableTold bs i r
+pub table-told : (bs : List ℕ) → ((k : ℕ) → getD bs k 0 < 256) → (i : ℕ) {a : EntryAnswer} {r : CueTable}
+    → a ≡ entryAnswer bs i → r ≡ tableFor bs a → TableTold bs i r
 unfolding flatTableAt
 table-told bs g i {a} {r} e f =
     let h = each-below 256 bs g in

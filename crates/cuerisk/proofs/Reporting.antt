@@ -46,10 +46,11 @@ module _ (bs : List ℕ) (r : Report) (p : Reported bs r) where
   fits space new h e =
       let n : reportNumber bs (length space) ≡ 0 = first-later _ [] (le-ltb (length space) (length (text bs)) (omega (arith, text-length))) ∙ first-none in
       let whole : (part : List ℕ) → part ≡ text bs → take (length part) part ++ drop (length part) space ≡ text bs ++ drop (length (text bs)) space =
-      λ part q. ap (λ (xs : List ℕ). xs ++ drop (length part) space) (take-all (length part) part (le-refl (length part))) ∙ ap (λ (xs : List ℕ). xs ++ drop (length xs) space) q in
+      λ part q. ap (λ (xs : List ℕ). xs ++ drop (length part) space) (take-all (length part) part (le-refl (length part)))
+      ∙ ap (λ (xs : List ℕ). xs ++ drop (length xs) space) q in
       (rw n (ap WriteAnswer.Written (sym text-length)), rw n (e ∙ whole _ (p .printed)))
 
--- What the answer says in 01's terms.
+-- The answer's reply, by its number and the bytes of the text.
 pub report-reply : (bs : List ℕ) (space : ℕ) → writeReply (reportAnswer bs space) ≡ countedBy (reportNumber bs space) (length (text bs))
 unfolding reportAnswer
 report-reply bs space = write-by (reportNumber bs space) (length (text bs))

@@ -73,8 +73,8 @@ counted-number zero k = refl
 counted-number (suc n) k = refl
 
 -- Reading a whole sheet told in numbers.
-pub reading-told : (bs : List ℕ) (a : ReadAnswer) (r : CueSheet) → (a ≡ readAnswer bs) × (readReply a ≡ countedBy (readNumber bs) 0) → r ≡ flatSheet a
-    → ReadingTold bs r
+pub reading-told : (bs : List ℕ) (a : ReadAnswer) (r : CueSheet) → (a ≡ readAnswer bs) × (readReply a ≡ countedBy (readNumber bs) 0)
+    → r ≡ flatSheet a → ReadingTold bs r
 reading-told bs a r p e =
     record {
       numbers = e ∙ ap flatSheet (p .0);
@@ -82,8 +82,8 @@ reading-told bs a r p e =
     }
 
 -- A reader's call told in numbers.
-pub entry-told : (bs : List ℕ) (i : ℕ) (a : EntryAnswer) (r : CueEntry) → (a ≡ entryAnswer bs i) × (entryReply a ≡ countedBy (readNumber bs) 0) → r ≡ flatEntry a
-    → EntryTold bs i r
+pub entry-told : (bs : List ℕ) (i : ℕ) (a : EntryAnswer) (r : CueEntry) → (a ≡ entryAnswer bs i) × (entryReply a ≡ countedBy (readNumber bs) 0)
+    → r ≡ flatEntry a → EntryTold bs i r
 entry-told bs i a r p e =
     record {
       numbers = e ∙ ap flatEntry (p .0);

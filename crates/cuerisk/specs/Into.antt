@@ -1,4 +1,4 @@
--- The report on a sheet into a lent space: the printed text at its front, or 22 where the space is shorter (01, "Refused, by number").
+-- The report on a sheet into a lent space: the printed text at its front, or 22 where the space is shorter (docs/RULES.md, 9.8).
 -- Rests on `rules`, Text, for the text; answer and space are the writer's of `rules`, Sheet, with that text for the output.
 use mathlib.Core.List.{List, [], _∷_}
 use Prim.Native.Nat.{ℕ}

@@ -1,5 +1,5 @@
 -- The numbers that stand for each answer, the refinement that numbers ask for, and the version of them all.
--- Every answer goes through `rules`, Answers: what is told is the reply of 01, with a code for the verdict.
+-- What is told of an answer is the reply that `rules`, Answers, gives it, with a code for the verdict (docs/RULES.md, 8.4 to 8.9).
 use mathlib.Core.Bool.{true, false}
 use mathlib.Core.List.{List, [], _∷_}
 use mathlib.Core.Option.{Option, none, some}
@@ -17,9 +17,9 @@ use Rattle.rules.specs.declared.Head.{Head}
 use Rattle.rules.specs.declared.ReadAnswer.{ReadAnswer}
 use Rattle.rules.specs.declared.EntryAnswer.{EntryAnswer}
 use Rattle.rules.specs.declared.WriteAnswer.{WriteAnswer}
-use Rattle.cuerisk.specs.declared.CueAnswer.{CueAnswer}
 use Rattle.page.specs.declared.Spot.{Spot}
 use Rattle.sheet.specs.Handed.{sized}
+use Rattle.cuerisk.specs.declared.CueAnswer.{CueAnswer}
 use Rattle.cuerisk.specs.declared.CueSpot.{CueSpot}
 use Rattle.cuerisk.specs.declared.CueSheet.{CueSheet}
 use Rattle.cuerisk.specs.declared.CueEntry.{CueEntry}
@@ -29,7 +29,7 @@ use Rattle.cuerisk.specs.declared.CueTable.{CueTable}
 abbrev pub version : ℕ
 version = 1
 
--- The refinement asked for: 0 is independence, 1 the fault named. Any other number asks for fault 64, which no accepted table has.
+-- The refinement asked for (docs/RULES.md, 5.4): 0 is independence, 1 the fault named. Any other number asks for fault 64, which no accepted table has.
 unfoldable pub kindAsked : ℕ → ℕ → Kind
 kindAsked what fault =
     elim (eqb what 0) as (λ b. Kind)
@@ -97,7 +97,7 @@ flatEntry a =
       start = handedOver a .start;
     }
 
--- ---- a cue's table
+-- ---- a cue's table (docs/RULES.md, 7.13)
 
 -- A table without faults and ways.
 abbrev pub noTable : Table

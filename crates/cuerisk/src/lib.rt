@@ -129,8 +129,7 @@ pub extern "C" fn cue_run(
     ensures promise { λ r. ⌜ RunningTold (table (now (weights .entry)) (now (present .entry)) (now (absent .entry)))
         (treeOf (now (tree .entry))) (record { allowance = allowance; budget = budget }) (treeOf (now (tree .exit))) r ⌝ }
 {
-    let limits = Limits { allowance, budget };
-    of_run(dtree::runs::run(weights, present, absent, tree, limits))
+    of_run(dtree::runs::run(weights, present, absent, tree, Limits { allowance, budget }))
 }
 
 /// The first position with the widest open leaf in any records.

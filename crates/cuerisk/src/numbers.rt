@@ -1,5 +1,5 @@
 //! The numbers of each answer, and the refinement that numbers ask for.
-//! Rests on the definitions of specs/Numbers.antt, which go through `rules`, Answers.
+//! Rests on the definitions of specs/Numbers.antt, most of which go through `rules`, Answers.
 ghost use mathlib.Core.Path.{_≡_};
 ghost use mathlib.Core.Option.{some, none};
 ghost use Rattle.rules.specs.Answers.{refused};
@@ -157,7 +157,15 @@ pub fn of_entry(a: EntryAnswer) -> CueEntry
 
 /// The numbers of a table that a sheet's reader hands over.
 pub fn of_table(t: sheet::table::CueTable) -> CueTable
-    ensures { λ r. ⌜ r ≡ record { number = 0; past = 0; faults = t .faults; ways = t .ways; weights = t .weights; present = t .present; absent = t .absent } ⌝ }
+    ensures { λ r. ⌜ r ≡ record {
+      number = 0;
+      past = 0;
+      faults = t .faults;
+      ways = t .ways;
+      weights = t .weights;
+      present = t .present;
+      absent = t .absent;
+    } ⌝ }
 {
     let weights = t.weights;
     let present = t.present;
