@@ -7,13 +7,13 @@ use mathlib.Core.Option.{none}
 use Prim.Native.Nat.{ℕ, zero, suc, _+_, _-_, _*_, _/_, _%_, _<_, _≤_}
 use native.Mathlib.Omega.{arith}
 use borrow.Author.Tests.{lt-ltb, le-ltb, eq-eqb, ne-eqb}
-use lib.Dec.{eqb, ltb}
+use lib.Dec.{ltb}
 use Rattle.rules.specs.Table.{Table}
 use Rattle.rules.specs.Tree.{possible}
 use Rattle.rules.specs.Refusals.{Accepted}
 use Rattle.rules.specs.declared.Kind.{Kind}
 use Rattle.rules.proofs.Booleans.{and-false}
-use Rattle.records.specs.Records.{layout, children, recordIn, recordAt, places, recordWays, kindOf, treeCount, sameNodes, isGood, Good}
+use Rattle.records.specs.Records.{treeRecords, layout, children, recordIn, isLive, recordAt, places, recordWays, kindOf, treeCount, sameNodes, isGood, Good}
 use Rattle.records.specs.Growing.{grownAt, mayAt, rebuild, sameAs, isGoodRebuilt}
 use Rattle.records.specs.declared.Node.{Node}
 use Rattle.records.specs.declared.Tree.{Tree}
@@ -108,57 +108,63 @@ unmade t x y z h =
     let no : false ≡ true → ⊥ = λ e. true≢false (sym e) in
     record { said = sym h; grown = λ e. absurd (no e); two-more = λ e. absurd (no e); safe = λ e. absurd (no e); good = λ e. absurd (no e) }
 
--- With the next left child in record `next`.
+-- The next left child, which is in record `next`, was read as `child`.
 module _ (t : Table) (x y z : Tree) (next : ℕ) (e : next ≡ y .used) where
   -- No room for two records more.
-  pub full : 511 ≤ next → Remade t x y z false
+  pub full : treeRecords ≤ next → Remade t x y z false
   unfolding mayAt
   full h =
       unmade t x y z
-      (rw (le-ltb (y .used) 511 (omega (arith, e, h)), and-false (eqb (recordIn (y .nodes) (nextAt x y) .live) 1)) (and-false (ltb (nextAt x y) (y .used))))
+      (rw (le-ltb (y .used) treeRecords (omega (arith, e, h)), and-false (isLive (recordIn (y .nodes) (nextAt x y)))) (and-false (ltb (nextAt x y) (y .used))))
 
-  module _ (child : Node) (f : child ≡ recordIn (x .nodes) next) where
-    at-is : child .parent ≡ nextAt x y
-    at-is = ap (λ (n : Node). n .parent) (f ∙ ap (recordIn (x .nodes)) e)
+  at-is : (child : Node) → child ≡ recordIn (x .nodes) next → child .parent ≡ nextAt x y
+  at-is child f = ap (λ (n : Node). n .parent) (f ∙ ap (recordIn (x .nodes)) e)
 
-    -- No such place yet.
-    pub beyond : next ≤ child .parent → Remade t x y z false
-    beyond h = unmade t x y z (rw (le-ltb (nextAt x y) (y .used) (omega (arith, e, at-is, h))) refl)
+  -- No such place yet.
+  pub beyond : (child : Node) → child ≡ recordIn (x .nodes) next → next ≤ child .parent → Remade t x y z false
+  beyond child f h = unmade t x y z (rw (le-ltb (nextAt x y) (y .used) (omega (arith, e, at-is child f, h))) refl)
 
-    -- With the records of its parent in both trees, where r says whether the leaf in y is open and may be refined as the record in x tells.
-    module _ (n l : Node) (g : n ≡ recordIn (x .nodes) (child .parent)) (h : l ≡ recordIn (y .nodes) (child .parent)) (r : Bool)
-        (may : r ≡ eqb (l .live) 1 && possible (kindOf n) (recordWays t l)) where
-      told : r ≡ eqb (recordIn (y .nodes) (nextAt x y) .live) 1 && possible (nextKind x y) (recordWays t (recordIn (y .nodes) (nextAt x y)))
-      told =
-          may
-          ∙ ap₂ (λ (a b : Node). eqb (b .live) 1 && possible (kindOf a) (recordWays t b))
-          (g ∙ ap (recordIn (x .nodes)) at-is) (h ∙ ap (recordIn (y .nodes)) at-is)
+-- What was read of the next refinement: the next left child, what its parent's record in x tells, that parent's record l in y, and whether the leaf there is
+-- open and may be refined so.
+pub record Read (t : Table) (x y : Tree) (next : ℕ) (child : Node) (k : Kind) (l : Node) (r : Bool) : Type 0 where
+  pub next-is : next ≡ y .used
+  pub child-is : child ≡ recordIn (x .nodes) next
+  pub kind-is : k ≡ kindOf (recordIn (x .nodes) (child .parent))
+  pub leaf-is : l ≡ recordIn (y .nodes) (child .parent)
+  pub may-is : r ≡ isLive l && possible k (recordWays t l)
 
-      -- The leaf is closed, or what the record tells is not possible.
-      pub cannot : r ≡ false → Remade t x y z false
-      unfolding mayAt
-      cannot f =
-          let leaf = recordIn (y .nodes) (nextAt x y) in
-          unmade t x y z (by (eqb (leaf .live) 1) (possible (nextKind x y) (recordWays t leaf)) (sym told ∙ f))
-        where
-          by : (b d : Bool) → b && d ≡ false → ltb (nextAt x y) (y .used) && (b && (ltb (y .used) 511 && d)) ≡ false
-          by true d h = rw (h, and-false (ltb (y .used) 511)) (and-false (ltb (nextAt x y) (y .used)))
-          by false d h = and-false (ltb (nextAt x y) (y .used))
+module _ (t : Table) (x y z : Tree) (next : ℕ) (child : Node) (k : Kind) (l : Node) (r : Bool) (seen : Read t x y next child k l r) where
+  place-is : child .parent ≡ nextAt x y
+  place-is = at-is t x y z next (seen .next-is) child (seen .child-is)
 
-      -- It can be made, and it is.
-      pub can : r ≡ true → next < 511 → child .parent < next → (k : Kind) → k ≡ kindOf n → z .nodes ≡ grownAt t (y .nodes) (y .used) (child .parent) k
-          → z .used ≡ y .used + 2 → Safe (z .nodes) → Accepted t → Good t y → Remade t x y z true
-      unfolding mayAt
-      can o room inside k d w u s ok good-before =
-          let there = lt-ltb (nextAt x y) (y .used) (omega (arith, e, at-is, inside)) in
-          let roomy = lt-ltb (y .used) 511 (omega (arith, e, room)) in
-          let yes : mayNext t x y ≡ true = rw (there, roomy) (sym told ∙ o) in
-          let so : z .nodes ≡ grownAt t (y .nodes) (y .used) (nextAt x y) (nextKind x y) =
-          w ∙ ap₂ (grownAt t (y .nodes) (y .used)) at-is (d ∙ ap kindOf (g ∙ ap (recordIn (x .nodes)) at-is)) in
-          record {
-            said = sym yes;
-            grown = λ _. so;
-            two-more = λ _. u;
-            safe = λ _. s;
-            good = λ _. good-next t ok y good-before (nextAt x y) (nextKind x y) yes z so u;
-          }
+  kind-next : k ≡ nextKind x y
+  kind-next = seen .kind-is ∙ ap (λ (j : ℕ). kindOf (recordIn (x .nodes) j)) place-is
+
+  told : r ≡ isLive (recordIn (y .nodes) (nextAt x y)) && possible (nextKind x y) (recordWays t (recordIn (y .nodes) (nextAt x y)))
+  told = seen .may-is ∙ ap₂ (λ (a : Kind) (b : Node). isLive b && possible a (recordWays t b)) kind-next (seen .leaf-is ∙ ap (recordIn (y .nodes)) place-is)
+
+  -- The leaf is closed, or what the record tells is not possible.
+  pub cannot : r ≡ false → Remade t x y z false
+  unfolding mayAt
+  cannot f =
+      unmade t x y z (by (isLive (recordIn (y .nodes) (nextAt x y))) (possible (nextKind x y) (recordWays t (recordIn (y .nodes) (nextAt x y)))) (sym told ∙ f))
+    where
+      by : (b d : Bool) → b && d ≡ false → ltb (nextAt x y) (y .used) && (b && (ltb (y .used) treeRecords && d)) ≡ false
+      by true d h = rw (h, and-false (ltb (y .used) treeRecords)) (and-false (ltb (nextAt x y) (y .used)))
+      by false d h = and-false (ltb (nextAt x y) (y .used))
+
+  -- It can be made, and it is.
+  pub can : r ≡ true → next < treeRecords → child .parent < next → Accepted t → Good t y
+      → (z .nodes ≡ grownAt t (y .nodes) (y .used) (child .parent) k) × (z .used ≡ y .used + 2) × Safe (z .nodes) → Remade t x y z true
+  unfolding mayAt
+  can o room inside ok good-before g =
+      let e = seen .next-is in
+      let yes : mayNext t x y ≡ true = rw (lt-ltb (nextAt x y) (y .used) (omega (arith, e, place-is, inside)), lt-ltb (y .used) treeRecords (omega (arith, e, room))) (sym told ∙ o) in
+      let so : z .nodes ≡ grownAt t (y .nodes) (y .used) (nextAt x y) (nextKind x y) = g .0 ∙ ap₂ (grownAt t (y .nodes) (y .used)) place-is kind-next in
+      record {
+        said = sym yes;
+        grown = λ _. so;
+        two-more = λ _. g .1;
+        safe = λ _. g .2;
+        good = λ _. good-next t ok y good-before (nextAt x y) (nextKind x y) yes z so (g .1);
+      }

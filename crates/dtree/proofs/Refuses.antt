@@ -18,7 +18,7 @@ use Rattle.records.specs.declared.Tree.{Tree}
 use Rattle.records.proofs.Positions.{length-places}
 use Rattle.records.proofs.Sixteen.{good-sure}
 use Rattle.clauses.specs.declared.Clauses.{Clauses}
-use Rattle.grow.specs.Branched.{LeafWays}
+use Rattle.node.specs.Told.{LeafWays}
 use Rattle.dtree.specs.Promises.{numberOf, Called}
 use Rattle.dtree.proofs.Calling.{front-free, called, refusedBy, refused-tree, refused-outcome}
 

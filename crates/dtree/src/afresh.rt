@@ -11,6 +11,7 @@ use super::runs::run_good;
 use super::runs::run_number;
 use rules::Limits;
 use rules::RunAnswer;
+use store::NO_NODES;
 
 /// What one run with the limits answers on the root leaf of a table.
 pub fn run_afresh(weights: &[u32], present: &[u64], absent: &[u64], limits: Limits) -> RunAnswer
@@ -21,7 +22,7 @@ pub fn run_afresh(weights: &[u32], present: &[u64], absent: &[u64], limits: Limi
     if number != 0 {
         return RunAnswer::Refused(number);
     }
-    let mut tree = [0u64; 6644];
+    let mut tree = NO_NODES;
     put_alone(&mut tree, root_leaf(weights, present, absent));
     run_good(weights, present, absent, &mut tree, limits)
 }

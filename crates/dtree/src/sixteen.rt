@@ -1,43 +1,46 @@
 //! Refusal 16: whether a tree, whatever it holds, is one that the table and some series of accepted refinements gives.
 //! The refinements that the records tell are made again from the root leaf, and the outcome is compared.
-//! Rests on `records`, Growing, where this is defined, on `grow` and `compare`, and on `store` for the lent trees.
+//! Rests on `records`, Growing, where this is defined, on `node` and `grow`, and on `store` for the lent trees.
 ghost use mathlib.Core.Path.{_≡_};
 ghost use mathlib.Core.Bool.{true, _&&_};
 ghost use mathlib.Core.List.{List};
 ghost use Prim.Native.Nat.{ℕ, _%_};
-ghost use lib.Dec.{eqb};
-ghost use Rattle.rules.specs.Tree.{possible};
+ghost use Rattle.rules.specs.Tree;
 ghost use Rattle.rules.specs.Refusals.{Accepted};
 ghost use Rattle.rules.specs.Table.{table};
-ghost use Rattle.records.specs.Records.{recordWays, kindOf, isGood, Good};
+ghost use Rattle.records.specs.Records.{isLive, recordWays, isGood, Good};
 ghost use Rattle.store.specs.Lent.{treeOf};
 ghost use Rattle.store.specs.Safe.{Safe};
 ghost use Rattle.formula.specs.Leaves.{FaultFits};
-ghost use Rattle.grow.specs.Branched.{LeafWays};
+ghost use Rattle.node.specs.Told.{LeafWays};
 ghost use Rattle.dtree.specs.Remade.{Remade};
 use super::opening::put_alone;
 use super::opening::root_leaf;
 use clauses::Clauses;
-use compare::possible_told;
-use compare::same_nodes;
-use grow::join::kind_of;
+use formula::child::possible;
 use grow::refine::grow;
-use grow::refine::ways_of;
+use node::told::is_live;
+use node::told::kind_of;
+use node::told::ways_of;
 use records::Node;
+use records::RECORDS;
+use rules::Kind;
+use store::NO_NODES;
 use store::Words;
 use store::record_at;
+use store::same_nodes;
 use store::used_in;
 
-/// The leaf of record y, with the ways c, is open and may be refined as record n says.
-fn may(present: &[u64], absent: &[u64], y: Node, c: Clauses, n: Node) -> bool
+/// The leaf of record y, with the ways c, is open and a refinement of kind k is possible there.
+fn may(present: &[u64], absent: &[u64], y: Node, c: Clauses, k: Kind) -> bool
     requires { ⌜ LeafWays (now present) (now absent) y c ⌝ }
-    ensures { λ r. ⌜ ((ws : List ℕ) → r ≡ eqb (y .live) 1 && possible (kindOf n) (recordWays (table ws (now (present .entry)) (now (absent .entry))) y))
-        × (r ≡ true → FaultFits (kindOf n)) ⌝ }
+    ensures { λ r. ⌜ ((ws : List ℕ) → r ≡ isLive y && Tree.possible k (recordWays (table ws (now (present .entry)) (now (absent .entry))) y))
+        × (r ≡ true → FaultFits k) ⌝ }
 {
-    if y.live != 1 {
+    if !is_live(y) {
         return false;
     }
-    possible_told(n, present, absent, c)
+    possible(k, present, absent, c)
 }
 
 /// Makes the next refinement that the tree x tells on the tree y, and says whether it could. Its place is the parent of the next left child,
@@ -51,7 +54,7 @@ fn remake(weights: &[u32], present: &[u64], absent: &[u64], x: &Words, y: &mut W
         (treeOf (now (x .entry))) (treeOf (now (y .entry))) (treeOf (now (y .exit))) r ⌝ }
 {
     let next = used_in(y);
-    if 511 <= next {
+    if RECORDS <= next {
         return false;
     }
     let child = record_at(x, next);
@@ -59,13 +62,13 @@ fn remake(weights: &[u32], present: &[u64], absent: &[u64], x: &Words, y: &mut W
     if next <= j {
         return false;
     }
-    let n = record_at(x, j);
+    let k = kind_of(record_at(x, j));
     let leaf = record_at(y, j);
     let c = ways_of(present, absent, leaf);
-    if !may(present, absent, leaf, c, n) {
+    if !may(present, absent, leaf, c, k) {
         return false;
     }
-    grow(weights, present, absent, y, c, kind_of(n), j);
+    grow(weights, present, absent, y, c, k, j);
     true
 }
 
@@ -79,7 +82,7 @@ pub fn is_good(weights: &[u32], present: &[u64], absent: &[u64], tree: &Words) -
     if used % 2 == 0 {
         return false;
     }
-    let mut y = [0u64; 6644];
+    let mut y = NO_NODES;
     put_alone(&mut y, root_leaf(weights, present, absent));
     let mut left = used / 2;
     while 0 < left {

@@ -9,15 +9,14 @@ use native.Mathlib.Omega.{arith}
 use lib.ListN.{length, getD}
 use lib.Dec.{eqb}
 use borrow.Author.Tests.{eq-eqb, ne-eqb, eqb-true, lt-ltb, le-ltb, ltb-true, not-false}
-use Rattle.rules.specs.Table.{Table, rows, ways}
+use Rattle.rules.specs.Table.{Table}
 use Rattle.rules.specs.declared.Way.{Way}
-use Rattle.rules.specs.Leaf.{select, remaining}
 use Rattle.rules.specs.Tree.{Side, left, right, Place, possible}
 use Rattle.rules.specs.Refusals.{refusal, first}
 use Rattle.rules.specs.Calls.{placeOf}
 use Rattle.rules.specs.declared.Kind.{Kind}
 use Rattle.rules.proofs.First.{none-applies, first-none, first-here, first-later}
-use Rattle.records.specs.Records.{blank, recordIn, inWords, recordWays, childRecord, walk}
+use Rattle.records.specs.Records.{treeRecords, blank, recordIn, isLive, recordWays, childRecord, walk}
 use Rattle.records.specs.declared.Node.{Node}
 use Rattle.records.specs.declared.Tree.{Tree}
 use Rattle.store.specs.Safe.{Safe}
@@ -25,15 +24,9 @@ use Rattle.formula.specs.Leaves.{FaultFits}
 use Rattle.find.specs.declared.Reached.{Reached}
 use Rattle.find.specs.declared.Reached.the-variants.{At, Nowhere}
 use Rattle.find.specs.declared.Named.the-variants.{Leaf, Refused}
-use Rattle.find.specs.Finds.{led, found, reachedOf, wordTable, recordRefusals, recordNumber, numberAt, leafNumber, Tells}
+use Rattle.find.specs.Finds.{led, found, reachedOf, recordRefusals, recordNumber, numberAt, leafNumber, Tells}
 
 -- ---- the number of a record
-
--- The ways that the code computes are the record's.
-pub ways-are : (ps qs : List ℕ) (n : Node) {vs : List Way} → vs ≡ remaining (n .present) (n .absent) (select (inWords (n .waysa) (n .waysb)) (rows 0 ps qs))
-    → vs ≡ recordWays (wordTable ps qs) n
-unfolding recordWays ways
-ways-are ps qs n e = e
 
 module _ (t : Table) (used : ℕ) (k : Kind) (n : Node) where
   -- What `refusal` promises of the number that it returns.
@@ -45,24 +38,24 @@ module _ (t : Table) (used : ℕ) (k : Kind) (n : Node) where
   seventeen q = (sym (first-here _ _ (ap not (ne-eqb (n .left) 0 q))), λ z. absurd (omega (arith, z)))
 
   module _ (low : n .left ≡ 0) where
-    pub eighteen : (n .live ≡ 1 → ⊥) → Right 18
+    pub eighteen : isLive n ≡ false → Right 18
     unfolding recordNumber recordRefusals
     eighteen q =
-        (sym (first-later _ _ (ap not (eq-eqb (n .left) 0 low)) ∙ first-here _ _ (ap not (ne-eqb (n .live) 1 q))), λ z. absurd (omega (arith, z)))
+        (sym (first-later _ _ (ap not (eq-eqb (n .left) 0 low)) ∙ first-here _ _ (ap not q)), λ z. absurd (omega (arith, z)))
 
-    module _ (live : n .live ≡ 1) where
-      pub nineteen : 511 ≤ used → Right 19
+    module _ (live : isLive n ≡ true) where
+      pub nineteen : treeRecords ≤ used → Right 19
       unfolding recordNumber recordRefusals
       nineteen h = (
-        sym (first-later _ _ (ap not (eq-eqb (n .left) 0 low)) ∙ first-later _ _ (ap not (eq-eqb (n .live) 1 live)) ∙ first-here _ _ (ap not (le-ltb used 511 h))),
+        sym (first-later _ _ (ap not (eq-eqb (n .left) 0 low)) ∙ first-later _ _ (ap not live) ∙ first-here _ _ (ap not (le-ltb used treeRecords h))),
         λ z. absurd (omega (arith, z)),
       )
 
-      module _ (room : used < 511) {vs : List Way} (e : vs ≡ recordWays t n) where
+      module _ (room : used < treeRecords) {vs : List Way} (e : vs ≡ recordWays t n) where
         passed : recordNumber t used k n ≡ first (refusal 20 (not (possible k vs)) ∷ [])
         unfolding recordNumber recordRefusals
         passed =
-            first-later _ _ (ap not (eq-eqb (n .left) 0 low)) ∙ first-later _ _ (ap not (eq-eqb (n .live) 1 live)) ∙ first-later _ _ (ap not (lt-ltb used 511 room))
+            first-later _ _ (ap not (eq-eqb (n .left) 0 low)) ∙ first-later _ _ (ap not live) ∙ first-later _ _ (ap not (lt-ltb used treeRecords room))
             ∙ ap (λ (us : List Way). first (refusal 20 (not (possible k us)) ∷ [])) (sym e)
 
         pub nought : {b : Bool} → (b ≡ possible k vs) × (b ≡ true → FaultFits k) → b ≡ true → Right 0
@@ -74,7 +67,7 @@ module _ (t : Table) (used : ℕ) (k : Kind) (n : Node) where
   -- A record that nothing refuses.
   record Passes : Type 0 where
     live : n .live ≡ 1
-    room : used < 511
+    room : used < treeRecords
     fitting : possible k (recordWays t n) ≡ true
 
   passes : recordNumber t used k n ≡ 0 → Passes
@@ -83,7 +76,7 @@ module _ (t : Table) (used : ℕ) (k : Kind) (n : Node) where
       let p = none-applies (recordRefusals t used k n) refl e in
       record {
         live = eqb-true (n .live) 1 (not-false _ (p .1 .0));
-        room = ltb-true used 511 (not-false _ (p .1 .1 .0));
+        room = ltb-true used treeRecords (not-false _ (p .1 .1 .0));
         fitting = not-false _ (p .1 .1 .1 .0);
       }
 
@@ -102,26 +95,26 @@ leads-to o s e = sym (same o) ∙ ap back (sym e)
     same none = refl
     same (some j) = refl
 
--- It is one of the 511 records.
-walk-inside : (xs : List Node) → Safe xs → (p : Place) (i j : ℕ) → i < 511 → walk xs p i ≡ some j → j < 511
+-- It is one of the tree's records.
+walk-inside : (xs : List Node) → Safe xs → (p : Place) (i j : ℕ) → i < treeRecords → walk xs p i ≡ some j → j < treeRecords
 unfolding walk
 walk-inside xs w [] i j h e = rw (Option·some-injective i j e) at h
 walk-inside xs w (b ∷ p) i j h e = by (eqb (getD xs i blank .left) 0) refl (walk-inside xs w p (childRecord b (getD xs i blank .left)) j (child b))
   where
-    child : (b : Side) → childRecord b (getD xs i blank .left) < 511
+    child : (b : Side) → childRecord b (getD xs i blank .left) < treeRecords
     child left = omega (arith, w .each i .children-inside)
     child right = omega (arith, w .each i .children-inside)
 
-    by : (c : Bool) → eqb (getD xs i blank .left) 0 ≡ c → (walk xs p (childRecord b (getD xs i blank .left)) ≡ some j → j < 511) → j < 511
+    by : (c : Bool) → eqb (getD xs i blank .left) 0 ≡ c → (walk xs p (childRecord b (getD xs i blank .left)) ≡ some j → j < treeRecords) → j < treeRecords
     by true d ih = absurd (Option·none-ne-some _ (sym (rw (d, walk) refl) ∙ e))
     by false d ih = ih (sym (rw (d, walk) refl) ∙ e)
 
-led-inside : (xs : List Node) → Safe xs → (o : Option Place) (j : ℕ) → led xs 0 o ≡ some j → j < 511
+led-inside : (xs : List Node) → Safe xs → (o : Option Place) (j : ℕ) → led xs 0 o ≡ some j → j < treeRecords
 unfolding led
 led-inside xs w none j e = absurd (Option·none-ne-some _ e)
 led-inside xs w (some p) j e = walk-inside xs w p 0 j (omega arith) e
 
-pub spot-inside : (xs : List Node) → Safe xs → (bs : List ℕ) (j : ℕ) → At j ≡ reachedOf (found xs bs) → j < 511
+pub spot-inside : (xs : List Node) → Safe xs → (bs : List ℕ) (j : ℕ) → At j ≡ reachedOf (found xs bs) → j < treeRecords
 spot-inside xs w bs j e = led-inside xs w (placeOf bs) j (leads-to (found xs bs) (At j) e)
 
 -- ---- what the answers of `leaf_at` tell

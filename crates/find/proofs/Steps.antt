@@ -11,7 +11,7 @@ use lib.Seq.{drop-cons}
 use borrow.Author.Tests.{eq-eqb, ne-eqb}
 use Rattle.rules.specs.Tree.{Side, left, right, Place}
 use Rattle.rules.specs.Calls.{stepTo, placeOf}
-use Rattle.records.specs.Records.{blank, recordIn, childRecord, walk}
+use Rattle.records.specs.Records.{treeRecords, blank, recordIn, childRecord, walk}
 use Rattle.records.specs.declared.Node.{Node}
 use Rattle.store.specs.Safe.{Safe}
 use Rattle.find.specs.declared.Reached.the-variants.{At, Nowhere}
@@ -57,7 +57,7 @@ module _ (xs : List Node) (i : ℕ) where
 
 -- The walk has come to record j with the bytes from i on left.
 pub record Walk (xs : List Node) (bs : List ℕ) (j i : ℕ) : Type 0 where
-  pub inside : j < 511
+  pub inside : j < treeRecords
   pub rest : led xs j (placeOf (drop i bs)) ≡ found xs bs
 
 pub start : (xs : List Node) (bs : List ℕ) → Walk xs bs 0 0

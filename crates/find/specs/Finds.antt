@@ -12,7 +12,7 @@ use Rattle.rules.specs.Tree.{Place, possible}
 use Rattle.rules.specs.Refusals.{Refusal, refusal, first}
 use Rattle.rules.specs.Calls.{placeOf}
 use Rattle.rules.specs.declared.Kind.{Kind}
-use Rattle.records.specs.Records.{recordIn, recordWays, walk}
+use Rattle.records.specs.Records.{treeRecords, recordIn, isLive, recordWays, walk}
 use Rattle.records.specs.declared.Node.{Node}
 use Rattle.records.specs.declared.Tree.{Tree}
 use Rattle.formula.specs.Leaves.{FaultFits}
@@ -45,8 +45,8 @@ wordTable ps qs = record { weights = []; present = ps; absent = qs }
 unfoldable pub recordRefusals : Table → ℕ → Kind → Node → List Refusal
 recordRefusals t used k n =
     refusal 17 (not (eqb (n .left) 0))
-    ∷ refusal 18 (not (eqb (n .live) 1))
-    ∷ refusal 19 (not (ltb used 511))
+    ∷ refusal 18 (not (isLive n))
+    ∷ refusal 19 (not (ltb used treeRecords))
     ∷ refusal 20 (not (possible k (recordWays t n)))
     ∷ []
 
@@ -69,9 +69,9 @@ leafNumber t x bs k = elim (ltb 64 (length bs)) as (λ b. ℕ) [ true ↦ 17 | f
 pub record Refinable (t : Table) (x : Tree) (bs : List ℕ) (k : Kind) (j : ℕ) : Type 0 where
   pub unrefused : leafNumber t x bs k ≡ 0
   pub leads : found (x .nodes) bs ≡ some j
-  pub inside : j < 511
+  pub inside : j < treeRecords
   pub live : recordIn (x .nodes) j .live ≡ 1
-  pub room : x .used < 511
+  pub room : x .used < treeRecords
   pub fitting : possible k (recordWays t (recordIn (x .nodes) j)) ≡ true
   pub fault : FaultFits k
 

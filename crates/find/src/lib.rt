@@ -1,5 +1,5 @@
 //! The leaf that a hand refinement names, found by the links of the records, and which of 17 to 20 refuses it.
-//! Rests on the records of `records`, lent as `store` has them, on `clauses` and on `formula`. specs/ has the numbers told from records, proofs/ that on a layout they are the rules'.
+//! Rests on the records of `records`, lent as `store` has them and read by `node`, and on `formula`. specs/ has the numbers told from records, proofs/ that on a layout they are the rules'.
 ghost use mathlib.Core.Path.{_≡_};
 ghost use Prim.Native.Nat.{_≤_};
 ghost use lib.ListN.{length};
@@ -7,9 +7,11 @@ ghost use Rattle.store.specs.Lent.{treeOf};
 ghost use Rattle.store.specs.Safe.{Safe};
 ghost use Rattle.formula.specs.Leaves.{FaultFits};
 ghost use Rattle.find.specs.Finds.{found, reachedOf, wordTable, recordNumber, Tells};
-use clauses::keeping::remaining_of;
 use formula::child::possible;
+use node::told::is_live;
+use node::told::ways_of;
 use records::Node;
+use records::RECORDS;
 use rules::Kind;
 use store::Words;
 use store::record_at;
@@ -63,13 +65,13 @@ fn refusal(present: &[u64], absent: &[u64], n: Node, used: usize, k: Kind) -> u8
     if n.left != 0 {
         return 17;
     }
-    if n.live != 1 {
+    if !is_live(n) {
         return 18;
     }
-    if 511 <= used {
+    if RECORDS <= used {
         return 19;
     }
-    let c = remaining_of(present, absent, n.waysa, n.waysb, n.present, n.absent);
+    let c = ways_of(present, absent, n);
     if possible(k, present, absent, c) {
         0
     } else {

@@ -7,7 +7,7 @@ use native.Mathlib.Numerals.{add-one}
 use native.Mathlib.Omega.{arith}
 use borrow.Author.Tests.{eq-eqb, ne-eqb}
 use lib.ListN.{length, getD, length-set}
-use Rattle.records.specs.Records.{blank}
+use Rattle.records.specs.Records.{treeRecords, blank}
 use Rattle.records.specs.Growing.{joined, joinAt, raise}
 use Rattle.records.specs.declared.Node.{Node}
 use Rattle.records.specs.declared.Tree.{Tree}
@@ -39,8 +39,8 @@ module _ (ws : List ℕ) (xs : List Node) (i : ℕ) where
 
 -- Of raising the tree t from record j, at most k records are left to do, from record i of the tree u.
 pub record Climb (ws : List ℕ) (t : Tree) (j : ℕ) (u : Tree) (i k : ℕ) : Type 0 where
-  pub inside : i < 511
-  pub long : length (u .nodes) ≡ 511
+  pub inside : i < treeRecords
+  pub long : length (u .nodes) ≡ treeRecords
   pub safe : Safe (u .nodes)
   pub same : u .used ≡ t .used
   pub rest : raise ws k (u .nodes) i ≡ raise ws 64 (t .nodes) j

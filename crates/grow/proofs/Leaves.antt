@@ -13,15 +13,16 @@ use Rattle.rules.specs.Tree.{Node as Spot}
 use Rattle.rules.specs.declared.Kind.{Kind}
 use Rattle.rules.specs.declared.Way.{Way}
 use Rattle.rules.proofs.LeafEnds.{leaf-le}
-use Rattle.records.specs.Records.{blank, faultCode, recordWays}
+use Rattle.records.specs.Records.{treeRecords, blank, faultCode, recordWays}
 use Rattle.records.specs.Growing.{refinedRecord, freshRecord, spotOf, refinedAt}
 use Rattle.records.specs.declared.Node.{Node}
 use Rattle.store.specs.Safe.{SafeNode, Safe}
 use Rattle.clauses.specs.declared.Clauses.{Clauses}
 use Rattle.clauses.specs.Leaves.{waysOf}
 use Rattle.formula.specs.Leaves.{Part}
-use Rattle.grow.specs.Branched.{LeafWays, leafBelow, three}
 use Rattle.store.proofs.SafeLaws.{safe-set}
+use Rattle.node.specs.Told.{LeafWays}
+use Rattle.grow.specs.Branched.{leafBelow, three}
 
 -- A table of weights alone, and what stands at a place but for its set: a leaf's record depends on no more.
 abbrev only : List ℕ → Table
@@ -37,7 +38,7 @@ as-child ps qs ws x c d k b j n l p h =
     rw (p .ways-are, p .present-is ∙ ap (childFixed left k b) (l .present-is), p .absent-is ∙ ap (childFixed right k b) (l .absent-is)) at h
 
 -- The record of a new leaf is safe.
-pub safe-fresh : (ws : List ℕ) (p q : ℕ) (vs : List Way) (j : ℕ) (n : Node) → j < 511 → n ≡ freshRecord (only ws) (spot p q vs) j → SafeNode n
+pub safe-fresh : (ws : List ℕ) (p q : ℕ) (vs : List Way) (j : ℕ) (n : Node) → j < treeRecords → n ≡ freshRecord (only ws) (spot p q vs) j → SafeNode n
 unfolding faultCode end
 safe-fresh ws p q vs j n h e =
     rw e
@@ -52,11 +53,11 @@ safe-fresh ws p q vs j n h e =
     })
 
 -- The three records in their places are safe.
-pub safe-three : (xs : List Node) (used j : ℕ) (n l r : Node) → length xs ≡ 511 → j < 511 → used + 1 < 511 → Safe xs
+pub safe-three : (xs : List Node) (used j : ℕ) (n l r : Node) → length xs ≡ treeRecords → j < treeRecords → used + 1 < treeRecords → Safe xs
     → SafeNode n → SafeNode l → SafeNode r → Safe (three xs used j n l r)
 safe-three xs used j n l r long h g s a b c =
-    let one : length (set xs j n) ≡ 511 = length-set xs j n ∙ long in
-    let two : length (set (set xs j n) used l) ≡ 511 = length-set (set xs j n) used l ∙ one in
+    let one : length (set xs j n) ≡ treeRecords = length-set xs j n ∙ long in
+    let two : length (set (set xs j n) used l) ≡ treeRecords = length-set (set xs j n) used l ∙ one in
     safe-set (set (set xs j n) used l) (used + 1) r (omega arith) (safe-set (set xs j n) used l (omega arith) (safe-set xs j n (omega arith) s a) b) c
 
 -- The ways vs are those of record j of the table t.

@@ -1,5 +1,5 @@
--- The ways of a record as the code has them, and the three records that a refinement writes, as `records`, Growing, has them.
--- Rests on `records`, Growing, on `clauses`, Leaves, and on `store`, Safe. Of the table only the weights count once the leaf's ways are known.
+-- The three records that a refinement writes, as `records`, Growing, has them.
+-- Rests on `records`, Growing, and on `store`, Safe. Of the table only the weights count once the leaf's ways are known.
 use mathlib.Core.Path.{_≡_}
 use mathlib.Core.List.{List, []}
 use Prim.Native.Nat.{ℕ, _+_}
@@ -7,20 +7,10 @@ use lib.ListN.{set}
 use Rattle.rules.specs.Tree.{Side, left, right, childNode}
 use Rattle.rules.specs.declared.Kind.{Kind}
 use Rattle.rules.specs.declared.Way.{Way}
-use Rattle.records.specs.Records.{recordWays}
 use Rattle.records.specs.Growing.{refinedRecord, freshRecord}
 use Rattle.records.specs.declared.Node.{Node}
 use Rattle.store.specs.Safe.{SafeNode}
-use Rattle.clauses.specs.declared.Clauses.{Clauses}
-use Rattle.clauses.specs.Leaves.{waysOf, InTable}
 use Rattle.grow.specs.declared.refine.Branch.{Branch}
-
--- The ways of record x of a table with these words, and its fixed faults. They do not depend on the weights.
-pub record LeafWays (ps qs : List ℕ) (x : Node) (c : Clauses) : Type 0 where
-  pub within : InTable ps qs c
-  pub ways-are : (ws : List ℕ) → waysOf ps qs c ≡ recordWays (record { weights = ws; present = ps; absent = qs }) x
-  pub present-is : c .fixedpresent ≡ x .present
-  pub absent-is : c .fixedabsent ≡ x .absent
 
 -- The record of a leaf below the leaf x in record j, where vs are the ways of x.
 abbrev pub leafBelow : List ℕ → Node → List Way → Kind → ℕ → Side → Node

@@ -4,10 +4,11 @@ ghost use mathlib.Core.Path.{_≡_};
 ghost use mathlib.Core.Bool.{false};
 ghost use Prim.Native.Nat.{_<_};
 ghost use Rattle.rules.specs.Refusals.{overweight};
+ghost use Rattle.records.specs.Records.{treeRecords};
 ghost use Rattle.records.specs.Growing;
 ghost use Rattle.store.specs.Lent.{treeOf};
 ghost use Rattle.store.specs.Safe.{Safe};
-use super::join::joined;
+use node::join::joined;
 use store::Words;
 use store::put_record;
 use store::record_at;
@@ -16,7 +17,7 @@ use store::record_at;
 pub fn raise(weights: &[u32], tree: &mut Words, j: usize)
     requires { ⌜ overweight (now weights) ≡ false ⌝ }
     requires { ⌜ Safe (treeOf (now tree) .nodes) ⌝ }
-    requires { ⌜ j < 511 ⌝ }
+    requires { ⌜ j < treeRecords ⌝ }
     ensures { λ _. ⌜ (treeOf (now (tree .exit)) .nodes ≡ Growing.raise (now (weights .entry)) 64 (treeOf (now (tree .entry)) .nodes) j)
         × (treeOf (now (tree .exit)) .used ≡ treeOf (now (tree .entry)) .used) × Safe (treeOf (now (tree .exit)) .nodes) ⌝ }
 {

@@ -1,25 +1,25 @@
 //! One refinement: the refined record, the records of its two leaves, and the intervals above. Rests on `records`, Growing.
-//! The ways of a leaf are worked out from its record, those of its children from them.
+//! Each record is made by `node`; the ways of the children are worked out from those of the leaf.
 ghost use mathlib.Core.Path.{_≡_};
 ghost use mathlib.Core.Bool.{false};
-ghost use mathlib.Core.Option.{some};
 ghost use Prim.Native.Nat.{_+_, _<_, _≤_};
 ghost use lib.ListN.{length};
 ghost use Rattle.rules.specs.Leaf.{Lean};
 ghost use Rattle.rules.specs.Refusals.{overweight, Accepted};
 ghost use Rattle.rules.specs.Table.{table};
-ghost use Rattle.records.specs.Records.{recordIn, recordWays, kindCode, faultCode};
-ghost use Rattle.records.specs.Growing.{refinedRecord, grownAt};
+ghost use Rattle.records.specs.Records.{treeRecords, recordIn, recordWays};
+ghost use Rattle.records.specs.Growing.{grownAt};
 ghost use Rattle.store.specs.Lent.{treeOf};
 ghost use Rattle.store.specs.Safe.{SafeNode, Safe};
 ghost use Rattle.clauses.specs.Leaves.{waysOf};
 ghost use Rattle.formula.specs.Leaves.{FaultFits};
-ghost use Rattle.grow.specs.Branched.{LeafWays, Branched, three};
+ghost use Rattle.node.specs.Told.{LeafWays};
+ghost use Rattle.grow.specs.Branched.{Branched, three};
 use super::raise::raise;
 use clauses::Clauses;
-use clauses::keeping::remaining_of;
 use formula::child::children;
 use node::leaf_record;
+use node::refined;
 use records::Node;
 use rules::Kind;
 use store::Words;
@@ -27,50 +27,6 @@ use store::put_record;
 use store::put_used;
 use store::record_at;
 use store::used_in;
-
-/// The remaining ways of a record.
-pub fn ways_of(present: &[u64], absent: &[u64], x: Node) -> Clauses
-    requires { ⌜ length (now present) ≤ 128 ⌝ }
-    requires { ⌜ length (now absent) ≡ length (now present) ⌝ }
-    ensures { λ r. ⌜ LeafWays (now (present .entry)) (now (absent .entry)) x r ⌝ }
-{
-    remaining_of(present, absent, x.waysa, x.waysb, x.present, x.absent)
-}
-
-/// The code of a kind in a record.
-fn kind_code(k: Kind) -> u64
-    ensures { λ r. ⌜ r ≡ kindCode (some k) ⌝ }
-{
-    match k {
-        Kind::IndependentOr => 2,
-        Kind::Shannon(_) => 3,
-    }
-}
-
-/// The fault of a kind in a record.
-fn fault_code(k: Kind) -> u64
-    ensures { λ r. ⌜ r ≡ faultCode (some k) ⌝ }
-{
-    match k {
-        Kind::IndependentOr => 0,
-        Kind::Shannon(f) => f,
-    }
-}
-
-/// The record of a leaf that is refined, with its left child in record `left`.
-fn refined(x: Node, k: Kind, left: usize) -> Node
-    requires { ⌜ FaultFits k ⌝ }
-    requires { ⌜ SafeNode x ⌝ }
-    requires { ⌜ left + 1 < 511 ⌝ }
-    ensures { λ n. ⌜ (n ≡ refinedRecord x k left) × SafeNode n ⌝ }
-{
-    let mut n = x;
-    n.kind = kind_code(k);
-    n.fault = fault_code(k);
-    n.live = 0;
-    n.left = left;
-    n
-}
 
 /// The records that a refinement of a leaf writes: its own and those of its two leaves.
 struct Branch {
@@ -95,7 +51,7 @@ fn branch_of(
     requires { ⌜ LeafWays (now present) (now absent) x c ⌝ }
     requires { ⌜ FaultFits k ⌝ }
     requires { ⌜ SafeNode x ⌝ }
-    requires { ⌜ (j < 511) × (next + 1 < 511) ⌝ }
+    requires { ⌜ (j < treeRecords) × (next + 1 < treeRecords) ⌝ }
     requires { ⌜ Lean (waysOf (now present) (now absent) c) ⌝ }
     ensures { λ b. ⌜ Branched (now (weights .entry)) x (waysOf (now (present .entry)) (now (absent .entry)) c) k j next b ⌝ }
 {
@@ -110,7 +66,7 @@ fn branch_of(
 
 /// Writes the records of a refinement of record j, the leaves into records `next` and `next` + 1, which are then in use.
 fn put_branch(tree: &mut Words, b: Branch, j: usize, next: usize)
-    requires { ⌜ (j < 511) × (next + 1 < 511) ⌝ }
+    requires { ⌜ (j < treeRecords) × (next + 1 < treeRecords) ⌝ }
     ensures { λ _. ⌜ treeOf (now (tree .exit)) ≡ record { nodes = three (treeOf (now (tree .entry)) .nodes) next j (b .node) (b .left) (b .right); used = next + 2 } ⌝ }
 {
     let node = b.node;
@@ -137,7 +93,7 @@ pub fn grow(
     requires { ⌜ LeafWays (now present) (now absent) (recordIn (treeOf (now tree) .nodes) j) c ⌝ }
     requires { ⌜ FaultFits k ⌝ }
     requires { ⌜ Safe (treeOf (now tree) .nodes) ⌝ }
-    requires { ⌜ (j < 511) × (treeOf (now tree) .used + 1 < 511) ⌝ }
+    requires { ⌜ (j < treeRecords) × (treeOf (now tree) .used + 1 < treeRecords) ⌝ }
     requires { ⌜ Lean (recordWays (table (now weights) (now present) (now absent)) (recordIn (treeOf (now tree) .nodes) j)) ⌝ }
     ensures { λ _. ⌜ (treeOf (now (tree .exit)) .nodes ≡ grownAt (table (now (weights .entry)) (now (present .entry)) (now (absent .entry)))
         (treeOf (now (tree .entry)) .nodes) (treeOf (now (tree .entry)) .used) j k)

@@ -7,7 +7,7 @@ use mathlib.Core.Logic.{_↔_}
 use Prim.Native.Nat.{ℕ, zero, suc, _<_, _≤_}
 use lib.ListN.{length}
 use lib.Dec.{eqb, ltb}
-use Rattle.records.specs.Records.{recordIn}
+use Rattle.records.specs.Records.{recordIn, isLive}
 use Rattle.records.specs.Growing.{recordWidth}
 use Rattle.records.specs.declared.Node.{Node}
 use Rattle.page.specs.declared.Best.{Best}
@@ -18,7 +18,7 @@ use Rattle.page.specs.declared.Spot.the-variants.{At, Nothing}
 
 -- Whether a record counts: it is marked as an open leaf, and its low is below its high.
 unfoldable pub counts : Node → Bool
-counts x = eqb (x .kind) 1 && (eqb (x .live) 1 && ltb (x .low) (x .high))
+counts x = eqb (x .kind) 1 && (isLive x && ltb (x .low) (x .high))
 
 -- The width of a record that counts, 0 of any other.
 unfoldable pub countedWidth : Node → ℕ

@@ -1,8 +1,11 @@
 //! The search for the page that draws the tree: the first position with the widest open leaf in lent records, whatever they hold.
-//! Rests on the records of `records`. specs/ has the search as a definition and what it finds; proofs/ what that says of a tree.
+//! Rests on the records of `records`, read by `node`. specs/ has the search as a definition and what it finds; proofs/ what that says of a tree.
 ghost use mathlib.Core.Path.{_≡_};
 ghost use Rattle.page.specs.Widest.{countedWidth, noneYet, betterOf, answerOf, widestOf, WidestLaw};
+use node::told::is_open_leaf;
+use node::told::width;
 use records::Node;
+use records::RECORDS;
 use records::Tree;
 
 /// What the page is told: the position of a record, or that there is none.
@@ -28,13 +31,7 @@ fn start() -> Best
 fn counted_width(n: Node) -> u64
     ensures { λ r. ⌜ r ≡ countedWidth n ⌝ }
 {
-    if n.kind != 1 {
-        return 0;
-    }
-    if n.live != 1 {
-        return 0;
-    }
-    if n.low < n.high { n.high - n.low } else { 0 }
+    if is_open_leaf(n) { width(n) } else { 0 }
 }
 
 /// The wider of the widest so far and the record at a position. One that is as wide comes too late.
@@ -75,7 +72,7 @@ pub fn widest(records: &[Node]) -> Spot
 }
 
 /// The same of records by value.
-pub fn widest_in(records: [Node; 511]) -> Spot
+pub fn widest_in(records: [Node; RECORDS]) -> Spot
     ensures answer { λ r. ⌜ r ≡ widestOf records ⌝ }
     ensures law { λ r. ⌜ WidestLaw records r ⌝ }
 {

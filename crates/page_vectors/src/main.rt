@@ -11,7 +11,10 @@ use page::widest;
 use page::widest_in;
 use page::widest_of;
 use records::Node;
+use records::RECORDS;
 use rules::Limits;
+use store::NO_NODES;
+use store::WORDS;
 use store::Words;
 use store::loaded;
 
@@ -118,9 +121,9 @@ fn mixed() {
     print(front(a, 600));
 }
 
-/// 511 records by value.
+/// As many records as a tree has, by value.
 fn by_value() {
-    let mut a = [record(0, 0, 0, 0); 511];
+    let mut a = [record(0, 0, 0, 0); RECORDS];
     // none: blanks.
     print(widest_in(a));
     // 510: the one that counts.
@@ -151,7 +154,7 @@ fn paper() {
     let weights = [500000000, 500000000, 200000000];
     let present = [3, 5];
     let absent = [0, 0];
-    let mut tree = [0u64; 6644];
+    let mut tree = NO_NODES;
     open(&weights, &present, &absent, &mut tree);
     // 0: the root leaf, from 250000000 to 350000000.
     print(widest_of(loaded(&tree)));
@@ -166,7 +169,7 @@ fn ties() {
     let weights = [500000000; 7];
     let present = [19, 35, 65, 4, 8];
     let absent = [0, 0, 2, 1, 1];
-    let mut tree = [0u64; 6644];
+    let mut tree = NO_NODES;
     open(&weights, &present, &absent, &mut tree);
     // 1: by fault 0; the left child {1,4} {1,5} {~1,6} goes from 250000000 to 750000000, the right one {2} {3} from 750000000 to 1000000000.
     grown(&weights, &present, &absent, &mut tree);
@@ -180,7 +183,7 @@ fn ties() {
 
 /// A table that is refused: the tree has no nodes, so `none`.
 fn refused() {
-    let mut tree = [1u64; 6644];
+    let mut tree = [1u64; WORDS];
     open(&[0u32; 0], &[0u64; 0], &[0u64; 0], &mut tree);
     print(widest_of(loaded(&tree)));
 }

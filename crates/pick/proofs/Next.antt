@@ -19,7 +19,7 @@ use Rattle.rules.specs.Run.{Candidate, from, widest, choice, next}
 use Rattle.rules.proofs.Places.{nodes-inners, ways-leaf, leaf-has, subtree-has, subtree-kind, subtree-child, undone-leaf}
 use Rattle.rules.proofs.Series.{series-room}
 use Rattle.rules.proofs.Widest.{Leftmost, Law, the, widest-law}
-use Rattle.records.specs.Records.{recordIn, places, samePlace, position, leftCode, recordWays, recordAt, recordsOf, layout}
+use Rattle.records.specs.Records.{treeRecords, recordIn, places, samePlace, position, leftCode, recordWays, recordAt, recordsOf, layout}
 use Rattle.records.specs.Growing.{recordWidth}
 use Rattle.records.specs.declared.Node.{Node}
 use Rattle.records.proofs.Positions.{Held, position-lt, position-get, has-held, position-child}
@@ -128,7 +128,7 @@ module _ (t : Table) (ns : List Refinement) (whole : series t ns ≡ true) where
   -- The search finds the rules' widest leaf.
   pick-widest : pickOf xs ≡ shown ns [] (widest (t .weights) (rootWays t) (tree ns))
   unfolding pickOf places position samePlace descend
-  pick-widest = found-below (tree ns) 511 [] (root t) refl (omega (arith, nodes-inners (tree ns), series-room t ns whole))
+  pick-widest = found-below (tree ns) treeRecords [] (root t) refl (omega (arith, nodes-inners (tree ns), series-room t ns whole))
 
 -- ---- what an answer means
 

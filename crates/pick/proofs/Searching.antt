@@ -9,7 +9,7 @@ use native.Mathlib.Numerals.{add-one}
 use native.Mathlib.Omega.{arith}
 use native.Mathlib.Decide.{ℕ-discrete}
 use borrow.Author.Tests.{eq-eqb, ne-eqb}
-use Rattle.records.specs.Records.{recordIn}
+use Rattle.records.specs.Records.{treeRecords, recordIn}
 use Rattle.records.specs.declared.Node.{Node}
 use Rattle.pick.specs.declared.Found.{Found}
 use Rattle.pick.specs.Picks.{pickOf, Linked}
@@ -40,7 +40,7 @@ module _ {xs : List Node} {used : ℕ} where
     abbrev p : Node
     p = recordIn xs (n .parent)
 
-    pub inside : s .at < 511
+    pub inside : s .at < treeRecords
     inside = room (inv .going on)
 
     -- The search after the step, and that fewer steps are left than before.

@@ -11,7 +11,7 @@ use native.Mathlib.Decide.{ℕ-discrete}
 use lib.ListN.{length}
 use lib.Dec.{eqb}
 use borrow.Author.Tests.{eq-eqb, ne-eqb}
-use Rattle.records.specs.Records.{recordIn}
+use Rattle.records.specs.Records.{treeRecords, recordIn}
 use Rattle.records.specs.declared.Node.{Node}
 use Rattle.pick.specs.declared.Found.{Found}
 use Rattle.pick.specs.declared.Found.the-variants.{Nothing}
@@ -155,13 +155,13 @@ start xs used linked =
       linked = linked;
       rest = entered-append xs Nothing (order used xs 0) (after used used xs 0)
           ∙ ap (entered xs (entered xs Nothing (order used xs 0))) (after-root used used xs)
-          ∙ ap (entered xs Nothing) (order-deep linked used 511 0 (linked .some) (omega arith) (linked .fits))
-          ∙ entered-order 511 xs Nothing 0;
+          ∙ ap (entered xs Nothing) (order-deep linked used treeRecords 0 (linked .some) (omega arith) (linked .fits))
+          ∙ entered-order treeRecords xs Nothing 0;
     }
 
 module _ {xs : List Node} {used i : ℕ} {best : Found} where
   -- The record where the search is has a number below 511.
-  pub room : {down : Bool} → Walk xs used down i best → i < 511
+  pub room : {down : Bool} → Walk xs used down i best → i < treeRecords
   room w = let h = w .inside in let f = w .linked .fits in omega arith
 
   -- At a leaf the search takes the wider of that leaf and what it had, and comes back up.

@@ -5,7 +5,7 @@ use mathlib.Core.Bool.{true, false}
 use mathlib.Core.List.{List}
 use Prim.Native.Nat.{ℕ, zero, suc, _<_, _≤_}
 use lib.Dec.{eqb, ltb}
-use Rattle.records.specs.Records.{recordIn}
+use Rattle.records.specs.Records.{treeRecords, recordIn, isLive}
 use Rattle.records.specs.Growing.{recordWidth}
 use Rattle.records.specs.declared.Node.{Node}
 use Rattle.pick.specs.declared.Found.{Found}
@@ -15,7 +15,7 @@ use Rattle.pick.specs.declared.Found.the-variants.{At, Nothing}
 
 -- What the leaf n in record i is to the search: itself, if it is open.
 unfoldable pub ownFound : ℕ → Node → Found
-ownFound i n = elim (eqb (n .live) 1) as (λ b. Found) [ true ↦ At i (recordWidth n) | false ↦ Nothing ]
+ownFound i n = elim (isLive n) as (λ b. Found) [ true ↦ At i (recordWidth n) | false ↦ Nothing ]
 
 -- The wider of two, the left one if they are equally wide.
 unfoldable pub wider : Found → Found → Found
@@ -32,16 +32,16 @@ pickFrom (suc f) xs i =
       | false ↦ wider (pickFrom f xs (recordIn xs i .left)) (pickFrom f xs (suc (recordIn xs i .left)))
     ]
 
--- That of the whole tree: 511 records are no deeper than 511.
+-- That of the whole tree, which is no deeper than it has records.
 unfoldable pub pickOf : List Node → Found
-pickOf xs = pickFrom 511 xs 0
+pickOf xs = pickFrom treeRecords xs 0
 
 -- ---- the links
 
 -- The links of the records in use are in order: a parent lies before its children, and these stand side by side and point back to it.
 pub record Linked (xs : List Node) (used : ℕ) : Type 0 where
   pub some : 0 < used
-  pub fits : used ≤ 511
+  pub fits : used ≤ treeRecords
   pub up : (i : ℕ) → i < used → (i ≡ 0 → ⊥) → recordIn xs i .parent < i
   pub inside : (i : ℕ) → i < used → (recordIn xs i .left ≡ 0 → ⊥) → suc (recordIn xs i .left) < used
   pub backleft : (i : ℕ) → i < used → (recordIn xs i .left ≡ 0 → ⊥) → recordIn xs (recordIn xs i .left) .parent ≡ i

@@ -1,13 +1,15 @@
 //! Which leaf a run refines next: the widest open one, the leftmost if several are as wide, found by the links of the records.
-//! Rests on the records of `records` and on `store`. specs/ has the search as a definition, proofs/ that on a layout it finds the rules' next leaf.
+//! Rests on the records of `records`, read by `node`, and on `store`. specs/ has the search as a definition, proofs/ that on a layout it finds the rules' next leaf.
 ghost use mathlib.Core.Path.{_≡_};
 ghost use mathlib.Core.Bool.{false};
 ghost use Prim.Native.Nat.{_+_, _<_};
-ghost use Rattle.records.specs.Growing.{recordWidth};
+ghost use Rattle.records.specs.Records.{treeRecords};
 ghost use Rattle.store.specs.Lent.{treeOf};
 ghost use Rattle.store.specs.Safe.{Safe};
 ghost use Rattle.pick.specs.Picks.{ownFound, wider, pickOf, Linked};
 ghost use Rattle.pick.specs.Steps.{view, begun, came, stepped};
+use node::told::is_live;
+use node::told::width;
 use records::Node;
 use store::Words;
 use store::record_at;
@@ -22,13 +24,6 @@ const RIGHT: usize = 1;
 pub enum Found {
     At(usize, u64),
     Nothing,
-}
-
-/// The width of a record's interval, 0 where its ends are crossed.
-fn width(n: Node) -> u64
-    ensures { λ r. ⌜ r ≡ recordWidth n ⌝ }
-{
-    if n.low < n.high { n.high - n.low } else { 0 }
 }
 
 /// How far a search has come: the record where it is, whether it goes down there or comes back up, whether it is over, and if it has found
@@ -82,7 +77,7 @@ fn entered(s: Search, n: Node) -> Search
     ensures { λ r. ⌜ view r ≡ came (s .at) false (wider (view s .best) (ownFound (s .at) n)) ⌝ }
 {
     let at = s.at;
-    if n.live != 1 {
+    if !is_live(n) {
         return moved(s, at, false);
     }
     let w = width(n);
@@ -104,7 +99,7 @@ fn entered(s: Search, n: Node) -> Search
 /// One step of a search at record n, below record p. Down by the left links to a leaf, then up by the parent links until a right
 /// child is next.
 fn onward(s: Search, n: Node, p: Node) -> Search
-    requires { ⌜ (n .left + 1 < 511) × (p .left + 1 < 511) ⌝ }
+    requires { ⌜ (n .left + 1 < treeRecords) × (p .left + 1 < treeRecords) ⌝ }
     ensures { λ r. ⌜ view r ≡ stepped (view s) n p ⌝ }
 {
     if s.down {

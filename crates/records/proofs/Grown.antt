@@ -19,7 +19,7 @@ use Rattle.rules.proofs.Booleans.{and-both}
 use Rattle.rules.proofs.Places.{leaf-has, has-child, has-subtree, subtree-new, off-path, nodeOnly, node-stays, refined-kind, done-elsewhere, new-undone}
 use Rattle.rules.proofs.Series.{acceptable-leaf, grow-append, series-append, only-done}
 use Rattle.rules.proofs.Levels.{refined-above}
-use Rattle.records.specs.Records.{blank, children, places, position, above, liveCode, leftCode, recordFrom, subtreeOr, recordAt, recordsOf, recordWays}
+use Rattle.records.specs.Records.{treeRecords, blank, children, places, position, above, liveCode, leftCode, recordFrom, subtreeOr, recordAt, recordsOf, recordWays}
 use Rattle.records.specs.Growing.{raise, refinedRecord, freshRecord, spotOf, refinedAt, grownAt}
 use Rattle.records.specs.declared.Node.{Node}
 use Rattle.records.proofs.Positions.{Held, above-child, position-append, position-of, places-append, position-lt, has-held, held-has, places-once, right-next, has-above, path-self, one-place}
@@ -219,7 +219,7 @@ module _ (t : Table) (ns : List Refinement) (whole : series t ns ≡ true) (n : 
   new-is : (b : Side) → new-record b ≡ recordAt t ms (p ++ (b ∷ []))
   new-is b = ap (λ (x : Node). freshRecord t (childNode (n .kind) b (spotOf t x)) at-p) (record-at t ns p p-held) ∙ fresh-is b
 
-  start-long : length start ≡ 511
+  start-long : length start ≡ treeRecords
   unfolding refinedAt
   start-long = three-long (recordsOf t ns) at-p used p-record (new-record left) (new-record right) ∙ records-long t ns whole
 

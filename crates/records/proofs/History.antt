@@ -12,7 +12,7 @@ use Rattle.rules.proofs.Booleans.{and-left}
 use Rattle.rules.proofs.Places.{leaf-has}
 use Rattle.rules.proofs.Members.{In}
 use Rattle.rules.proofs.Series.{acceptable-leaf, series-back, all-done}
-use Rattle.records.specs.Records.{blank, children, places, position, above, recordAt, recordsOf, layout, kindOf, historyFrom, treeCount, history}
+use Rattle.records.specs.Records.{treeRecords, blank, children, places, position, above, recordAt, recordsOf, layout, kindOf, historyFrom, treeCount, history}
 use Rattle.records.specs.declared.Node.{Node}
 use Rattle.records.proofs.Positions.{Held, position-finds, above-child, places-append, length-places, has-held}
 use Rattle.records.proofs.InPlace.{record-at, kind-at}
@@ -24,7 +24,7 @@ layout-count t ns = omega (arith, length-places ns)
 
 -- The records of a layout that are not in use.
 unused : List Refinement → List Node
-unused ns = replicate (511 - length (places ns)) blank
+unused ns = replicate (treeRecords - length (places ns)) blank
 
 module _ (t : Table) (ns : List Refinement) (h : series t ns ≡ true) where
   -- The record of a refined place says what was done there.

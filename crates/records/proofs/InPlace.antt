@@ -13,24 +13,24 @@ use Rattle.rules.specs.Tree.{Place, Refinement, tree, kindAt, series}
 use Rattle.rules.specs.declared.Kind.{Kind}
 use Rattle.rules.specs.declared.Kind.the-variants.{IndependentOr, Shannon}
 use Rattle.rules.proofs.Series.{series-inners, series-room}
-use Rattle.records.specs.Records.{blank, places, position, above, kindCode, faultCode, kindOf, recordAt, recordsOf}
+use Rattle.records.specs.Records.{treeRecords, blank, places, position, above, kindCode, faultCode, kindOf, recordAt, recordsOf}
 use Rattle.records.specs.declared.Node.{Node}
 use Rattle.records.proofs.Positions.{Held, position-lt, position-get, length-places}
 
 -- A series has at most 511 places.
-pub few-places : (t : Table) (ns : List Refinement) → series t ns ≡ true → length (places ns) ≤ 511
+pub few-places : (t : Table) (ns : List Refinement) → series t ns ≡ true → length (places ns) ≤ treeRecords
 few-places t ns h = omega (arith, length-places ns, series-inners t ns h, series-room t ns h)
 
 -- There are 511 records.
-pub records-long : (t : Table) (ns : List Refinement) → series t ns ≡ true → length (recordsOf t ns) ≡ 511
+pub records-long : (t : Table) (ns : List Refinement) → series t ns ≡ true → length (recordsOf t ns) ≡ treeRecords
 unfolding recordsOf
 records-long t ns h =
     omega (
       arith,
       few-places t ns h,
-      length-append (map (recordAt t ns) (places ns)) (replicate (511 - length (places ns)) blank),
+      length-append (map (recordAt t ns) (places ns)) (replicate (treeRecords - length (places ns)) blank),
       length-map (places ns) (recordAt t ns),
-      length-replicate (511 - length (places ns)) blank,
+      length-replicate (treeRecords - length (places ns)) blank,
     )
 
 get-map {ℓ κ} : {A : Type ℓ} {B : Type κ} (f : A → B) (l : List A) (i : ℕ) (a : A) (b : B) → i < length l → getD (map f l) i b ≡ f (getD l i a)
@@ -42,7 +42,7 @@ get-map f (x ∷ l) (suc i) a b h = get-map f l i a b (omega arith)
 pub record-of : (t : Table) (ns : List Refinement) (i : ℕ) → i < length (places ns) → getD (recordsOf t ns) i blank ≡ recordAt t ns (getD (places ns) i [])
 unfolding recordsOf
 record-of t ns i l =
-    List·getD-append (map (recordAt t ns) (places ns)) (replicate (511 - length (places ns)) blank) blank i (rw (length-map (places ns) (recordAt t ns)) l)
+    List·getD-append (map (recordAt t ns) (places ns)) (replicate (treeRecords - length (places ns)) blank) blank i (rw (length-map (places ns) (recordAt t ns)) l)
     ∙ get-map (recordAt t ns) (places ns) i [] blank l
 
 -- So the record at a place's position is that place's.
@@ -55,8 +55,8 @@ unfolding recordsOf
 record-rest t ns i l =
     let e : i ≡ length (map (recordAt t ns) (places ns)) + (i - length (places ns)) = omega (arith, length-map (places ns) (recordAt t ns)) in
     ap (λ (k : ℕ). getD (recordsOf t ns) k blank) e
-    ∙ getD-append-add (map (recordAt t ns) (places ns)) (replicate (511 - length (places ns)) blank) (i - length (places ns)) blank
-    ∙ all-blank (511 - length (places ns)) (i - length (places ns))
+    ∙ getD-append-add (map (recordAt t ns) (places ns)) (replicate (treeRecords - length (places ns)) blank) (i - length (places ns)) blank
+    ∙ all-blank (treeRecords - length (places ns)) (i - length (places ns))
   where
     all-blank : (m j : ℕ) → getD (replicate m blank) j blank ≡ blank
     all-blank zero j = refl

@@ -21,7 +21,7 @@ use Rattle.rules.specs.declared.Kind.{Kind}
 use Rattle.rules.proofs.Booleans.{is-false}
 use Rattle.rules.proofs.Places.{done-has, has-child, has-subtree, subtree-kind, subtree-child, branch}
 use Rattle.rules.proofs.Series.{only-done}
-use Rattle.records.specs.Records.{blank, places, samePlace, position, above, leftCode, subtreeOr, recordAt, recordsOf, kindOf}
+use Rattle.records.specs.Records.{treeRecords, blank, places, samePlace, position, above, leftCode, subtreeOr, recordAt, recordsOf, kindOf}
 use Rattle.records.specs.Growing.{withEnds, joined, joinAt, raise}
 use Rattle.records.specs.declared.Node.{Node}
 use Rattle.records.proofs.Positions.{Held, held-at, position-of, position-lt, has-held, places-once, right-next, above-length, done-above, path-child, path-above, one-place}
@@ -90,7 +90,7 @@ others-later b q ns e = omega arith
 module _ (t : Table) (ns : List Refinement) (whole : series t ns ≡ true) where
   -- The records are those of the series, but for the intervals on the path to q.
   pub record Close (q : Place) (xs : List Node) : Type 0 where
-    pub long : length xs ≡ 511
+    pub long : length xs ≡ treeRecords
     pub exact : (r : Place) → Held r (places ns) → onPath r q ≡ false → getD xs (position r (places ns)) blank ≡ recordAt t ns r
     pub bared : (r : Place) → Held r (places ns) → bare (getD xs (position r (places ns)) blank) ≡ bare (recordAt t ns r)
     pub rest : (i : ℕ) → length (places ns) ≤ i → getD xs i blank ≡ blank
@@ -130,7 +130,7 @@ module _ (t : Table) (ns : List Refinement) (whole : series t ns ≡ true) where
         child-is : (b : Side) → getD xs (position (q ++ (b ∷ [])) (places ns)) blank ≡ child-record b
         child-is b = c .exact (q ++ (b ∷ [])) (has-held ns (q ++ (b ∷ [])) (has-child q b k (tree ns) d)) (path-child q b)
 
-    join-long : length after ≡ 511
+    join-long : length after ≡ treeRecords
     unfolding joinAt
     join-long = length-set xs _ _ ∙ c .long
 

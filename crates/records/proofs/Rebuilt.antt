@@ -18,7 +18,7 @@ use Rattle.rules.proofs.Booleans.{and-left, and-right, and-both, same-test}
 use Rattle.rules.proofs.Places.{leaf-has}
 use Rattle.rules.proofs.Members.{In}
 use Rattle.rules.proofs.Series.{acceptable-leaf, series-append, series-front, series-back, series-inners, all-done}
-use Rattle.records.specs.Records.{blank, children, places, position, recordWays, recordAt, recordsOf, layout, kindOf, treeCount, isGood, Good}
+use Rattle.records.specs.Records.{treeRecords, blank, children, places, position, recordWays, recordAt, recordsOf, layout, kindOf, treeCount, isGood, Good}
 use Rattle.records.specs.Growing.{grownAt, mayAt, rebuild, sameAs, isGoodRebuilt}
 use Rattle.records.specs.declared.Node.{Node}
 use Rattle.records.specs.declared.Tree.{Tree}
@@ -29,22 +29,22 @@ use Rattle.records.proofs.Live.{Holds, refined, unrefined, holds}
 use Rattle.records.proofs.Sixteen.{same-nodes, nodes-self, good-sure, good-all}
 
 -- There is room for two records more exactly if there is room for a refinement.
-pub room-is : (t : Table) (ns : List Refinement) → series t ns ≡ true → ltb (length (places ns)) 511 ≡ roomy (tree ns)
+pub room-is : (t : Table) (ns : List Refinement) → series t ns ≡ true → ltb (length (places ns)) treeRecords ≡ roomy (tree ns)
 room-is t ns h =
     let k = length-places ns in
     let m = series-inners t ns h in
-    same-test _ _ (λ e. lt-ltb (inners (tree ns)) 255 (omega (arith, k, m, ltb-true (length (places ns)) 511 e)))
-    (λ e. lt-ltb (length (places ns)) 511 (omega (arith, k, m, ltb-true (inners (tree ns)) 255 e)))
+    same-test _ _ (λ e. lt-ltb (inners (tree ns)) 255 (omega (arith, k, m, ltb-true (length (places ns)) treeRecords e)))
+    (λ e. lt-ltb (length (places ns)) treeRecords (omega (arith, k, m, ltb-true (inners (tree ns)) 255 e)))
 
 -- THE RECORDS TELL whether a refinement is acceptable.
 pub may-is : (t : Table) (ns : List Refinement) → series t ns ≡ true → (p : Place) (k : Kind) → Held p (places ns)
     → mayAt t (recordsOf t ns) (length (places ns)) (position p (places ns)) k ≡ acceptable t (tree ns) (record { place = p; kind = k })
 unfolding mayAt acceptable
 may-is t ns h p k i =
-    ap (λ (x : Node). eqb (x .live) 1 && (ltb (length (places ns)) 511 && possible k (recordWays t x))) (record-at t ns p i) ∙ by (holds t ns h p i)
+    ap (λ (x : Node). eqb (x .live) 1 && (ltb (length (places ns)) treeRecords && possible k (recordWays t x))) (record-at t ns p i) ∙ by (holds t ns h p i)
   where
     by : Holds t ns p
-        → eqb (recordAt t ns p .live) 1 && (ltb (length (places ns)) 511 && possible k (recordWays t (recordAt t ns p))) ≡ acceptable t (tree ns) (record { place = p; kind = k })
+        → eqb (recordAt t ns p .live) 1 && (ltb (length (places ns)) treeRecords && possible k (recordWays t (recordAt t ns p))) ≡ acceptable t (tree ns) (record { place = p; kind = k })
     by (refined dead none-there) = rw (dead, none-there, acceptable)
     by (unrefined us there live ways-are wide) = rw (live, ways-are, room-is t ns h, there, acceptable)
 

@@ -11,21 +11,21 @@ use Rattle.rules.specs.Table.{Table}
 use Rattle.rules.specs.Tree.{left, right, leaf, possible, combine, childNode}
 use Rattle.rules.specs.Tree.{Node as Spot}
 use Rattle.rules.specs.declared.Kind.{Kind}
-use Rattle.records.specs.Records.{blank, kindCode, faultCode, recordWays, recordFrom, recordsOf, kindOf, treeCount, sameNodes}
+use Rattle.records.specs.Records.{treeRecords, blank, kindCode, faultCode, isLive, recordWays, recordFrom, recordsOf, kindOf, treeCount, sameNodes}
 use Rattle.records.specs.declared.Node.{Node}
 use Rattle.records.specs.declared.Tree.{Tree}
 
 -- ---- the intervals on the way up
 
--- A record with another interval.
-abbrev pub withEnds : Node → ℕ → ℕ → Node
-withEnds x lo hi =
+-- A record with other codes, another left child and another interval; all else stays.
+abbrev pub changed : Node → ℕ → ℕ → ℕ → ℕ → ℕ → ℕ → Node
+changed x code f mark l lo hi =
     record {
-      kind = x .kind;
-      fault = x .fault;
-      live = x .live;
+      kind = code;
+      fault = f;
+      live = mark;
       parent = x .parent;
-      left = x .left;
+      left = l;
       waysa = x .waysa;
       waysb = x .waysb;
       present = x .present;
@@ -35,6 +35,10 @@ withEnds x lo hi =
       ownlow = x .ownlow;
       ownhigh = x .ownhigh;
     }
+
+-- A record with another interval.
+abbrev pub withEnds : Node → ℕ → ℕ → Node
+withEnds x lo hi = changed x (x .kind) (x .fault) (x .live) (x .left) lo hi
 
 -- An inner record with the interval from its own as a leaf and from its children's records.
 unfoldable pub joined : List ℕ → Node → Node → Node → Node
@@ -57,22 +61,7 @@ raise ws (suc k) xs i =
 
 -- The record of a leaf that is refined, with its interval as a leaf: its left child will be in record l.
 abbrev pub refinedRecord : Node → Kind → ℕ → Node
-refinedRecord x k l =
-    record {
-      kind = kindCode (some k);
-      fault = faultCode (some k);
-      live = 0;
-      parent = x .parent;
-      left = l;
-      waysa = x .waysa;
-      waysb = x .waysb;
-      present = x .present;
-      absent = x .absent;
-      low = x .low;
-      high = x .high;
-      ownlow = x .ownlow;
-      ownhigh = x .ownhigh;
-    }
+refinedRecord x k l = changed x (kindCode (some k)) (faultCode (some k)) 0 l (x .low) (x .high)
 
 -- The record of a new leaf.
 abbrev pub freshRecord : Table → Spot → ℕ → Node
@@ -99,7 +88,7 @@ recordWidth x = x .high - x .low
 
 -- The leaf in record j may be refined so: it is open, there is room, and the kind is possible.
 unfoldable pub mayAt : Table → List Node → ℕ → ℕ → Kind → Bool
-mayAt t xs used j k = eqb (getD xs j blank .live) 1 && (ltb used 511 && possible k (recordWays t (getD xs j blank)))
+mayAt t xs used j k = isLive (getD xs j blank) && (ltb used treeRecords && possible k (recordWays t (getD xs j blank)))
 
 -- ---- 16 by building the tree again
 

@@ -18,6 +18,14 @@ use Rattle.rules.specs.declared.Kind.the-variants.{IndependentOr, Shannon}
 use Rattle.records.specs.declared.Node.{Node}
 use Rattle.records.specs.declared.Tree.{Tree}
 
+-- The records of a tree: 255 refinements make 511 nodes.
+abbrev pub treeRecords : ℕ
+treeRecords = 511
+
+-- The fields of a record.
+abbrev pub recordFields : ℕ
+recordFields = 13
+
 -- A record that is not in use.
 abbrev pub blank : Node
 blank =
@@ -92,6 +100,10 @@ unfoldable pub liveCode : List ℕ → Option Kind → List Way → ℕ
 liveCode ws none vs = elim (isOpen ws vs) as (λ b. ℕ) [ true ↦ 1 | false ↦ 0 ]
 liveCode ws (some k) vs = 0
 
+-- A record says that an open leaf is there.
+abbrev pub isLive : Node → Bool
+isLive x = eqb (x .live) 1
+
 -- The left child's record; a leaf has none.
 unfoldable pub leftCode : Option Kind → Place → List Place → ℕ
 leftCode none p ps = 0
@@ -146,9 +158,9 @@ unfoldable pub recordAt : Table → List Refinement → Place → Node
 recordAt t ns p =
     recordFrom t (kindAt p (tree ns)) (subtreeOr (subtree t p (tree ns))) (position (above p) (places ns)) (leftCode (kindAt p (tree ns)) p (places ns))
 
--- All 511 records: one for each place, the rest blank.
+-- All records: one for each place, the rest blank.
 unfoldable pub recordsOf : Table → List Refinement → List Node
-recordsOf t ns = map (recordAt t ns) (places ns) ++ replicate (511 - length (places ns)) blank
+recordsOf t ns = map (recordAt t ns) (places ns) ++ replicate (treeRecords - length (places ns)) blank
 
 -- The tree of a series of refinements.
 unfoldable pub layout : Table → List Refinement → Tree
@@ -156,7 +168,7 @@ layout t ns = record { nodes = recordsOf t ns; used = length (places ns) }
 
 -- A tree without nodes, which a refused opening gives.
 unfoldable pub noNodes : Tree
-noNodes = record { nodes = replicate 511 blank; used = 0 }
+noNodes = record { nodes = replicate treeRecords blank; used = 0 }
 
 -- ---- the series, read off the records, whatever they hold
 

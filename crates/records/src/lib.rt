@@ -1,5 +1,11 @@
-//! A tree's records: 511 of one layout, the root in record 0.
+//! A tree's records, all of one layout, the root in record 0; and how many there are.
 //! specs/ says which records a series of refinements gives and how to read the series back; proofs/ that these belong together.
+
+/// The records of a tree, one for each node that 255 refinements make.
+pub const RECORDS: usize = 511;
+
+/// The fields of a record.
+pub const FIELDS: usize = 13;
 
 /// One node. `kind` is 0 blank, 1 leaf, 2 independent-or, 3 Shannon on `fault`; `live` is 1 for an open leaf.
 /// `left` is the record of the left child, the right one follows it; `waysa` and `waysb` are the numbers of the node's
@@ -25,6 +31,6 @@ pub struct Node {
 /// The records and how many are in use; the others are blank. A tree without nodes has none in use.
 #[repr(C)]
 pub struct Tree {
-    pub nodes: [Node; 511],
+    pub nodes: [Node; RECORDS],
     pub used: usize,
 }

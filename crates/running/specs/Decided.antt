@@ -7,7 +7,7 @@ use lib.Dec.{eqb}
 use Rattle.rules.specs.Table.{Table}
 use Rattle.rules.specs.Run.{narrow, choice}
 use Rattle.rules.specs.declared.Verdict.the-variants.{Met, Done, Full, Spent}
-use Rattle.records.specs.Records.{recordIn, recordWays}
+use Rattle.records.specs.Records.{treeRecords, recordIn, recordWays}
 use Rattle.records.specs.Growing.{grownAt}
 use Rattle.records.specs.declared.Tree.{Tree}
 use Rattle.store.specs.Safe.{Safe}
@@ -20,7 +20,7 @@ use Rattle.running.specs.declared.Step.the-variants.{Stop, Go}
 -- With a leaf found: full, spent, or on.
 unfoldable pub withLeaf : ℕ → ℕ → ℕ → ℕ → Step
 withLeaf j used made budget =
-    elim (eqb used 511) as (λ b. Step) [ true ↦ Stop Full | false ↦ elim (eqb made budget) as (λ b. Step) [ true ↦ Stop Spent | false ↦ Go j ] ]
+    elim (eqb used treeRecords) as (λ b. Step) [ true ↦ Stop Full | false ↦ elim (eqb made budget) as (λ b. Step) [ true ↦ Stop Spent | false ↦ Go j ] ]
 
 -- Where the root is wide: done, or as the leaf found says.
 unfoldable pub whenWide : Found → ℕ → ℕ → ℕ → Step

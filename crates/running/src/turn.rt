@@ -1,5 +1,5 @@
 //! One turn of a run: the first reason to stop that applies, or the refinement to make. Rests on `rules`, Run.
-//! The leaf comes from the search of `pick`, its ways and its refinement from `grow`.
+//! The leaf comes from the search of `pick`, its ways from its record (`node`), its refinement from `grow`.
 ghost use mathlib.Core.Path.{_≡_};
 ghost use mathlib.Core.List.{List};
 ghost use Prim.Native.Nat.{ℕ, _+_, _<_, _≤_};
@@ -9,7 +9,7 @@ ghost use Rattle.rules.specs.Run;
 ghost use Rattle.rules.specs.Run.{choice};
 ghost use Rattle.rules.specs.Refusals.{Accepted};
 ghost use Rattle.rules.specs.Table.{table};
-ghost use Rattle.records.specs.Records.{recordIn, recordWays};
+ghost use Rattle.records.specs.Records.{treeRecords, recordIn, recordWays};
 ghost use Rattle.store.specs.Lent.{treeOf};
 ghost use Rattle.store.specs.Safe.{Safe};
 ghost use Rattle.pick.specs.Picks.{Linked};
@@ -21,10 +21,12 @@ use clauses::Clauses;
 use formula::choice::most_named;
 use formula::group::falls_apart;
 use grow::refine::grow;
-use grow::refine::ways_of;
+use node::told::ways_of;
+use node::told::width;
 use pick::Found;
 use pick::next_leaf;
 use records::Node;
+use records::RECORDS;
 use rules::Kind;
 use rules::Verdict;
 use store::Words;
@@ -47,10 +49,7 @@ fn choose(n: usize, present: &[u64], absent: &[u64], c: Clauses) -> Kind
 fn narrow(n: Node, allowance: u64) -> bool
     ensures { λ r. ⌜ r ≡ Run.narrow allowance (n .low) (n .high) ⌝ }
 {
-    if n.high <= n.low {
-        return true;
-    }
-    n.high - n.low <= allowance
+    width(n) <= allowance
 }
 
 /// Met, done, full and spent, in this order; otherwise the leaf that the search finds. Where the run is met, nothing is searched.
@@ -67,7 +66,7 @@ pub fn decide(tree: &Words, allowance: u64, made: u64, budget: u64) -> Step
         Found::Nothing => Step::Stop(Verdict::Done),
         Found::At(j, _) => {
             let used = used_in(tree);
-            if used == 511 {
+            if used == RECORDS {
                 return Step::Stop(Verdict::Full);
             }
             if made == budget {
@@ -82,7 +81,7 @@ pub fn decide(tree: &Words, allowance: u64, made: u64, budget: u64) -> Step
 pub fn refine_by_rule(weights: &[u32], present: &[u64], absent: &[u64], tree: &mut Words, j: usize)
     requires { ⌜ Accepted (table (now weights) (now present) (now absent)) ⌝ }
     requires { ⌜ Safe (treeOf (now tree) .nodes) ⌝ }
-    requires { ⌜ (j < 511) × (treeOf (now tree) .used + 1 < 511) ⌝ }
+    requires { ⌜ (j < treeRecords) × (treeOf (now tree) .used + 1 < treeRecords) ⌝ }
     requires { ⌜ Lean (recordWays (table (now weights) (now present) (now absent)) (recordIn (treeOf (now tree) .nodes) j)) ⌝ }
     ensures { λ _. ⌜ ByRule (table (now (weights .entry)) (now (present .entry)) (now (absent .entry))) (treeOf (now (tree .entry))) j (treeOf (now (tree .exit))) ⌝ }
 {

@@ -7,10 +7,10 @@ use native.Mathlib.Nat.{add-zero}
 use native.Mathlib.Omega.{arith}
 use lib.ListN.{length, getD, set, replicate, length-replicate, getD-replicate}
 use lib.Seq.{getD-set-same, getD-set-other, ext-getD}
-use Rattle.records.specs.Records.{blank, recordIn, noNodes}
+use Rattle.records.specs.Records.{treeRecords, recordFields, blank, recordIn, noNodes}
 use Rattle.records.specs.declared.Node.{Node}
 use Rattle.records.specs.declared.Tree.{Tree}
-use Rattle.store.specs.Lent.{nodeAt, nodesFrom, treeOf, withUsed}
+use Rattle.store.specs.Lent.{countWord, treeWords, firstWord, nodeAt, nodesFrom, treeOf, withUsed}
 
 -- ---- the records of the words
 
@@ -37,28 +37,28 @@ nodes-at ws j (suc k) zero h = ap (nodeAt ws) (sym (add-zero j))
 nodes-at ws j (suc k) (suc i) h = nodes-at ws (suc j) k i (omega arith) ∙ ap (nodeAt ws) (omega arith)
 
 -- The tree has 511 records.
-pub long : (ws : List ℕ) → length (treeOf ws .nodes) ≡ 511
+pub long : (ws : List ℕ) → length (treeOf ws .nodes) ≡ treeRecords
 unfolding treeOf
-long ws = nodes-long ws 0 511
+long ws = nodes-long ws 0 treeRecords
 
 -- Its record i is in the words from 13i on.
-pub record-is : (ws : List ℕ) (i : ℕ) → i < 511 → recordIn (treeOf ws .nodes) i ≡ nodeAt ws i
+pub record-is : (ws : List ℕ) (i : ℕ) → i < treeRecords → recordIn (treeOf ws .nodes) i ≡ nodeAt ws i
 unfolding treeOf
-record-is ws i h = nodes-at ws 0 511 i h ∙ ap (nodeAt ws) (omega arith)
+record-is ws i h = nodes-at ws 0 treeRecords i h ∙ ap (nodeAt ws) (omega arith)
 
 -- Words whose records and count are those of a tree of 511 records are that tree.
-pub tree-is : (ws : List ℕ) (x : Tree) → length (x .nodes) ≡ 511 → ((i : ℕ) → i < 511 → nodeAt ws i ≡ recordIn (x .nodes) i) → getD ws 6643 0 ≡ x .used
+pub tree-is : (ws : List ℕ) (x : Tree) → length (x .nodes) ≡ treeRecords → ((i : ℕ) → i < treeRecords → nodeAt ws i ≡ recordIn (x .nodes) i) → getD ws countWord 0 ≡ x .used
     → treeOf ws ≡ x
 unfolding treeOf
 tree-is ws x e f u =
-    let r = ext-getD blank (treeOf ws .nodes) (x .nodes) (long ws ∙ sym e) (λ i l. let h : i < 511 = omega (arith, long ws) in record-is ws i h ∙ f i h) in
+    let r = ext-getD blank (treeOf ws .nodes) (x .nodes) (long ws ∙ sym e) (λ i l. let h : i < treeRecords = omega (arith, long ws) in record-is ws i h ∙ f i h) in
     λ i. record { nodes = r i; used = u i }
 
 -- Records of equal words are equal.
-pub same-record : (us ws : List ℕ) (i j : ℕ) → ((q : ℕ) → q < 13 → getD us (13 * i + q) 0 ≡ getD ws (13 * j + q) 0) → nodeAt us i ≡ nodeAt ws j
+pub same-record : (us ws : List ℕ) (i j : ℕ) → ((q : ℕ) → q < recordFields → getD us (firstWord i + q) 0 ≡ getD ws (firstWord j + q) 0) → nodeAt us i ≡ nodeAt ws j
 same-record us ws i j f =
     λ z. record {
-      kind = (ap (λ k. getD us k 0) (sym (add-zero (13 * i))) ∙ f 0 (omega arith) ∙ ap (λ k. getD ws k 0) (add-zero (13 * j))) z;
+      kind = (ap (λ k. getD us k 0) (sym (add-zero (firstWord i))) ∙ f 0 (omega arith) ∙ ap (λ k. getD ws k 0) (add-zero (firstWord j))) z;
       fault = f 1 (omega arith) z;
       live = f 2 (omega arith) z;
       parent = f 3 (omega arith) z;
@@ -76,20 +76,20 @@ same-record us ws i j f =
 -- ---- the count and no nodes
 
 -- The words with another count are the tree with that count.
-pub counted : (ws : List ℕ) (n : ℕ) → length ws ≡ 6644 → treeOf (set ws 6643 n) ≡ withUsed (treeOf ws) n
+pub counted : (ws : List ℕ) (n : ℕ) → length ws ≡ treeWords → treeOf (set ws countWord n) ≡ withUsed (treeOf ws) n
 counted ws n e =
-    tree-is (set ws 6643 n) (withUsed (treeOf ws) n) (long ws)
-    (λ i h. same-record (set ws 6643 n) ws i i (λ q l. getD-set-other ws 6643 (13 * i + q) n 0 (λ z. omega arith)) ∙ sym (record-is ws i h))
-    (getD-set-same ws 6643 n 0 (omega arith))
+    tree-is (set ws countWord n) (withUsed (treeOf ws) n) (long ws)
+    (λ i h. same-record (set ws countWord n) ws i i (λ q l. getD-set-other ws countWord (firstWord i + q) n 0 (λ z. omega arith)) ∙ sym (record-is ws i h))
+    (getD-set-same ws countWord n 0 (omega arith))
 
 -- Words that are all 0 are the tree without nodes. Their number is a variable, so that nothing is computed for each of them.
-all-zero : (k : ℕ) → k ≡ 6644 → treeOf (replicate k 0) ≡ noNodes
+all-zero : (k : ℕ) → k ≡ treeWords → treeOf (replicate k 0) ≡ noNodes
 unfolding noNodes
 all-zero k e =
-    tree-is (replicate k 0) noNodes (length-replicate 511 blank)
-    (λ i h. same-record (replicate k 0) [] i 0 (λ q l. getD-replicate k (13 * i + q) 0 0 (omega arith)) ∙ sym (getD-replicate 511 i blank blank h))
-    (getD-replicate k 6643 0 0 (omega arith))
+    tree-is (replicate k 0) noNodes (length-replicate treeRecords blank)
+    (λ i h. same-record (replicate k 0) [] i 0 (λ q l. getD-replicate k (firstWord i + q) 0 0 (omega arith)) ∙ sym (getD-replicate treeRecords i blank blank h))
+    (getD-replicate k countWord 0 0 (omega arith))
 
 -- The same at the number of the words.
-pub cleared : treeOf (replicate 6644 0) ≡ noNodes
-cleared = all-zero 6644 refl
+pub cleared : treeOf (replicate treeWords 0) ≡ noNodes
+cleared = all-zero treeWords refl

@@ -1,15 +1,15 @@
--- Safe records: the blank, one that was read, one with another interval, a list in which a safe record is stored.
+-- Safe records: the blank, one that was read, a list in which a safe record is stored, one that was changed.
 -- Rests on the definitions of Safe.antt and the kit's laws of `set` and `replicate`.
 use mathlib.Core.Path.{_≡_}
 use mathlib.Core.List.{List}
-use Prim.Native.Nat.{ℕ, _≤_, _<_}
+use Prim.Native.Nat.{ℕ, _+_, _≤_, _<_}
 use native.Mathlib.Omega.{arith}
 use native.Mathlib.Decide.{ℕ-discrete, decLt}
 use lib.ListN.{length, getD, set, replicate, length-replicate, getD-replicate, List·getD-eq-default}
 use lib.Seq.{getD-set-same, getD-set-other}
 use Rattle.rules.specs.Rounding.{S}
-use Rattle.records.specs.Records.{blank}
-use Rattle.records.specs.Growing.{withEnds}
+use Rattle.records.specs.Records.{treeRecords, blank}
+use Rattle.records.specs.Growing.{changed}
 use Rattle.records.specs.declared.Node.{Node}
 use Rattle.store.specs.Safe.{SafeNode, Safe}
 
@@ -48,15 +48,15 @@ safe-set xs j x h s n = record { each = λ i. at i (ℕ-discrete i j) }
     at i (yes e) = rw (e, getD-set-same xs j x blank h) n
     at i (no e) = rw (getD-set-other xs j i x blank e) (s .each i)
 
--- Another interval.
-pub safe-ends : (x : Node) (lo hi : ℕ) → SafeNode x → lo ≤ S → hi ≤ S → SafeNode (withEnds x lo hi)
-safe-ends x lo hi s l h =
+-- A safe record with another fault, left child and interval, if these are in order; the other two codes are free.
+pub safe-changed : (x : Node) (code f mark l lo hi : ℕ) → SafeNode x → f < 64 → l + 1 < treeRecords → lo ≤ S → hi ≤ S → SafeNode (changed x code f mark l lo hi)
+safe-changed x code f mark l lo hi s a b c d =
     record {
-      fault-fits = s .fault-fits;
+      fault-fits = a;
       parent-inside = s .parent-inside;
-      children-inside = s .children-inside;
-      low-le = l;
-      high-le = h;
+      children-inside = b;
+      low-le = c;
+      high-le = d;
       ownlow-le = s .ownlow-le;
       ownhigh-le = s .ownhigh-le;
     }

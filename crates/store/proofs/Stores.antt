@@ -8,9 +8,9 @@ use native.Mathlib.Decide.{ℕ-discrete}
 use native.Mathlib.Omega.{arith}
 use lib.ListN.{length, getD, set, length-set}
 use lib.Seq.{getD-set-same, getD-set-other}
-use Rattle.records.specs.Records.{blank, recordIn}
+use Rattle.records.specs.Records.{treeRecords, blank, recordIn}
 use Rattle.records.specs.declared.Node.{Node}
-use Rattle.store.specs.Lent.{nodeAt, treeOf, withRecord}
+use Rattle.store.specs.Lent.{countWord, treeWords, firstWord, nodeAt, treeOf, withRecord}
 use Rattle.store.proofs.Lent.{others, fields, long, record-is, tree-is, same-record}
 
 -- Numbers stored one after the other from word i + k on.
@@ -37,35 +37,35 @@ found (x ∷ xs) ws i k fits (suc m) h =
     ap (λ p. getD (stores (set ws (i + k) x) i (suc k) xs) p 0) (omega arith)
     ∙ found xs (set ws (i + k) x) i (suc k) (omega (arith, length-set ws (i + k) x)) m (omega arith)
 
-module _ (ws : List ℕ) (j : ℕ) (n : Node) (h : j < 511) (e : length ws ≡ 6644) where
+module _ (ws : List ℕ) (j : ℕ) (n : Node) (h : j < treeRecords) (e : length ws ≡ treeWords) where
   -- The words with the record stored.
   us : List ℕ
-  us = stores ws (13 * j) 0 (fields n)
+  us = stores ws (firstWord j) 0 (fields n)
 
   -- Record j is the one that was stored.
   there : nodeAt us j ≡ n
   unfolding us
   there =
       same-record us (fields n) j 0
-      (λ q l. ap (λ p. getD us (13 * j + p) 0) (sym (zero-add q)) ∙ found (fields n) ws (13 * j) 0 (omega arith) q l ∙ ap (λ p. getD (fields n) p 0) (sym (zero-add q)))
+      (λ q l. ap (λ p. getD us (firstWord j + p) 0) (sym (zero-add q)) ∙ found (fields n) ws (firstWord j) 0 (omega arith) q l ∙ ap (λ p. getD (fields n) p 0) (sym (zero-add q)))
 
   -- Every other record is as it was.
   elsewhere : (i : ℕ) → (i ≡ j → ⊥) → nodeAt us i ≡ nodeAt ws i
   unfolding us
-  elsewhere i f = same-record us ws i i (λ q l. kept (fields n) ws (13 * j) 0 (13 * i + q) (λ p a b z. f (omega arith)))
+  elsewhere i f = same-record us ws i i (λ q l. kept (fields n) ws (firstWord j) 0 (firstWord i + q) (λ p a b z. f (omega arith)))
 
   -- So the tree is the one with that record.
   stored : treeOf us ≡ withRecord (treeOf ws) j n
   unfolding us treeOf
   stored =
       tree-is us (withRecord (treeOf ws) j n) (length-set (treeOf ws .nodes) j n ∙ long ws) (λ i l. by i l (ℕ-discrete i j))
-      (kept (fields n) ws (13 * j) 0 6643 (λ q a b z. omega arith))
+      (kept (fields n) ws (firstWord j) 0 countWord (λ q a b z. omega arith))
     where
-      by : (i : ℕ) → i < 511 → Dec (i ≡ j) → nodeAt us i ≡ recordIn (set (treeOf ws .nodes) j n) i
+      by : (i : ℕ) → i < treeRecords → Dec (i ≡ j) → nodeAt us i ≡ recordIn (set (treeOf ws .nodes) j n) i
       by i l (yes z) = ap (nodeAt us) z ∙ there ∙ sym (getD-set-same (treeOf ws .nodes) j n blank (omega (arith, long ws))) ∙ ap (recordIn (set (treeOf ws .nodes) j n)) (sym z)
       by i l (no f) = elsewhere i f ∙ sym (record-is ws i l) ∙ sym (getD-set-other (treeOf ws .nodes) j i n blank f)
 
   -- The same of the stores as the code makes them, the first at word 13j.
-  pub written : treeOf (stores (set ws (13 * j) (n .kind)) (13 * j) 1 (others n)) ≡ withRecord (treeOf ws) j n
+  pub written : treeOf (stores (set ws (firstWord j) (n .kind)) (firstWord j) 1 (others n)) ≡ withRecord (treeOf ws) j n
   unfolding stores us
-  written = ap (λ p. treeOf (stores (set ws p (n .kind)) (13 * j) 1 (others n))) (sym (add-zero (13 * j))) ∙ stored
+  written = ap (λ p. treeOf (stores (set ws p (n .kind)) (firstWord j) 1 (others n))) (sym (add-zero (firstWord j))) ∙ stored

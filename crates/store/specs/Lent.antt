@@ -1,28 +1,41 @@
--- The tree that lent words are: 511 records of 13 words each, and in the last of 6,644 words how many are in use.
+-- The tree that lent words are: its records one after the other, a word for each field, and in the last word how many are in use.
 -- Every word is one field of one record, or the count, so equal trees are equal words (proofs/Same.antt). Rests on the records of `records`.
 use mathlib.Core.List.{List, [], _∷_}
 use Prim.Native.Nat.{ℕ, zero, suc, _+_, _*_}
 use lib.ListN.{getD, set}
+use Rattle.records.specs.Records.{treeRecords, recordFields}
 use Rattle.records.specs.declared.Node.{Node}
 use Rattle.records.specs.declared.Tree.{Tree}
+
+-- The word that says how many records are in use: the one after the records.
+abbrev pub countWord : ℕ
+countWord = recordFields * treeRecords
+
+-- The words of a tree.
+abbrev pub treeWords : ℕ
+treeWords = countWord + 1
+
+-- The first word of record j.
+abbrev pub firstWord : ℕ → ℕ
+firstWord j = recordFields * j
 
 -- Record j.
 abbrev pub nodeAt : List ℕ → ℕ → Node
 nodeAt ws j =
     record {
-      kind = getD ws (13 * j) 0;
-      fault = getD ws (13 * j + 1) 0;
-      live = getD ws (13 * j + 2) 0;
-      parent = getD ws (13 * j + 3) 0;
-      left = getD ws (13 * j + 4) 0;
-      waysa = getD ws (13 * j + 5) 0;
-      waysb = getD ws (13 * j + 6) 0;
-      present = getD ws (13 * j + 7) 0;
-      absent = getD ws (13 * j + 8) 0;
-      low = getD ws (13 * j + 9) 0;
-      high = getD ws (13 * j + 10) 0;
-      ownlow = getD ws (13 * j + 11) 0;
-      ownhigh = getD ws (13 * j + 12) 0;
+      kind = getD ws (firstWord j) 0;
+      fault = getD ws (firstWord j + 1) 0;
+      live = getD ws (firstWord j + 2) 0;
+      parent = getD ws (firstWord j + 3) 0;
+      left = getD ws (firstWord j + 4) 0;
+      waysa = getD ws (firstWord j + 5) 0;
+      waysb = getD ws (firstWord j + 6) 0;
+      present = getD ws (firstWord j + 7) 0;
+      absent = getD ws (firstWord j + 8) 0;
+      low = getD ws (firstWord j + 9) 0;
+      high = getD ws (firstWord j + 10) 0;
+      ownlow = getD ws (firstWord j + 11) 0;
+      ownhigh = getD ws (firstWord j + 12) 0;
     }
 
 -- k records from record j on.
@@ -32,7 +45,7 @@ nodesFrom ws j (suc k) = nodeAt ws j ∷ nodesFrom ws (suc j) k
 
 -- The tree.
 unfoldable pub treeOf : List ℕ → Tree
-treeOf ws = record { nodes = nodesFrom ws 0 511; used = getD ws 6643 0 }
+treeOf ws = record { nodes = nodesFrom ws 0 treeRecords; used = getD ws countWord 0 }
 
 -- A tree with another record j.
 abbrev pub withRecord : Tree → ℕ → Node → Tree

@@ -3,14 +3,14 @@
 use mathlib.Core.List.{List}
 use Prim.Native.Nat.{ℕ, _+_, _≤_, _<_}
 use Rattle.rules.specs.Rounding.{S}
-use Rattle.records.specs.Records.{recordIn}
+use Rattle.records.specs.Records.{treeRecords, recordIn}
 use Rattle.records.specs.declared.Node.{Node}
 
 -- A record whose links, fault and ends code may use as they stand.
 pub record SafeNode (x : Node) : Type 0 where
   pub fault-fits : x .fault < 64
-  pub parent-inside : x .parent < 511
-  pub children-inside : x .left + 1 < 511
+  pub parent-inside : x .parent < treeRecords
+  pub children-inside : x .left + 1 < treeRecords
   pub low-le : x .low ≤ S
   pub high-le : x .high ≤ S
   pub ownlow-le : x .ownlow ≤ S

@@ -1,30 +1,35 @@
-//! A tree as it is lent to a call, which reads and writes it where it is: 6,644 words. Record j is in words 13j to 13j + 12, in the order
-//! of its fields; the last word says how many records are in use. Rests on the records of `records`; specs/ has the tree of the words.
+//! A tree as it is lent to a call, which reads and writes it where it is: the records one after the other, a word for each field in the order
+//! of the fields; the last word says how many records are in use. Rests on the records of `records`; specs/ has the tree of the words.
 ghost use mathlib.Core.Path.{_≡_};
 ghost use Prim.Native.Nat.{_<_};
-ghost use Rattle.records.specs.Records.{recordIn, noNodes};
+ghost use Rattle.records.specs.Records.{treeRecords, recordIn, noNodes, sameNodes};
 ghost use Rattle.store.specs.Lent.{treeOf, withRecord, withUsed};
+use records::FIELDS;
 use records::Node;
+use records::RECORDS;
 use records::Tree;
 
-/// The words of a tree: 511 records of 13 words, and how many are in use.
-pub type Words = [u64; 6644];
+/// The word that says how many records are in use: the one after the records.
+pub const COUNT: usize = FIELDS * RECORDS;
 
-/// The words of a record.
-const RECORD: usize = 13;
+/// The words of a tree.
+pub const WORDS: usize = COUNT + 1;
 
-/// The word that says how many records are in use.
-const USED: usize = 6643;
+/// A tree, as it is lent.
+pub type Words = [u64; WORDS];
 
-/// Does nothing: lending the tree as a slice tells a proof that it has all 6,644 words.
+/// A tree without nodes.
+pub const NO_NODES: Words = [0; WORDS];
+
+/// Does nothing: lending the tree as a slice tells a proof that it has all its words.
 fn all_words(words: &[u64]) {}
 
 /// Record j of the tree.
 pub fn record_at(tree: &Words, j: usize) -> Node
-    requires { ⌜ j < 511 ⌝ }
+    requires { ⌜ j < treeRecords ⌝ }
     ensures { λ r. ⌜ r ≡ recordIn (treeOf (now (tree .entry)) .nodes) j ⌝ }
 {
-    let i = RECORD * j;
+    let i = FIELDS * j;
     Node {
         kind: tree[i],
         fault: tree[i + 1],
@@ -44,11 +49,11 @@ pub fn record_at(tree: &Words, j: usize) -> Node
 
 /// Writes record j.
 pub fn put_record(tree: &mut Words, j: usize, n: Node)
-    requires { ⌜ j < 511 ⌝ }
+    requires { ⌜ j < treeRecords ⌝ }
     ensures { λ _. ⌜ treeOf (now (tree .exit)) ≡ withRecord (treeOf (now (tree .entry))) j n ⌝ }
 {
     all_words(tree);
-    let i = RECORD * j;
+    let i = FIELDS * j;
     tree[i] = n.kind;
     tree[i + 1] = n.fault;
     tree[i + 2] = n.live;
@@ -68,7 +73,7 @@ pub fn put_record(tree: &mut Words, j: usize, n: Node)
 pub fn used_in(tree: &Words) -> usize
     ensures { λ r. ⌜ r ≡ treeOf (now (tree .entry)) .used ⌝ }
 {
-    tree[USED] as usize
+    tree[COUNT] as usize
 }
 
 /// Writes how many records are in use.
@@ -76,23 +81,23 @@ pub fn put_used(tree: &mut Words, n: usize)
     ensures { λ _. ⌜ treeOf (now (tree .exit)) ≡ withUsed (treeOf (now (tree .entry))) n ⌝ }
 {
     all_words(tree);
-    tree[USED] = n as u64;
+    tree[COUNT] = n as u64;
 }
 
 /// Makes it a tree without nodes.
 pub fn clear(tree: &mut Words)
     ensures { λ _. ⌜ treeOf (now (tree .exit)) ≡ noNodes ⌝ }
 {
-    *tree = [0; 6644];
+    *tree = NO_NODES;
 }
 
 /// The tree by value, for those that do not change it.
 pub fn loaded(tree: &Words) -> Tree
     ensures { λ r. ⌜ r ≡ treeOf (now (tree .entry)) ⌝ }
 {
-    let mut nodes = [record_at(tree, 0); 511];
+    let mut nodes = [record_at(tree, 0); RECORDS];
     let mut i: usize = 1;
-    while i < 511 {
+    while i < RECORDS {
         nodes[i] = record_at(tree, i);
         i += 1;
     }
@@ -100,4 +105,18 @@ pub fn loaded(tree: &Words) -> Tree
         nodes,
         used: used_in(tree),
     }
+}
+
+/// All records of two trees are equal. Every word is compared, with no way out before the last: the loop has nothing to decide, and trees that are
+/// compared are mostly equal.
+pub fn same_nodes(x: &Words, y: &Words) -> bool
+    ensures { λ r. ⌜ r ≡ sameNodes (treeOf (now (x .entry)) .nodes) (treeOf (now (y .entry)) .nodes) ⌝ }
+{
+    let mut unlike: u64 = 0;
+    let mut i: usize = 0;
+    while i < COUNT {
+        unlike = unlike | (x[i] ^ y[i]);
+        i += 1;
+    }
+    unlike == 0
 }

@@ -1,7 +1,11 @@
 //! One number of a tree changed before a call, so that the call has to refuse the tree, and changed back afterwards.
-//! Rests on the words of `store`. Fields are numbered in the order in which a record lists them, from 0; 13 is the count of records in use.
+//! Rests on the words of `store`. Fields are numbered in the order in which a record lists them, from 0; the number after them is the count of
+//! records in use.
+use records::FIELDS;
+use records::RECORDS;
 use std::num::wrapping_add_u64;
 use std::num::wrapping_sub_u64;
+use store::COUNT;
 use store::Words;
 
 /// Which number is changed: the record, the field, and what is added to it. Sums wrap around, so that only 0 changes nothing.
@@ -20,14 +24,14 @@ pub fn undoing(d: Damage) -> Damage {
     }
 }
 
-/// Damages the tree. A record that there is not is left alone; from 13 on, every field is the count.
+/// Damages the tree. A record that there is not is left alone; past the last field, every number is the count.
 pub fn change(tree: &mut Words, d: Damage) {
-    let mut at: usize = 6643;
-    if d.field < 13 {
-        if 511 <= d.record {
+    let mut at: usize = COUNT;
+    if d.field < FIELDS {
+        if RECORDS <= d.record {
             return;
         }
-        at = 13 * d.record + d.field;
+        at = FIELDS * d.record + d.field;
     }
     tree[at] = wrapping_add_u64(tree[at], d.by);
 }

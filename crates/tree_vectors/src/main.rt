@@ -23,6 +23,7 @@ use numbers::weight_list;
 use places::show;
 use rules::Kind;
 use rules::Limits;
+use store::NO_NODES;
 use store::Words;
 
 /// Opens the table and prints the line.
@@ -135,7 +136,7 @@ fn script(tree: &mut Words) {
 
 fn main() {
     let scripts = number();
-    let mut tree = [0u64; 6644];
+    let mut tree = NO_NODES;
     let mut done: u64 = 0;
     while done < scripts {
         script(&mut tree);

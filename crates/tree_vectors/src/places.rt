@@ -1,11 +1,19 @@
 //! Every place of a tree printed, found by the links from the root: a node before those below it, left before right.
 //! Rests on the records of `records` and on `store`. A link that leads outside the records is not followed.
-ghost use Prim.Native.Nat.{_<_, _≤_};
+ghost use Prim.Native.Nat.{_+_, _<_, _≤_};
+ghost use Rattle.records.specs.Records.{treeRecords};
 use super::lines::print_field;
 use records::Node;
+use records::RECORDS;
 use store::Words;
 use store::record_at;
 use store::used_in;
+
+/// The last record.
+const LAST: usize = RECORDS - 1;
+
+/// The most records that wait: one more than were printed.
+const WAITING: usize = RECORDS + 1;
 
 /// Prints what stands at a place: leaf, independence or fault as 1, 2, 3, the fault, 1 for an open leaf, and the interval.
 fn print_place(n: Node) {
@@ -25,9 +33,9 @@ fn roots(tree: &Words) -> usize
 
 /// The left child's record, 0 for a leaf.
 fn left_child(n: Node) -> usize
-    ensures { λ r. ⌜ r < 510 ⌝ }
+    ensures { λ r. ⌜ r + 1 < treeRecords ⌝ }
 {
-    if n.left < 510 { n.left } else { 0 }
+    if n.left < LAST { n.left } else { 0 }
 }
 
 /// How many children a node has with this left child.
@@ -39,16 +47,16 @@ fn children(left: usize) -> usize
 
 /// Prints a line for each place. The records that are still to be printed wait, the next one last.
 pub fn show(tree: &Words) {
-    let mut waiting = [0usize; 512];
+    let mut waiting = [0usize; WAITING];
     let mut count = roots(tree);
     let mut shown: usize = 0;
     while count > 0 {
         count -= 1;
         let at = waiting[count];
-        if at >= 511 {
+        if at >= RECORDS {
             return;
         }
-        if shown >= 511 {
+        if shown >= RECORDS {
             return;
         }
         let n = record_at(tree, at);

@@ -18,7 +18,7 @@ enum-told c = search needs
 enum-known-j : tie.Need-enum-known-j
 enum-known-j c = search needs
 
--- The place leads to one of the 511 records.
+-- The place leads to one of the tree's records.
 record-at-requires : tie.Need-record-at-requires
 record-at-requires c κs =
     let f = c .before .before .before in

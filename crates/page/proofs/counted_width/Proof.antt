@@ -1,48 +1,56 @@
--- `counted_width` meets its contract: each test says which part of `counts` holds.
--- Rests on specs/Widest.antt alone.
-use mathlib.Core.Path.{_≡_}
-use Prim.Native.Nat.{_<_, _≤_}
+-- `counted_width` meets its contract: an open leaf's record goes by its width, which is 0 where the ends are not in order, and any other by 0.
+-- Rests on the contracts of `is_open_leaf` and `width`.
+use mathlib.Core.Path.{_≡_, refl, sym, _∙_}
+use mathlib.Core.Bool.{Bool, true, false, _&&_, true≢false}
+use Prim.Native.Nat.{ℕ}
+use native.Mathlib.Omega.{arith}
 use borrow.Author.Needs.{needs}
-use borrow.Author.Tests.{eq-eqb, ne-eqb, le-ltb, lt-ltb}
+use borrow.Author.Tests.{ltb-false}
+use lib.Dec.{eqb, ltb}
+use Rattle.records.specs.Records.{isLive}
 use Rattle.records.specs.Growing.{recordWidth}
 use Rattle.records.specs.declared.Node.{Node}
 use Rattle.page.specs.Widest.{counts, countedWidth}
 use Rattle.page.proofs.counted_width.Statement.{statement}
 use Rattle.page.proofs.counted_width.Tie as tie
 
-no-leaf : (x : Node) → (x .kind ≡ 1 → ⊥) → 0 ≡ countedWidth x
-unfolding countedWidth counts
-no-leaf x q = rw (ne-eqb (x .kind) 1 q, countedWidth)
+-- The width w of a record that counts.
+abbrev counted : Bool → ℕ → ℕ
+counted c w = elim c as (λ b. ℕ) [ true ↦ w | false ↦ 0 ]
 
-module _ (x : Node) (leaf : x .kind ≡ 1) where
-  not-open : (x .live ≡ 1 → ⊥) → 0 ≡ countedWidth x
-  unfolding countedWidth counts
-  not-open q = rw (eq-eqb (x .kind) 1 leaf, ne-eqb (x .live) 1 q, countedWidth)
+-- By the three parts of `counts`: a leaf (k), marked as open (l), its ends in order (o). The width w is 0 where they are not.
+by-parts : (k l o : Bool) (w : ℕ) → (o ≡ false → w ≡ 0) → k && l ≡ true → w ≡ counted (k && (l && o)) w
+by-parts true true true w z h = refl
+by-parts true true false w z h = z refl
+by-parts true false o w z h = absurd (true≢false (sym h))
+by-parts false l o w z h = absurd (true≢false (sym h))
 
-  in-order : x .live ≡ 1 → x .low < x .high → recordWidth x ≡ countedWidth x
-  unfolding countedWidth counts
-  in-order e h = rw (eq-eqb (x .kind) 1 leaf, eq-eqb (x .live) 1 e, lt-ltb (x .low) (x .high) h, countedWidth)
+not-open : (k l o : Bool) (w : ℕ) → k && l ≡ false → 0 ≡ counted (k && (l && o)) w
+not-open true true o w h = absurd (true≢false h)
+not-open true false o w h = refl
+not-open false l o w h = refl
 
-  crossed : x .live ≡ 1 → x .high ≤ x .low → 0 ≡ countedWidth x
+module _ (x : Node) (r : Bool) (e : r ≡ eqb (x .kind) 1 && isLive x) where
+  open-leaf : r ≡ true → (w : ℕ) → w ≡ recordWidth x → w ≡ countedWidth x
   unfolding countedWidth counts
-  crossed e h = rw (eq-eqb (x .kind) 1 leaf, eq-eqb (x .live) 1 e, le-ltb (x .low) (x .high) h, countedWidth)
+  open-leaf h w f =
+      f ∙ by-parts (eqb (x .kind) 1) (isLive x) (ltb (x .low) (x .high)) (recordWidth x) (λ z. omega (arith, ltb-false (x .low) (x .high) z)) (sym e ∙ h)
+
+  other : r ≡ false → 0 ≡ countedWidth x
+  unfolding countedWidth counts
+  other h = not-open (eqb (x .kind) 1) (isLive x) (ltb (x .low) (x .high)) (recordWidth x) (sym e ∙ h)
+
+is-open-leaf-requires : tie.Need-is-open-leaf-requires
+is-open-leaf-requires c κs = search needs
+
+width-requires : tie.Need-width-requires
+width-requires c κs = search needs
 
 returns : tie.Need-returns
-returns c = no-leaf _ (c .if1 .taken)
+returns c = open-leaf _ _ (c .before .before .is-open-leaf .ensures) (c .before .if1 .taken) _ (c .width .ensures)
 
 returns-2 : tie.Need-returns-2
-returns-2 c = not-open _ (c .before .before .if1 .left) (c .if2 .taken)
-
-sub-result : tie.Need-sub-result
-sub-result c = search needs
-
-returns-3 : tie.Need-returns-3
-returns-3 c =
-    let k = c .before in
-    in-order _ (k .before .before .before .before .if1 .left) (k .before .before .if2 .left) (k .if3 .taken)
-
-returns-4 : tie.Need-returns-4
-returns-4 c = crossed _ (c .before .before .before .before .if1 .left) (c .before .before .if2 .left) (c .if3 .left)
+returns-2 c = other _ _ (c .before .is-open-leaf .ensures) (c .if1 .left)
 
 pub counted-width-spec : {M : Type 1} → statement M
-counted-width-spec = tie.close (tie.spec returns returns-2 sub-result returns-3 returns-4)
+counted-width-spec = tie.close (tie.spec is-open-leaf-requires width-requires returns returns-2)

@@ -41,6 +41,7 @@ use denote.Triple.Spec.{Meets, tripleOf}
 use denote.Triple.Table.{entered, cited}
 use denote.Triple.Walked.{Stays, stay-none, walkOf, goes-none, Walks, ends-at, walked, walk-meets}
 use denote.Exit.{yes}
+use Rattle.records.specs.Records.{treeRecords}
 use Rattle.records.specs.declared.Node.{Node}
 use Rattle.page.specs.declared.Spot.{Spot}
 use Rattle.page.specs.Widest.{widestOf, WidestLaw}
@@ -64,7 +65,7 @@ use Rattle.page.proofs.widest_in.Code.Mir as lowered
 
 -- The array's length.
 abbrev n : ℕ
-n = 511
+n = treeRecords
 
 abbrev Nodes : RattleType
 Nodes = Array T.the-row n

@@ -1,11 +1,12 @@
 -- `entered` meets its contract: a closed leaf adds nothing, and an open one is compared with what was found.
--- Rests on Wider.antt and on the contracts of `moved` and `width`.
+-- Rests on Wider.antt and on the contracts of `is_live`, `moved` and `width`.
 use mathlib.Core.Path.{_≡_, sym, ap, _∙_}
 use mathlib.Core.Bool.{true, false}
 use Prim.Native.Nat.{ℕ, _<_, _≤_}
 use native.Mathlib.Omega.{arith}
 use borrow.Author.Needs.{needs}
-use borrow.Author.Tests.{eq-eqb, ne-eqb}
+use borrow.Author.Tests.{not-true, not-false}
+use Rattle.records.specs.Records.{isLive}
 use Rattle.records.specs.Growing.{recordWidth}
 use Rattle.records.specs.declared.Node.{Node}
 use Rattle.pick.specs.declared.Found.{Found}
@@ -17,14 +18,14 @@ use Rattle.pick.proofs.Wider.{wider-second, wider-first, wider-nothing}
 use Rattle.pick.proofs.entered.Statement.{statement}
 use Rattle.pick.proofs.entered.Tie as tie
 
-closed : (best : Found) (i : ℕ) (n : Node) → (n .live ≡ 1 → ⊥) → best ≡ wider best (ownFound i n)
+closed : (best : Found) (i : ℕ) (n : Node) → isLive n ≡ false → best ≡ wider best (ownFound i n)
 unfolding ownFound
-closed best i n q = rw (ne-eqb (n .live) 1 q, ownFound) (sym (wider-nothing best))
+closed best i n q = rw (q, ownFound) (sym (wider-nothing best))
 
-module _ (s : Search) (n : Node) (live : n .live ≡ 1) (w : ℕ) (e : w ≡ recordWidth n) where
+module _ (s : Search) (n : Node) (live : isLive n ≡ true) (w : ℕ) (e : w ≡ recordWidth n) where
   opened : (best : Found) → wider best (ownFound (s .at) n) ≡ wider best (At (s .at) w)
   unfolding ownFound
-  opened best = rw (eq-eqb (n .live) 1 live, ownFound) (ap (λ (u : ℕ). wider best (At (s .at) u)) (sym e))
+  opened best = rw (live, ownFound) (ap (λ (u : ℕ). wider best (At (s .at) u)) (sym e))
 
   -- What was found before, by whether it is some leaf.
   best-some : s .some ≡ true → view s .best ≡ At (s .leaf) (s .width)
@@ -48,11 +49,16 @@ module _ (s : Search) (n : Node) (live : n .live ≡ 1) (w : ℕ) (e : w ≡ rec
 with-best : (i : ℕ) {x y : Found} → x ≡ y → came i false x ≡ came i false y
 with-best i e = ap (came i false) e
 
+is-live-requires : tie.Need-is-live-requires
+is-live-requires c κs = search needs
+
 moved-requires : tie.Need-moved-requires
 moved-requires c κs = search needs
 
 returns : tie.Need-returns
-returns c = c .moved .ensures ∙ with-best _ (closed _ _ _ (c .before .if1 .taken))
+returns c =
+    let i = c .before in
+    c .moved .ensures ∙ with-best _ (closed _ _ _ (sym (i .before .is-live .ensures) ∙ not-true _ (i .if1 .taken)))
 
 width-requires : tie.Need-width-requires
 width-requires c κs = search needs
@@ -60,23 +66,37 @@ width-requires c κs = search needs
 moved-requires-2 : tie.Need-moved-requires-2
 moved-requires-2 c κs = search needs
 
+-- The leaf is open.
+live-there : (c : tie.After-width) → isLive (c .before .before .before .args .n) ≡ true
+live-there c = sym (c .before .before .is-live .ensures) ∙ not-false _ (c .before .if1 .left)
+
 returns-2 : tie.Need-returns-2
 returns-2 c =
     let w = c .before .before .before .before in
     let s = w .before .before .before .args .s in
-    c .moved2 .ensures ∙ with-best _ (not-larger s _ (w .before .if1 .left) _ (w .width .ensures) (c .before .before .before .if2 .taken) (omega (arith, c .before .if3 .taken)))
+    c .moved2 .ensures ∙ with-best _ (not-larger s _ (live-there w) _ (w .width .ensures) (c .before .before .before .if2 .taken) (omega (arith, c .before .if3 .taken)))
 
 returns-3 : tie.Need-returns-3
 returns-3 c =
     let w = c .before .before .before in
     let s = w .before .before .before .args .s in
-    with-best _ (larger s _ (w .before .if1 .left) _ (w .width .ensures) (c .before .before .if2 .taken) (c .if3 .left))
+    with-best _ (larger s _ (live-there w) _ (w .width .ensures) (c .before .before .if2 .taken) (c .if3 .left))
 
 returns-4 : tie.Need-returns-4
 returns-4 c =
     let w = c .before in
     let s = w .before .before .before .args .s in
-    with-best _ (first s _ (w .before .if1 .left) _ (w .width .ensures) (c .if2 .left))
+    with-best _ (first s _ (live-there w) _ (w .width .ensures) (c .if2 .left))
 
 pub entered-spec : {M : Type 1} → statement M
-entered-spec = tie.close (tie.spec moved-requires returns width-requires moved-requires-2 returns-2 returns-3 returns-4)
+entered-spec =
+    tie.close
+    (tie.spec
+    is-live-requires
+    moved-requires
+    returns
+    width-requires
+    moved-requires-2
+    returns-2
+    returns-3
+    returns-4)

@@ -2,6 +2,7 @@
 -- Rests on Loading.antt and the contracts of `record_at` and `used_in`.
 use Prim.Native.Nat.{_-_}
 use borrow.Author.Needs.{needs}
+use Rattle.records.specs.Records.{treeRecords}
 use Rattle.store.proofs.Loading.{Loading, begun, turn, done}
 use Rattle.store.proofs.loaded.Statement.{statement}
 use Rattle.store.proofs.loaded.Tie as tie
@@ -10,7 +11,7 @@ abbrev Inv-loop : tie.InvT-loop
 Inv-loop tree nodes₀ i₀ nodes i = Loading tree nodes i
 
 abbrev μ-loop : tie.MeasureT-loop
-μ-loop tree nodes₀ i₀ nodes i = 511 - i
+μ-loop tree nodes₀ i₀ nodes i = treeRecords - i
 
 record-at-requires : tie.Need-record-at-requires Inv-loop μ-loop
 record-at-requires c κs = search needs

@@ -1,80 +1,117 @@
 -- `remake` meets its contract: no room, no such place, a leaf that may not be refined so, or the refinement made.
 -- Rests on Again.antt, Refuses.antt and the contracts of the functions called.
-use mathlib.Core.Path.{sym, subst}
+use mathlib.Core.Path.{_≡_, sym, ap, _∙_}
+use mathlib.Core.Bool.{true}
 use native.Mathlib.Omega.{arith}
 use borrow.Author.Needs.{needs}
 use borrow.Author.Tests.{not-true, not-false}
+use Rattle.rules.specs.Table.{Table, table}
 use Rattle.rules.proofs.Accepted.{few-ways, paired-words}
+use Rattle.records.specs.Records.{kindOf}
+use Rattle.records.specs.declared.Tree.{Tree}
 use Rattle.records.proofs.Live.{lean-at}
-use Rattle.formula.specs.Leaves.{FaultFits}
+use Rattle.store.specs.Lent.{treeOf}
 use Rattle.dtree.proofs.Refuses.{ways-there}
-use Rattle.dtree.proofs.Again.{full, beyond, cannot, can}
+use Rattle.dtree.proofs.Again.{Read, full, beyond, cannot, can}
 use Rattle.dtree.proofs.sixteen.remake.Statement.{statement}
 use Rattle.dtree.proofs.sixteen.remake.Tie as tie
+
+-- The places before: where the call began, seen from the count; the count, seen from the next left child; and that child, seen from the leaf's record.
+abbrev start : tie.After-used-in → tie.Start
+start c = c .before .before .before .before .before
+
+abbrev counted : tie.After-record-at → tie.After-used-in
+counted c = c .before .before
+
+abbrev at-child : tie.After-record-at3 → tie.After-record-at
+at-child c = c .before .before .before .before .before
+
+-- The table and the two trees.
+abbrev tableOf : tie.Start → Table
+tableOf s = table (s .args .weights .now) (s .args .present .now) (s .args .absent .now)
+
+abbrev told-by : tie.Start → Tree
+told-by s = treeOf (s .args .x .now)
+
+abbrev built : tie.Start → Tree
+built s = treeOf (s .args .y .now)
+
+-- What was read of the next refinement, where it is known whether it may be made.
+seen : (c : tie.After-may)
+    → let l = c .before .before in
+    let d = at-child l in
+    let u = counted d in
+    let s = start u in
+    Read (tableOf s) (told-by s) (built s) (u .used-in .result) (d .record-at .result) (l .before .before .kind-of .result) (l .record-at3 .result) (c .may .result)
+seen c =
+    let l = c .before .before in
+    let d = at-child l in
+    let k = l .before .before in
+    record {
+      next-is = counted d .used-in .ensures;
+      child-is = d .record-at .ensures;
+      kind-is = k .kind-of .ensures ∙ ap kindOf (k .before .record-at2 .ensures);
+      leaf-is = l .record-at3 .ensures;
+      may-is = c .may .ensures .0 (start (counted d) .args .weights .now);
+    }
 
 used-in-requires : tie.Need-used-in-requires
 used-in-requires c κs = search needs
 
 returns : tie.Need-returns
-returns c = full _ _ _ _ _ (c .before .used-in .ensures) (c .if1 .taken)
+returns c = let s = start (c .before) in full (tableOf s) (told-by s) (built s) _ _ (c .before .used-in .ensures) (c .if1 .taken)
 
 record-at-requires : tie.Need-record-at-requires
 record-at-requires c κs = search needs
 
 returns-2 : tie.Need-returns-2
 returns-2 c =
-    let r = c .before in
-    beyond _ _ _ _ _ (r .before .before .used-in .ensures) _ (r .record-at .ensures) (c .if2 .taken)
+    let d = c .before in
+    let u = counted d in
+    let s = start u in
+    beyond (tableOf s) (told-by s) (built s) _ _ (u .used-in .ensures) _ (d .record-at .ensures) (c .if2 .taken)
 
 record-at-requires-2 : tie.Need-record-at-requires-2
 record-at-requires-2 c κs = search needs
+
+kind-of-requires : tie.Need-kind-of-requires
+kind-of-requires c κs = search needs
 
 record-at-requires-3 : tie.Need-record-at-requires-3
 record-at-requires-3 c κs = search needs
 
 ways-of-requires : tie.Need-ways-of-requires
 ways-of-requires c κs =
-    let u = c .before .before .before .before .before .before in
-    let ok = u .before .before .before .before .before .pre .0 in
-    (few-ways _ ok, sym (paired-words _ ok))
+    let s = start (counted (at-child c)) in
+    (few-ways (tableOf s) (s .pre .0), sym (paired-words (tableOf s) (s .pre .0)))
 
 may-requires : tie.Need-may-requires
 may-requires c κs = search needs
 
 returns-3 : tie.Need-returns-3
-returns-3 c =
-    let m = c .before in
-    let l = m .before .before in
-    let n = l .before .before in
-    let r = n .before .before in
-    let u = r .before .before in
-    cannot _ _ _ _ _ (u .used-in .ensures) _ (r .record-at .ensures) _ _ (n .record-at2 .ensures) (l .record-at3 .ensures) _ (m .may .ensures .0 _)
-    (not-true _ (c .if3 .taken))
-
-kind-of-requires : tie.Need-kind-of-requires
-kind-of-requires c κs = search needs
+returns-3 c = cannot _ _ _ _ _ _ _ _ _ (seen (c .before)) (not-true _ (c .if3 .taken))
 
 grow-requires : tie.Need-grow-requires
 grow-requires c κs =
-    let i = c .before .before in
+    let i = c .before in
     let m = i .before in
     let w = m .before in
     let l = w .before in
-    let e = l .before .before .before in
-    let r = e .before in
-    let u = r .before .before in
-    let p = u .before .before .before .before .before .pre in
-    let room = r .before .if1 .left in (
-      p .0,
+    let d = at-child l in
+    let u = counted d in
+    let s = start u in
+    let room = d .before .if1 .left in
+    let inside = l .before .before .before .before .if2 .left in (
+      s .pre .0,
       (
-        ways-there _ _ _ _ _ (l .record-at3 .ensures) (w .ways-of .ensures),
+        ways-there (s .args .present .now) (s .args .absent .now) _ _ _ (l .record-at3 .ensures) (w .ways-of .ensures),
         (
-          subst FaultFits (sym (c .kind-of .ensures)) (m .may .ensures .1 (not-false _ (i .if3 .left))),
+          m .may .ensures .1 (not-false _ (i .if3 .left)),
           (
-            p .1 .0,
+            s .pre .1 .0,
             (
-              (omega (arith, room, e .if2 .left), omega (arith, room, u .used-in .ensures, p .1 .1 .0)),
-              lean-at _ _ (p .1 .1 .1) _,
+              (omega (arith, room, inside), omega (arith, room, u .used-in .ensures, s .pre .1 .1 .0)),
+              lean-at (tableOf s) (built s) (s .pre .1 .1 .1) _,
             ),
           ),
         ),
@@ -83,19 +120,13 @@ grow-requires c κs =
 
 returns-4 : tie.Need-returns-4
 returns-4 c =
-    let k = c .before in
-    let i = k .before .before in
+    let i = c .before .before in
     let m = i .before in
     let l = m .before .before in
-    let n = l .before .before in
-    let e = n .before in
-    let r = e .before in
-    let f = r .before in
-    let u = f .before in
-    let g = c .grow .ensures in
-    let p = u .before .before .before .before .before .pre in
-    can _ _ _ _ _ (u .used-in .ensures) _ (r .record-at .ensures) _ _ (n .record-at2 .ensures) (l .record-at3 .ensures) _ (m .may .ensures .0 _)
-    (not-false _ (i .if3 .left)) (f .if1 .left) (e .if2 .left) _ (k .kind-of .ensures) (g .0) (g .1) (g .2) (p .0) (p .1 .1 .1)
+    let d = at-child l in
+    let s = start (counted d) in
+    can _ _ _ _ _ _ _ _ _ (seen m) (not-false _ (i .if3 .left)) (d .before .if1 .left) (l .before .before .before .before .if2 .left) (s .pre .0) (s .pre .1 .1 .1)
+    (c .grow .ensures)
 
 pub remake-spec : {M : Type 1} → statement M
 remake-spec =
@@ -106,10 +137,10 @@ remake-spec =
     record-at-requires
     returns-2
     record-at-requires-2
+    kind-of-requires
     record-at-requires-3
     ways-of-requires
     may-requires
     returns-3
-    kind-of-requires
     grow-requires
     returns-4)

@@ -9,7 +9,7 @@ use Rattle.rules.specs.Table.{Table}
 use Rattle.rules.specs.Leaf.{Lean}
 use Rattle.rules.specs.declared.Kind.{Kind}
 use Rattle.rules.proofs.Accepted.{few-faults, light}
-use Rattle.records.specs.Records.{recordIn, recordWays}
+use Rattle.records.specs.Records.{treeRecords, recordIn, recordWays}
 use Rattle.records.specs.Growing.{raise, refinedAt, grownAt}
 use Rattle.records.specs.declared.Node.{Node}
 use Rattle.records.specs.declared.Tree.{Tree}
@@ -18,7 +18,8 @@ use Rattle.store.specs.Safe.{Safe}
 use Rattle.store.proofs.Lent.{long}
 use Rattle.clauses.specs.declared.Clauses.{Clauses}
 use Rattle.clauses.specs.Leaves.{waysOf}
-use Rattle.grow.specs.Branched.{LeafWays, Branched, three}
+use Rattle.node.specs.Told.{LeafWays}
+use Rattle.grow.specs.Branched.{Branched, three}
 use Rattle.grow.specs.declared.refine.Branch.{Branch}
 use Rattle.store.proofs.SafeLaws.{safe-read}
 use Rattle.grow.proofs.Leaves.{safe-three, three-refined}
@@ -41,14 +42,14 @@ read t xs x c j e h = rw e h
 lean-leaf : (t : Table) (x : Node) (c : Clauses) → LeafWays (t .present) (t .absent) x c → Lean (recordWays t x) → Lean (waysOf (t .present) (t .absent) c)
 lean-leaf t x c h l = subst Lean (sym (h .ways-are (t .weights))) l
 
-room : (next used : ℕ) → next ≡ used → used + 1 < 511 → next + 1 < 511
+room : (next used : ℕ) → next ≡ used → used + 1 < treeRecords → next + 1 < treeRecords
 room next used e h = rw e h
 
 -- The three records are put into the tree u, which gives v.
 module _ (t : Table) (u v : Tree) (x : Node) (c : Clauses) (k : Kind) (j next : ℕ) (b : Branch)
     (made : Branched (t .weights) x (waysOf (t .present) (t .absent) c) k j next b)
     (put : v ≡ record { nodes = three (u .nodes) next j (b .node) (b .left) (b .right); used = next + 2 }) where
-  safe-put : length (u .nodes) ≡ 511 → j < 511 → next + 1 < 511 → Safe (u .nodes) → Safe (v .nodes)
+  safe-put : length (u .nodes) ≡ treeRecords → j < treeRecords → next + 1 < treeRecords → Safe (u .nodes) → Safe (v .nodes)
   safe-put l h g s = rw put (safe-three (u .nodes) next j (b .node) (b .left) (b .right) l h g s (made .node-safe) (made .left-safe) (made .right-safe))
 
   module _ (x-is : x ≡ recordIn (u .nodes) j) (next-is : next ≡ u .used) (leaf : LeafWays (t .present) (t .absent) (recordIn (u .nodes) j) c) where

@@ -7,7 +7,7 @@ use borrow.Author.Needs.{needs}
 use borrow.Author.Tests.{eq-eqb, ne-eqb}
 use Rattle.rules.specs.Run.{narrow}
 use Rattle.rules.specs.declared.Verdict.the-variants.{Met, Done, Full, Spent}
-use Rattle.records.specs.Records.{recordIn}
+use Rattle.records.specs.Records.{treeRecords, recordIn}
 use Rattle.records.specs.declared.Node.{Node}
 use Rattle.records.specs.declared.Tree.{Tree}
 use Rattle.store.specs.Lent.{treeOf}
@@ -35,17 +35,17 @@ module _ (a : ℕ) (x : Tree) (m b : ℕ) where
     done e = rw (h, decided, e)
 
     module _ (j w : ℕ) (e : pickOf (x .nodes) ≡ At j w) where
-      full : x .used ≡ 511 → Stop Full ≡ decided a x m b
+      full : x .used ≡ treeRecords → Stop Full ≡ decided a x m b
       unfolding decided whenWide withLeaf
-      full q = rw (h, decided, e, eq-eqb (x .used) 511 q, withLeaf)
+      full q = rw (h, decided, e, eq-eqb (x .used) treeRecords q, withLeaf)
 
-      spent : (x .used ≡ 511 → ⊥) → m ≡ b → Stop Spent ≡ decided a x m b
+      spent : (x .used ≡ treeRecords → ⊥) → m ≡ b → Stop Spent ≡ decided a x m b
       unfolding decided whenWide withLeaf
-      spent q r = rw (h, decided, e, ne-eqb (x .used) 511 q, withLeaf, eq-eqb m b r)
+      spent q r = rw (h, decided, e, ne-eqb (x .used) treeRecords q, withLeaf, eq-eqb m b r)
 
-      on : (x .used ≡ 511 → ⊥) → (m ≡ b → ⊥) → Go j ≡ decided a x m b
+      on : (x .used ≡ treeRecords → ⊥) → (m ≡ b → ⊥) → Go j ≡ decided a x m b
       unfolding decided whenWide withLeaf
-      on q r = rw (h, decided, e, ne-eqb (x .used) 511 q, withLeaf, ne-eqb m b r)
+      on q r = rw (h, decided, e, ne-eqb (x .used) treeRecords q, withLeaf, ne-eqb m b r)
 
 -- ---- the function
 

@@ -14,7 +14,7 @@ use Rattle.store.specs.Lent.{treeOf}
 use Rattle.store.specs.Safe.{Safe}
 use Rattle.clauses.specs.declared.Clauses.{Clauses}
 use Rattle.clauses.specs.Leaves.{waysOf}
-use Rattle.grow.specs.Branched.{LeafWays}
+use Rattle.node.specs.Told.{LeafWays}
 use Rattle.running.specs.Decided.{ByRule}
 use Rattle.running.proofs.turn.refine_by_rule.Statement.{statement}
 use Rattle.running.proofs.turn.refine_by_rule.Tie as tie

@@ -1,14 +1,15 @@
--- `change` is safe: the word that it changes is one of the 6,644, whether it is a field of a record or the count.
+-- `change` is safe: the word that it changes is one of the tree's, whether it is a field of a record or the count.
 -- Rests on the contract of `wrapping_add_u64`.
 use mathlib.Core.Logic.{⊎-elim}
 use Prim.Native.Nat.{_<_}
 use native.Mathlib.Omega.{arith}
 use borrow.Author.Needs.{needs}
+use Rattle.store.specs.Lent.{treeWords}
 use Rattle.tree_vectors.proofs.damage.change.Statement.{statement}
 use Rattle.tree_vectors.proofs.damage.change.Tie as tie
 
 -- The word is inside, by whichever branch it was chosen.
-inside : (c : tie.Joined1) → c .if1 .at < 6644
+inside : (c : tie.Joined1) → c .if1 .at < treeWords
 inside c = ⊎-elim (λ w. omega arith) (λ w. omega arith) (c .if1 .came)
 
 returns : tie.Need-returns

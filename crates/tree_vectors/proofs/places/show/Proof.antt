@@ -1,17 +1,18 @@
 -- `show` is safe and ends. The loop's invariant: of the records that wait there is at most one more than of those printed,
--- and at most 511 are printed; the measure is the records that may still be. Rests on the contracts of the functions that it calls.
+-- and at most all of a tree are printed; the measure is the records that may still be. Rests on the contracts of the functions that it calls.
 use mathlib.Core.Path.{_≡_}
 use Prim.Native.Nat.{_+_, _≤_, _-_}
 use lib.ListN.{length, length-set}
 use borrow.Author.Needs.{needs}
+use Rattle.records.specs.Records.{treeRecords}
 use Rattle.tree_vectors.proofs.places.show.Statement.{statement}
 use Rattle.tree_vectors.proofs.places.show.Tie as tie
 
 abbrev Inv-loop : tie.InvT-loop
-Inv-loop tree waiting₀ count₀ shown₀ waiting count shown = (count ≤ shown + 1) × ((shown ≤ 511) × (length waiting ≡ 512))
+Inv-loop tree waiting₀ count₀ shown₀ waiting count shown = (count ≤ shown + 1) × ((shown ≤ treeRecords) × (length waiting ≡ treeRecords + 1))
 
 abbrev μ-loop : tie.MeasureT-loop
-μ-loop tree waiting₀ count₀ shown₀ waiting count shown = 511 - shown
+μ-loop tree waiting₀ count₀ shown₀ waiting count shown = treeRecords - shown
 
 roots-requires : tie.Need-roots-requires Inv-loop μ-loop
 roots-requires c κs = search needs

@@ -1,2 +1,0 @@
--- Nothing is defined here: the contracts of this crate cite the definitions of the crates below.
--- Rests on `rules`, Tree, `records`, Records, `store`, Lent, and `clauses` and `formula`, Leaves.

@@ -1,0 +1,34 @@
+-- `fault_code` meets its contract, by the kind.
+-- Rests on the definition of `records`, faultCode.
+use mathlib.Core.Path.{_≡_}
+use mathlib.Core.Option.{some}
+use Prim.Native.Nat.{ℕ}
+use borrow.Author.Needs.{needs}
+use Rattle.rules.specs.declared.Kind.{Kind}
+use Rattle.rules.specs.declared.Kind.the-variants.{IndependentOr, Shannon}
+use Rattle.records.specs.Records.{faultCode}
+use Rattle.node.proofs.fault_code.Statement.{statement}
+use Rattle.node.proofs.fault_code.Tie as tie
+
+by-groups : (k : Kind) → k ≡ IndependentOr → 0 ≡ faultCode (some k)
+unfolding faultCode
+by-groups k e = rw e
+
+by-fault : (k : Kind) (f : ℕ) → k ≡ Shannon f → f ≡ faultCode (some k)
+unfolding faultCode
+by-fault k f e = rw e
+
+enum-told : tie.Need-enum-told
+enum-told c = search needs
+
+enum-known-k : tie.Need-enum-known-k
+enum-known-k c = search needs
+
+returns : tie.Need-returns
+returns c = by-groups _ (c .enum-told .given .1)
+
+returns-2 : tie.Need-returns-2
+returns-2 c = by-fault _ _ (c .before .k .given .1)
+
+pub fault-code-spec : {M : Type 1} → statement M
+fault-code-spec = tie.close (tie.spec enum-told enum-known-k returns returns-2)
