@@ -33,8 +33,8 @@ returns c =
     let r = c .restrict .ensures in (
       left (a .p) (a .q) (waysOf (a .present .now) (a .absent .now) d) _ _ (r .0) (s .0),
       r .1,
-      fixed (d .present) (a .p) _ (r .2) (s .2),
-      fixed (d .absent) (a .q) _ (r .3) (s .3),
+      fixed (d .fixedpresent) (a .p) _ (r .2) (s .2),
+      fixed (d .fixedabsent) (a .q) _ (r .3) (s .3),
     )
 
 pub remaining-of-spec : {M : Type 1} → statement M
