@@ -170,6 +170,14 @@ fn paper_runs() -> Vec<Script> {
         told(p4(), &[run(S + 1, 256, 14, NONE), run(0, 0, 0, SPENT)]),
         told(p4(), &[run(0, 1, 0, SPENT), run(0, 1, 0, MET)]),
         told(p6(), &[run(0, 1, 0, MET), run(0, 1, 0, MET)]),
+        // Within the limits if they were cut to 32 and 16 bits.
+        told(
+            p4(),
+            &[
+                run(5_000_000_000, 65_576, 14, NONE),
+                run(0, 65_576, 15, NONE),
+            ],
+        ),
     ]
 }
 
@@ -190,6 +198,7 @@ fn refused_by_hand() -> Vec<Script> {
                 at(&[], by(3), 20),
                 at(&[], by(64), 20),
                 at(&[], by(u64::from(u32::MAX)), 20),
+                at(&[], by(1 << 32), 20),
                 at(&[], by(0), 0),
                 at(&[], by(1), 17),
                 at(&[0, 2], apart, 17),

@@ -40,7 +40,7 @@ pub const FAMILIES: [Family; 23] = [
     family("tests", paper::run_in_the_tests, 135),
     family("wrong", named::easy_to_get_wrong, 11_170),
     family("orders", named::orders, 155),
-    family("scripts", scripts::scripts, 142_436),
+    family("scripts", scripts::scripts, 142_446),
     family("edges", tables::edges, 1400),
     family("tables", tables::tables, 41_000),
     family("refused", tables::refused, 17_000),
