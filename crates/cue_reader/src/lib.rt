@@ -42,14 +42,14 @@ pub fn call_at(s: &[u8], at: usize) -> Call
 
 /// Opens a reader: its place is the first cue.
 pub fn open_reader<'a>(sheet: &'a [u8]) -> Reader<'a>
-    ensures { λ r. ⌜ (r .sheet ≡ sheet .entry) × (r .at ≡ 0) ⌝ }
+    ensures reader { λ r. ⌜ (r .sheet ≡ sheet .entry) × (r .at ≡ 0) ⌝ }
 {
     Reader { sheet, at: 0 }
 }
 
 /// The next cue. Past the last the answer says so, and on a refused sheet it is the number; both keep the place.
 pub fn next<'s, 'a>(r: &'s mut Reader<'a>) -> EntryAnswer
-    ensures { λ a. ⌜ ReaderCalled (now (r .entry)) a (now (r .exit)) ⌝ }
+    ensures called { λ a. ⌜ ReaderCalled (now (r .entry)) a (now (r .exit)) ⌝ }
 {
     let call = call_at(r.sheet, r.at);
     r.at = call.at;
@@ -58,7 +58,7 @@ pub fn next<'s, 'a>(r: &'s mut Reader<'a>) -> EntryAnswer
 
 /// The answer of the call that follows so many calls of a reader opened on the sheet.
 pub fn call_after(s: &[u8], calls: usize) -> EntryAnswer
-    ensures { λ a. ⌜ a ≡ callAnswer (now (s .entry)) calls ⌝ }
+    ensures answer { λ a. ⌜ a ≡ callAnswer (now (s .entry)) calls ⌝ }
 {
     let mut r = open_reader(s);
     let mut made: usize = 0;

@@ -44,7 +44,7 @@ fn append_lines(text: &mut Room, length: usize, s: &[u8], cues: u16, limits: Lim
 
 /// The text that is printed for any bytes, read as a sheet.
 pub fn report(s: &[u8]) -> Report
-    ensures { λ r. ⌜ Reported (now (s .entry)) r ⌝ }
+    ensures reported { λ r. ⌜ Reported (now (s .entry)) r ⌝ }
 {
     let mut text = [0u8; 939];
     let a = read(s);
