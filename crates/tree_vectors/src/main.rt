@@ -12,14 +12,14 @@ use dtree::opening::open;
 use dtree::refining::refine;
 use dtree::runs::run;
 use input::step_list;
-use input::word_list;
 use lines::print_line;
 use lines::print_run;
 use lines::reply;
-use numbers::half;
 use numbers::list_length;
 use numbers::number;
+use numbers::number_to;
 use numbers::weight_list;
+use numbers::word_list;
 use places::show;
 use rules::Kind;
 use rules::Limits;
@@ -33,7 +33,7 @@ fn opening(weights: &[u32], present: &[u64], absent: &[u64], tree: &mut Words) {
 /// Reads what a hand refinement does: 0 for independence, 1 for a fault, then the fault's number.
 fn kind_read() -> Kind {
     let by_fault = number();
-    let fault = half();
+    let fault = number_to(4294967295) as u32;
     if by_fault == 0 {
         return Kind::IndependentOr;
     }
