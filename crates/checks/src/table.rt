@@ -8,7 +8,8 @@ use super::lists::overweight;
 use super::ways::way_number;
 use super::ways::words_amiss;
 
-/// 9 to 13, or 0, each test over the whole input before the next. The ways are judged only once 9 has let at most 64 faults through.
+/// 9 to 13, or 0, each test over the whole input before the next. The ways are judged only once 9 has let at most 64 faults through,
+/// and 11 at most 128 ways.
 pub fn table_number(weights: &[u32], present: &[u64], absent: &[u64]) -> u8
     ensures { λ r. ⌜ r ≡ tableNumber (table (now (weights .entry)) (now (present .entry)) (now (absent .entry))) ⌝ }
 {
@@ -18,7 +19,8 @@ pub fn table_number(weights: &[u32], present: &[u64], absent: &[u64]) -> u8
     if overweight(weights) {
         return 10;
     }
-    let amiss = words_amiss(present, absent);
-    let number = way_number(weights.len(), present, absent);
-    if amiss { 11 } else { number }
+    if words_amiss(present, absent) {
+        return 11;
+    }
+    way_number(weights.len(), present, absent)
 }

@@ -50,24 +50,19 @@ pub fn number() -> u64 {
     n
 }
 
+/// The next number of the input; `most` if it is above that.
+pub fn number_to(most: u64) -> u64
+    ensures { λ r. ⌜ r ≤ most ⌝ }
+{
+    let n = number();
+    if n > most { most } else { n }
+}
+
 /// The next number as a list's length, of at most so many elements: the input has no longer lists.
 pub fn list_length(most: usize) -> usize
     ensures { λ r. ⌜ r ≤ most ⌝ }
 {
-    let n = number() as usize;
-    if n > most { most } else { n }
-}
-
-/// The next number as a half word; the largest one if it is above that.
-pub fn half() -> u32 {
-    let n = number();
-    if n > 4294967295 { 4294967295 } else { n as u32 }
-}
-
-/// The next number as a quarter word; the largest one if it is above that.
-pub fn quarter() -> u16 {
-    let n = number();
-    if n > 65535 { 65535 } else { n as u16 }
+    number_to(most as u64) as usize
 }
 
 /// The next weights of the input, zeros after them.
@@ -78,7 +73,21 @@ pub fn weight_list(count: usize) -> [u32; 65]
     let mut list = [0u32; 65];
     let mut i: usize = 0;
     while i < count {
-        list[i] = half();
+        list[i] = number_to(4294967295) as u32;
+        i += 1;
+    }
+    list
+}
+
+/// The next words of the input, zeros after them: as many as a sheet has ways, and one more.
+pub fn word_list(count: usize) -> [u64; 3073]
+    requires { ⌜ count ≤ 3073 ⌝ }
+    ensures { λ r. ⌜ Counts count r ⌝ }
+{
+    let mut list = [0u64; 3073];
+    let mut i: usize = 0;
+    while i < count {
+        list[i] = number();
         i += 1;
     }
     list

@@ -6,7 +6,7 @@ use Prim.Native.Nat.{ℕ, zero, suc, _+_, _*_, _^_}
 use native.Mathlib.Nat.{pow-suc, zero-add, suc-add}
 use native.Mathlib.Omega.{arith}
 use lib.ListN.{take, drop, getD}
-use lib.Seq.{take-nil}
+use lib.Seq.{take-nil, drop-drop}
 use Rattle.rules.specs.Sheet.{value, field}
 
 -- One byte.
@@ -16,21 +16,6 @@ field-byte zero [] = refl
 field-byte zero (b ∷ bs) = omega arith
 field-byte (suc i) [] = refl
 field-byte (suc i) (b ∷ bs) = field-byte i bs
-
--- Four bytes at the front.
-field-four : (bs : List ℕ) → getD bs 0 0 + 256 * getD bs 1 0 + 65536 * getD bs 2 0 + 16777216 * getD bs 3 0 ≡ field 4 0 bs
-unfolding field value
-field-four [] = refl
-field-four (a ∷ []) = omega arith
-field-four (a ∷ b ∷ []) = omega arith
-field-four (a ∷ b ∷ c ∷ []) = omega arith
-field-four (a ∷ b ∷ c ∷ d ∷ bs) = omega arith
-
--- So four numbers of one byte each are one of four.
-pub four-bytes : (bs : List ℕ) (a b c d : ℕ) → a ≡ field 1 0 bs → b ≡ field 1 1 bs → c ≡ field 1 2 bs → d ≡ field 1 3 bs
-    → a + 256 * b + 65536 * c + 16777216 * d ≡ field 4 0 bs
-four-bytes bs a b c d e f g h =
-    omega (arith, e, f, g, h, field-byte 0 bs, field-byte 1 bs, field-byte 2 bs, field-byte 3 bs, field-four bs)
 
 -- Bytes at the front of those from i on are bytes at i.
 pub field-front : (n i : ℕ) (bs : List ℕ) {t : List ℕ} → t ≡ drop i bs → field n 0 t ≡ field n i bs
@@ -44,8 +29,7 @@ value-halves zero n bs = rw (zero-add n) (omega arith)
 value-halves (suc m) n [] = rw (suc-add, take-nil n) (omega arith)
 value-halves (suc m) n (b ∷ bs) = rw (suc-add, pow-suc) (omega (arith, value-halves m n bs))
 
--- The number of m + n bytes at i, read from the bytes from i on: the m lowest, and the n behind them.
-pub joined : (m n i : ℕ) (bs : List ℕ) {t : List ℕ} {low high : ℕ} → t ≡ drop i bs → low ≡ field m 0 t → high ≡ field n m t
-    → low + 256 ^ m * high ≡ field (m + n) i bs
+-- The number of m + n bytes at i: the m lowest, and the n behind them.
+pub joined : (m n i : ℕ) (bs : List ℕ) {low high : ℕ} → low ≡ field m i bs → high ≡ field n (i + m) bs → low + 256 ^ m * high ≡ field (m + n) i bs
 unfolding field
-joined m n i bs e f g = rw (f, g, e, value-halves m n (drop i bs))
+joined m n i bs f g = rw (f, g, value-halves m n (drop i bs), drop-drop m i bs)

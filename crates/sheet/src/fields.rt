@@ -1,6 +1,7 @@
 //! Numbers in a sheet's bytes, the lowest byte first. Rests on the definitions of `rules`, Sheet.
 //! Every position can be asked for: a byte beyond the end counts as 0.
 ghost use mathlib.Core.Path.{_≡_};
+ghost use Prim.Native.Nat.{_+_, _*_};
 ghost use lib.ListN.{drop};
 ghost use Rattle.rules.specs.Sheet.{field};
 
@@ -21,22 +22,28 @@ fn byte_at(s: &[u8], i: usize) -> u8
     if i < s.len() { s[i] } else { 0 }
 }
 
+/// The number of two bytes.
+fn pair(low: u8, high: u8) -> u16
+    ensures { λ r. ⌜ r ≡ low + 256 * high ⌝ }
+{
+    low as u16 + 256 * (high as u16)
+}
+
 /// The number in the two bytes at i.
 pub fn u16_at(s: &[u8], i: usize) -> u16
     ensures { λ r. ⌜ r ≡ field 2 i (now (s .entry)) ⌝ }
 {
     let t = rest(s, i);
-    byte_at(t, 0) as u16 + 256 * (byte_at(t, 1) as u16)
+    pair(byte_at(t, 0), byte_at(t, 1))
 }
 
 /// The number in the first four bytes, byte by byte.
 fn first_u32(t: &[u8]) -> u32
     ensures { λ r. ⌜ r ≡ field 4 0 (now (t .entry)) ⌝ }
 {
-    byte_at(t, 0) as u32
-        + 256 * (byte_at(t, 1) as u32)
-        + 65536 * (byte_at(t, 2) as u32)
-        + 16777216 * (byte_at(t, 3) as u32)
+    let low = pair(byte_at(t, 0), byte_at(t, 1));
+    let high = pair(byte_at(t, 2), byte_at(t, 3));
+    low as u32 + 65536 * (high as u32)
 }
 
 /// The number in the four bytes at i.

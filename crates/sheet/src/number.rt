@@ -87,12 +87,10 @@ pub fn sheet_number(s: &[u8]) -> u8
     if outside(s) {
         return 2;
     }
-    let zero = u16_at(s, 10);
-    let bodies = bodies_in(s);
-    if 0 < zero {
+    if 0 < u16_at(s, 10) {
         return 3;
     }
-    if s.len() < bodies {
+    if s.len() < bodies_in(s) {
         return 4;
     }
     contents_number(s)

@@ -17,8 +17,8 @@ use rules::ReadAnswer;
 
 /// Reading a whole sheet.
 pub fn read(s: &[u8]) -> ReadAnswer
-    ensures { λ r. ⌜ r ≡ readAnswer (now (s .entry)) ⌝ }
-    ensures { λ r. ⌜ readReply r ≡ countedBy (readNumber (now (s .entry))) 0 ⌝ }
+    ensures answer { λ r. ⌜ r ≡ readAnswer (now (s .entry)) ⌝ }
+    ensures reply { λ r. ⌜ readReply r ≡ countedBy (readNumber (now (s .entry))) 0 ⌝ }
 {
     let number = sheet_number(s);
     if number != 0 {
@@ -41,8 +41,8 @@ pub fn entry_at(s: &[u8], i: usize) -> Entry
 
 /// A reader's call at position i: past the last cue there is none, and a refused sheet is refused there too.
 pub fn cue_at(s: &[u8], i: usize) -> EntryAnswer
-    ensures { λ r. ⌜ r ≡ entryAnswer (now (s .entry)) i ⌝ }
-    ensures { λ r. ⌜ entryReply r ≡ countedBy (readNumber (now (s .entry))) 0 ⌝ }
+    ensures answer { λ r. ⌜ r ≡ entryAnswer (now (s .entry)) i ⌝ }
+    ensures reply { λ r. ⌜ entryReply r ≡ countedBy (readNumber (now (s .entry))) 0 ⌝ }
 {
     let number = sheet_number(s);
     if number != 0 {
@@ -56,7 +56,7 @@ pub fn cue_at(s: &[u8], i: usize) -> EntryAnswer
 
 /// The body of an entry as a part of the sheet, or none of its bytes where the entry points beyond the end.
 pub fn body(s: &[u8], e: Entry) -> &[u8]
-    ensures { λ r. ⌜ now r ≡ bodyOr (now (s .entry)) e ⌝ }
+    ensures body { λ r. ⌜ now r ≡ bodyOr (now (s .entry)) e ⌝ }
 {
     let start = e.start as usize;
     let end = start + 16 * (e.ways as usize);

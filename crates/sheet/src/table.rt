@@ -18,7 +18,7 @@ pub struct CueTable {
 
 /// The table of an entry, whether or not the entry comes from the sheet.
 pub fn table(s: &[u8], e: Entry) -> CueTable
-    ensures { λ r. ⌜ HandedOver (now (s .entry)) e r ⌝ }
+    ensures table { λ r. ⌜ HandedOver (now (s .entry)) e r ⌝ }
 {
     let start = e.start as usize;
     let rows = e.ways as usize;

@@ -2,3 +2,4 @@
 -- Rests on those.
 pub mod Given
 pub mod Pieces
+pub mod Promises

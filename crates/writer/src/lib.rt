@@ -1,10 +1,7 @@
 //! The writer of sheets: lists in, the bytes of the sheet that they give out into a lent space, or a refusal that leaves the space as it was.
-//! `refusals` finds the number of a call, `pieces` writes the bytes. Rests on the definitions of `rules`, Sheet.
-ghost use mathlib.Core.Path.{_≡_};
-ghost use lib.ListN.{length};
-ghost use Rattle.rules.specs.Answers.{countedBy, writeReply};
-ghost use Rattle.rules.specs.Sheet.{sheetOf, encode, writeNumber, writeAnswer, written};
+//! `refusals` finds the number of a call, `pieces` writes the bytes. What a call promises stands in specs/Promises.antt.
 ghost use Rattle.writer.specs.Given.{given};
+ghost use Rattle.writer.specs.Promises.{Writing};
 use pieces::put_sheet;
 use refusals::write_number;
 use rules::Limits;
@@ -23,9 +20,8 @@ pub fn write(
     limits: Limits,
     space: &mut [u8],
 ) -> WriteAnswer
-    ensures { λ r. ⌜ r ≡ writeAnswer (given (now (weights .entry)) (now (numbers .entry)) (now (counts .entry)) (now (present .entry)) (now (absent .entry)) limits) (length (now (space .entry))) ⌝ }
-    ensures { λ r. ⌜ writeReply r ≡ countedBy (writeNumber (given (now (weights .entry)) (now (numbers .entry)) (now (counts .entry)) (now (present .entry)) (now (absent .entry)) limits) (length (now (space .entry)))) (length (encode (sheetOf (given (now (weights .entry)) (now (numbers .entry)) (now (counts .entry)) (now (present .entry)) (now (absent .entry)) limits)))) ⌝ }
-    ensures { λ _. ⌜ now (space .exit) ≡ written (given (now (weights .entry)) (now (numbers .entry)) (now (counts .entry)) (now (present .entry)) (now (absent .entry)) limits) (now (space .entry)) ⌝ }
+    ensures writing { λ r. ⌜ Writing (given (now (weights .entry)) (now (numbers .entry)) (now (counts .entry)) (now (present .entry))
+        (now (absent .entry)) limits) (now (space .entry)) (now (space .exit)) r ⌝ }
 {
     let number = write_number(
         weights,

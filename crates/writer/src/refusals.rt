@@ -98,11 +98,13 @@ fn list_number(
         return ways;
     }
     let limit = limit_number(limits);
-    let apart = disagree(numbers.len(), counts, present.len(), absent.len());
     if limit != 0 {
         return limit;
     }
-    if apart { 21 } else { 0 }
+    if disagree(numbers.len(), counts, present.len(), absent.len()) {
+        return 21;
+    }
+    0
 }
 
 /// The number of the lists, or 22 if the sheet that they give is longer than the space.

@@ -32,32 +32,31 @@ returns-2 c =
 words-amiss-requires : tie.Need-words-amiss-requires
 words-amiss-requires c κs = search needs
 
-way-number-requires : tie.Need-way-number-requires
-unfolding faultsOutside
-way-number-requires c κs =
-    let p = c .before .before .before in
-    let n = length (p .before .before .before .before .before .args .weights .now) in
-    ltb-false 64 n (or-right (eqb n 0) _ (sym (p .before .faults-outside .ensures) ∙ p .if1 .left))
-
 returns-3 : tie.Need-returns-3
 unfolding tableNumber tableRefusals
 returns-3 c =
-    let w = c .before .before in
-    let q = w .before in
+    let q = c .before .before in
     let p = q .before .before in
     let-through _ _ (p .before .faults-outside .ensures) (p .if1 .left)
     (let-through _ _ (q .before .overweight .ensures) (q .if2 .left)
-    (refused _ _ (w .words-amiss .ensures) (c .if3 .taken)))
+    (refused _ _ (c .before .words-amiss .ensures) (c .if3 .taken)))
+
+way-number-requires : tie.Need-way-number-requires
+unfolding faultsOutside
+way-number-requires c κs =
+    let p = c .before .before .before .before in
+    let n = length (p .before .before .before .before .before .args .weights .now) in
+    ltb-false 64 n (or-right (eqb n 0) _ (sym (p .before .faults-outside .ensures) ∙ p .if1 .left))
 
 returns-4 : tie.Need-returns-4
 unfolding tableNumber tableRefusals ways
 returns-4 c =
-    let w = c .before .before in
-    let q = w .before in
+    let w = c .before in
+    let q = w .before .before in
     let p = q .before .before in
     let-through _ _ (p .before .faults-outside .ensures) (p .if1 .left)
     (let-through _ _ (q .before .overweight .ensures) (q .if2 .left)
-    (let-through _ _ (w .words-amiss .ensures) (c .if3 .left) (c .before .way-number .ensures)))
+    (let-through _ _ (w .before .words-amiss .ensures) (w .if3 .left) (c .way-number .ensures)))
 
 pub table-number-spec : {M : Type 1} → statement M
 table-number-spec =
@@ -68,6 +67,6 @@ table-number-spec =
     overweight-requires
     returns-2
     words-amiss-requires
-    way-number-requires
     returns-3
+    way-number-requires
     returns-4)

@@ -40,7 +40,7 @@ returns-2 : tie.Need-returns-2
 returns-2 c =
     let r = c .before .before .before in
     let a = r .before .before .args in
-    joined 2 2 (a .i) (a .s .now) (r .rest .ensures) (c .before .u16-at .ensures) (c .u16-at2 .ensures)
+    joined 2 2 0 (r .rest .result .now) (c .before .u16-at .ensures) (c .u16-at2 .ensures) ∙ field-front 4 (a .i) (a .s .now) (r .rest .ensures)
 
 pub u32-at-spec : {M : Type 1} → statement M
 u32-at-spec =

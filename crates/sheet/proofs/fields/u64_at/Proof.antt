@@ -1,7 +1,8 @@
 -- `u64_at` meets its contract: its number is that of the two halves of its bytes.
 -- Rests on Halves.antt and the contracts of `rest` and `u32_at`.
+use mathlib.Core.Path.{_∙_}
 use borrow.Author.Needs.{needs}
-use Rattle.sheet.proofs.Halves.{joined}
+use Rattle.sheet.proofs.Halves.{field-front, joined}
 use Rattle.sheet.proofs.fields.u64_at.Statement.{statement}
 use Rattle.sheet.proofs.fields.u64_at.Tie as tie
 
@@ -30,7 +31,7 @@ returns : tie.Need-returns
 returns c =
     let r = c .before .before in
     let a = r .before .before .args in
-    joined 4 4 (a .i) (a .s .now) (r .rest .ensures) (c .before .u32-at .ensures) (c .u32-at2 .ensures)
+    joined 4 4 0 (r .rest .result .now) (c .before .u32-at .ensures) (c .u32-at2 .ensures) ∙ field-front 8 (a .i) (a .s .now) (r .rest .ensures)
 
 pub u64-at-spec : {M : Type 1} → statement M
 u64-at-spec =

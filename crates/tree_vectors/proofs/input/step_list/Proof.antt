@@ -1,5 +1,5 @@
 -- `step_list` meets its contract. The loop's invariant: i is at most the count, and the array keeps its length.
--- Rests on the contract of `step`.
+-- Rests on the contract of `number_to`.
 use mathlib.Core.Path.{_≡_, sym}
 use Prim.Native.Nat.{_≤_, _-_}
 use lib.ListN.{length}
@@ -18,8 +18,11 @@ abbrev μ-loop : tie.MeasureT-loop
 loop-holds : tie.Need-loop-holds Inv-loop μ-loop
 loop-holds c = search needs
 
-step-requires : tie.Need-step-requires Inv-loop μ-loop
-step-requires c κs = search needs
+number-to-requires : tie.Need-number-to-requires Inv-loop μ-loop
+number-to-requires c κs = search needs
+
+cast-list : tie.Need-cast-list Inv-loop μ-loop
+cast-list c = search needs
 
 array-write-list : tie.Need-array-write-list Inv-loop μ-loop
 array-write-list c = search needs
@@ -45,7 +48,8 @@ step-list-spec =
     Inv-loop
     μ-loop
     loop-holds
-    step-requires
+    number-to-requires
+    cast-list
     array-write-list
     add-i
     loop-less

@@ -1,5 +1,5 @@
 -- `cue_list` meets its contract. The loop's invariant: i is at most the count, and the array keeps its length.
--- Rests on the contract of `quarter`.
+-- Rests on the contract of `number_to`.
 use mathlib.Core.Path.{_≡_, sym}
 use Prim.Native.Nat.{_≤_, _-_}
 use lib.ListN.{length}
@@ -18,8 +18,11 @@ abbrev μ-loop : tie.MeasureT-loop
 loop-holds : tie.Need-loop-holds Inv-loop μ-loop
 loop-holds c = search needs
 
-quarter-requires : tie.Need-quarter-requires Inv-loop μ-loop
-quarter-requires c κs = search needs
+number-to-requires : tie.Need-number-to-requires Inv-loop μ-loop
+number-to-requires c κs = search needs
+
+cast-list : tie.Need-cast-list Inv-loop μ-loop
+cast-list c = search needs
 
 mul-list : tie.Need-mul-list Inv-loop μ-loop
 mul-list c = search needs
@@ -48,7 +51,8 @@ cue-list-spec =
     Inv-loop
     μ-loop
     loop-holds
-    quarter-requires
+    number-to-requires
+    cast-list
     mul-list
     array-write-list
     add-i

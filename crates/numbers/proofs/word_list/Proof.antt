@@ -6,8 +6,8 @@ use lib.ListN.{length}
 use lib.Seq.{length-take-le}
 use native.Mathlib.Omega.{arith}
 use borrow.Author.Needs.{needs}
-use Rattle.writer_vectors.proofs.input.word_list.Statement.{statement}
-use Rattle.writer_vectors.proofs.input.word_list.Tie as tie
+use Rattle.numbers.proofs.word_list.Statement.{statement}
+use Rattle.numbers.proofs.word_list.Tie as tie
 
 abbrev Inv-loop : tie.InvT-loop
 Inv-loop count list₀ i₀ list i = (i ≤ count) × (length list ≡ 3073)
