@@ -71,7 +71,8 @@ module _ (t : Table) (ok : Accepted t) (x : Tree) (used : ℕ) (u : used ≡ x .
 
 module _ (t : Table) (x y : Tree) where
   -- Nothing is to go: the records decide.
-  pub compared : (left : ℕ) → left ≤ 0 → Answers t x y left → (r : Bool) → r ≡ sameNodes (x .nodes) (y .nodes) → (r ≡ isGood t x) × (r ≡ true → Safe (x .nodes))
+  pub compared : (left : ℕ) → left ≤ 0 → Answers t x y left → (r : Bool) → r ≡ sameNodes (x .nodes) (y .nodes)
+      → (r ≡ isGood t x) × (r ≡ true → Safe (x .nodes))
   unfolding rebuild sameAs
   compared zero h a r e = (e ∙ a .rest, λ h. subst Safe (sym (same-nodes (x .nodes) (y .nodes) (sym e ∙ h))) (a .safe))
   compared (suc n) h a r e = absurd (omega (arith, h))
@@ -147,7 +148,8 @@ module _ (t : Table) (x y z : Tree) (next : ℕ) (child : Node) (k : Kind) (l : 
   pub cannot : r ≡ false → Remade t x y z false
   unfolding mayAt
   cannot f =
-      unmade t x y z (by (isLive (recordIn (y .nodes) (nextAt x y))) (possible (nextKind x y) (recordWays t (recordIn (y .nodes) (nextAt x y)))) (sym told ∙ f))
+      unmade t x y z (by (isLive (recordIn (y .nodes) (nextAt x y))) (possible (nextKind x y) (recordWays t (recordIn (y .nodes) (nextAt x y))))
+      (sym told ∙ f))
     where
       by : (b d : Bool) → b && d ≡ false → ltb (nextAt x y) (y .used) && (b && (ltb (y .used) treeRecords && d)) ≡ false
       by true d h = rw (h, and-false (ltb (y .used) treeRecords)) (and-false (ltb (nextAt x y) (y .used)))
@@ -159,7 +161,8 @@ module _ (t : Table) (x y z : Tree) (next : ℕ) (child : Node) (k : Kind) (l : 
   unfolding mayAt
   can o room inside ok good-before g =
       let e = seen .next-is in
-      let yes : mayNext t x y ≡ true = rw (lt-ltb (nextAt x y) (y .used) (omega (arith, e, place-is, inside)), lt-ltb (y .used) treeRecords (omega (arith, e, room))) (sym told ∙ o) in
+      let yes : mayNext t x y ≡ true =
+      rw (lt-ltb (nextAt x y) (y .used) (omega (arith, e, place-is, inside)), lt-ltb (y .used) treeRecords (omega (arith, e, room))) (sym told ∙ o) in
       let so : z .nodes ≡ grownAt t (y .nodes) (y .used) (nextAt x y) (nextKind x y) = g .0 ∙ ap₂ (grownAt t (y .nodes) (y .used)) place-is kind-next in
       record {
         said = sym yes;

@@ -33,7 +33,7 @@ fn refine_leaf(
     requires { ⌜ Good (table (now weights) (now present) (now absent)) (treeOf (now tree)) ⌝ }
     requires { ⌜ Safe (treeOf (now tree) .nodes) ⌝ }
     requires { ⌜ Refinable (wordTable (now present) (now absent)) (treeOf (now tree)) (now place) kind j ⌝ }
-    ensures { λ r. ⌜ Refining (table (now (weights .entry)) (now (present .entry)) (now (absent .entry)))
+    ensures promise { λ r. ⌜ Refining (table (now (weights .entry)) (now (present .entry)) (now (absent .entry)))
         (treeOf (now (tree .entry))) (now (place .entry)) kind (treeOf (now (tree .exit))) r ⌝ }
 {
     let c = ways_of(present, absent, record_at(tree, j));
@@ -58,7 +58,7 @@ fn refine_good(
     requires { ⌜ Accepted (table (now weights) (now present) (now absent)) ⌝ }
     requires { ⌜ Good (table (now weights) (now present) (now absent)) (treeOf (now tree)) ⌝ }
     requires { ⌜ Safe (treeOf (now tree) .nodes) ⌝ }
-    ensures { λ r. ⌜ Refining (table (now (weights .entry)) (now (present .entry)) (now (absent .entry)))
+    ensures promise { λ r. ⌜ Refining (table (now (weights .entry)) (now (present .entry)) (now (absent .entry)))
         (treeOf (now (tree .entry))) (now (place .entry)) kind (treeOf (now (tree .exit))) r ⌝ }
 {
     match leaf_at(present, absent, tree, place, kind) {

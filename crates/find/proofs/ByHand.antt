@@ -79,7 +79,8 @@ module _ (t : Table) (ns : List Refinement) (whole : series t ns ≡ true) where
 
     module _ (short : ltb 64 (length bs) ≡ false) where
       -- At the record of a place that the tree has, the number is the rules'.
-      at-record : (p : Place) → Held p (places ns) → recordNumber t (length (places ns)) k (getD xs (position p (places ns)) blank) ≡ ruled (leafWays p (rootWays t) (tree ns))
+      at-record : (p : Place) → Held p (places ns)
+          → recordNumber t (length (places ns)) k (getD xs (position p (places ns)) blank) ≡ ruled (leafWays p (rootWays t) (tree ns))
       unfolding recordNumber recordRefusals leafRefusals noLeaf ofLeaf leftCode
       at-record p held = by (kindAt p (tree ns)) refl
         where
@@ -112,7 +113,8 @@ module _ (t : Table) (ns : List Refinement) (whole : series t ns ≡ true) where
           none-there none e d = sym no-leaf
           none-there (some us) e d = absurd (Option·none-ne-some _ (sym d ∙ leaf-subtree p (root t) (tree ns) us e .1))
 
-          by : (o : Option Subtree) → subtree t p (tree ns) ≡ o → numberAt t (layout t ns) k (shown o (position p (places ns))) ≡ ruled (leafWays p (rootWays t) (tree ns))
+          by : (o : Option Subtree) → subtree t p (tree ns) ≡ o
+              → numberAt t (layout t ns) k (shown o (position p (places ns))) ≡ ruled (leafWays p (rootWays t) (tree ns))
           by none d = none-there (leafWays p (rootWays t) (tree ns)) refl d
           by (some y) d = at-record p (has-held ns p (subtree-has p (root t) (tree ns) y d))
 
@@ -143,14 +145,16 @@ module _ (t : Table) (ns : List Refinement) (whole : series t ns ≡ true) where
             let q = none-applies (leafRefusals t (tree ns) bs k (some us)) refl e in
             let open-there = not-false (isOpen (t .weights) us) (q .1 .0) in
             let room = not-false (roomy (tree ns)) (q .1 .1 .0) in
-            and-both (isOpen (t .weights) us) (roomy (tree ns) && possible k us) open-there (and-both (roomy (tree ns)) (possible k us) room (not-false (possible k us) (q .1 .1 .1 .0)))
+            and-both (isOpen (t .weights) us) (roomy (tree ns) && possible k us) open-there
+            (and-both (roomy (tree ns)) (possible k us) room (not-false (possible k us) (q .1 .1 .1 .0)))
 
     -- THE NUMBER of a hand refinement is the one that the records tell, for an accepted table.
     pub by-hand : Accepted t → leafNumber t (layout t ns) bs k ≡ handNumber t false (tree ns) bs k
     unfolding handNumber handRefusals tableNumber tableRefusals wayRefusals
     by-hand ok =
         number-is
-        ∙ sym (first-after (tableRefusals t) (refusal 16 false ∷ leafRefusals t (tree ns) bs k (leafNamed t (tree ns) bs)) (none-applies (tableRefusals t) refl ok)
+        ∙ sym (first-after (tableRefusals t) (refusal 16 false
+        ∷ leafRefusals t (tree ns) bs k (leafNamed t (tree ns) bs)) (none-applies (tableRefusals t) refl ok)
         ∙ first-later (refusal 16 false) (leafRefusals t (tree ns) bs k (leafNamed t (tree ns) bs)) refl)
 
     -- THE LEAF that the records lead to is the one that a hand refinement refines.
@@ -158,7 +162,8 @@ module _ (t : Table) (ns : List Refinement) (whole : series t ns ≡ true) where
     unfolding layout led subtree handMakes
     names j z e = by (placeOf bs) refl e
       where
-        there : (p : Place) → placeOf bs ≡ some p → (o : Option Subtree) → subtree t p (tree ns) ≡ o → shown o (position p (places ns)) ≡ some j → Names t ns bs k j
+        there : (p : Place) → placeOf bs ≡ some p → (o : Option Subtree) → subtree t p (tree ns) ≡ o → shown o (position p (places ns)) ≡ some j
+            → Names t ns bs k j
         there p d none g f = absurd (Option·none-ne-some _ f)
         there p d (some y) g f =
             record {

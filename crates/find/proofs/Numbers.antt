@@ -134,7 +134,8 @@ module _ (t : Table) (x : Tree) (bs : List ℕ) (k : Kind) where
     nowhere e = (number-there none (leads-to (found (x .nodes) bs) Nowhere e), λ z. omega (arith, z))
 
     -- The place leads to record j. The code read it as n, and that u records are in use, and so came to the number m.
-    module _ (j : ℕ) (e : At j ≡ reachedOf (found (x .nodes) bs)) {n : Node} (r : n ≡ recordIn (x .nodes) j) {u : ℕ} (v : u ≡ x .used) (m : ℕ) (f : m ≡ recordNumber t u k n) where
+    module _ (j : ℕ) (e : At j ≡ reachedOf (found (x .nodes) bs)) {n : Node} (r : n ≡ recordIn (x .nodes) j) {u : ℕ} (v : u ≡ x .used) (m : ℕ)
+        (f : m ≡ recordNumber t u k n) where
       leads : found (x .nodes) bs ≡ some j
       leads = leads-to (found (x .nodes) bs) (At j) e
 

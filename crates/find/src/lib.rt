@@ -1,5 +1,6 @@
 //! The leaf that a hand refinement names, found by the links of the records, and which of 17 to 20 refuses it.
-//! Rests on the records of `records`, lent as `store` has them and read by `node`, and on `formula`. specs/ has the numbers told from records, proofs/ that on a layout they are the rules'.
+//! Rests on the records of `records`, lent as `store` has them and read by `node`, and on `formula`.
+//! specs/ has the numbers told from records, proofs/ that on a layout they are the rules'.
 ghost use mathlib.Core.Path.{_≡_};
 ghost use Prim.Native.Nat.{_≤_};
 ghost use lib.ListN.{length};

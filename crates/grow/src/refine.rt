@@ -67,7 +67,8 @@ fn branch_of(
 /// Writes the records of a refinement of record j, the leaves into records `next` and `next` + 1, which are then in use.
 fn put_branch(tree: &mut Words, b: Branch, j: usize, next: usize)
     requires { ⌜ (j < treeRecords) × (next + 1 < treeRecords) ⌝ }
-    ensures { λ _. ⌜ treeOf (now (tree .exit)) ≡ record { nodes = three (treeOf (now (tree .entry)) .nodes) next j (b .node) (b .left) (b .right); used = next + 2 } ⌝ }
+    ensures { λ _. ⌜ treeOf (now (tree .exit))
+        ≡ record { nodes = three (treeOf (now (tree .entry)) .nodes) next j (b .node) (b .left) (b .right); used = next + 2 } ⌝ }
 {
     let node = b.node;
     let left = b.left;

@@ -47,4 +47,5 @@ module _ {M : Type 1} (𝓤 : URA M) (H : Heap 𝓤) (A : Atoms 𝓤) (mem : Mem
     pub said : (r : Spot) → ent 𝓤 (ensured 𝓤 H A widest.ended (widest.clauses 𝓤 H A mem run) (κ, tt) (x, tt) tt r) (fact 𝓤 (r ≡ widestOf (x .now)))
     said r =
         exE 𝓤 _ (λ ws.
-        via 𝓤 (sep 𝓤 (fact 𝓤 (r ≡ widestOf (x .now))) (fact 𝓤 (WidestLaw (x .now) r))) (snd∗ 𝓤 (sem 𝓤 H A (lasts widest.ended (κ, tt) (x, tt) ws)) _) (fst∗ 𝓤 _ (fact 𝓤 (WidestLaw (x .now) r))))
+        via 𝓤 (sep 𝓤 (fact 𝓤 (r ≡ widestOf (x .now))) (fact 𝓤 (WidestLaw (x .now) r))) (snd∗ 𝓤 (sem 𝓤 H A (lasts widest.ended (κ, tt) (x, tt) ws)) _)
+        (fst∗ 𝓤 _ (fact 𝓤 (WidestLaw (x .now) r))))

@@ -33,7 +33,8 @@ counts-sure x h =
 counts-all : (x : Node) → Counts x → counts x ≡ true
 unfolding counts
 counts-all x k =
-    and-both (eqb (x .kind) 1) _ (eq-eqb (x .kind) 1 (k .leaf)) (and-both (eqb (x .live) 1) _ (eq-eqb (x .live) 1 (k .live)) (lt-ltb (x .low) (x .high) (k .below)))
+    and-both (eqb (x .kind) 1) _ (eq-eqb (x .kind) 1 (k .leaf))
+    (and-both (eqb (x .live) 1) _ (eq-eqb (x .live) 1 (k .live)) (lt-ltb (x .low) (x .high) (k .below)))
 
 -- A record that counts goes by its width.
 width-of : (x : Node) → Counts x → countedWidth x ≡ recordWidth x

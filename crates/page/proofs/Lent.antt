@@ -13,7 +13,8 @@ use base.Logic.{ent, sep, ex}
 use base.Fml.{Lft, Fml, GName, fsep, fat, froom, fdead, flent}
 use prog.Wp.{Heap}
 use ghost.Atoms.{Atoms, sem}
-use types.Kit.{Given, ‵, _⊛_, some, later, await, _$_, _∵_, !, qed, move, drop as toss, use1, use2, rewrite, split, fsplit, fjoin, fpick, fpack, feqL, feqI, updating, now as at-once, done}
+use types.Kit.{Given, ‵, _⊛_, some, later, await, _$_, _∵_, !, qed, move, drop as toss, use1}
+use types.Kit.{use2, rewrite, split, fsplit, fjoin, fpick, fpack, feqL, feqI, updating, now as at-once, done}
 use types.SemTy.{cells}
 use types.Share.{arr-parts}
 use types.Tokens.{lent-back}
@@ -48,7 +49,8 @@ module _ (R : RattleType) (b : ℕ) (xs : List (R .Denot)) (c : ℕ) where
   abbrev pub unlent : Fml
   unlent = Elements (drop c xs) (at 0 (mem R .size) (length (take c xs)))
 
-module _ {M : Type 1} (𝓤 : URA M) (H : Heap 𝓤) (A : Atoms 𝓤) (W : Given 𝓤 H A) (R : RattleType) (n : ℕ) (ℓ : Lifetime) (κ : Lft) (b : ℕ) (xs : List (R .Denot)) (e : length xs ≡ n) (c : ℕ) where
+module _ {M : Type 1} (𝓤 : URA M) (H : Heap 𝓤) (A : Atoms 𝓤) (W : Given 𝓤 H A) (R : RattleType) (n : ℕ) (ℓ : Lifetime) (κ : Lft) (b : ℕ)
+    (xs : List (R .Denot)) (e : length xs ≡ n) (c : ℕ) where
   abbrev τ : Ty
   τ = tyArray (lone (R .mir)) n
 
@@ -65,14 +67,17 @@ module _ {M : Type 1} (𝓤 : URA M) (H : Heap 𝓤) (A : Atoms 𝓤) (W : Given
   apart =
       qed W (‵ whole ∷ []) ∵ fsplit ! $ toss ! $ rewrite ! 0 (λ (F : Fml). ‵ F) (parts-cells R fullShare xs b 0) refl $
       rewrite ! 0 (λ (ys : List (R .Denot)). ‵ (cells (Sh R fullShare) ys b 0)) (sym (take-append-drop c xs)) refl $
-      use1 W (‵ (cells (Sh R fullShare) (take c xs) b 0) ⊛ ‵ (cells (Sh R fullShare) (drop c xs) b (at 0 (mem R .size) (length (take c xs))))) (cut-app 𝓤 H A (Sh R fullShare) (take c xs) (drop c xs) b 0) $ split ! $
-      rewrite ! 0 (λ (F : Fml). ‵ F) (sym (parts-cells R fullShare (take c xs) b 0)) refl $ feqI ! ℕ (length (take c xs)) (length (take c xs)) refl $ fjoin ! $ move ! (1 ∷ []) $
+      use1 W (‵ (cells (Sh R fullShare) (take c xs) b 0) ⊛ ‵ (cells (Sh R fullShare) (drop c xs) b (at 0 (mem R .size) (length (take c xs)))))
+      (cut-app 𝓤 H A (Sh R fullShare) (take c xs) (drop c xs) b 0) $ split ! $
+      rewrite ! 0 (λ (F : Fml). ‵ F) (sym (parts-cells R fullShare (take c xs) b 0)) refl $ feqI ! ℕ (length (take c xs)) (length (take c xs)) refl $
+      fjoin ! $ move ! (1 ∷ []) $
       rewrite ! 0 (λ (F : Fml). ‵ F) (sym (parts-cells R fullShare (drop c xs) b (at 0 (mem R .size) (length (take c xs))))) refl $
       feqI ! ℕ (length (drop c xs)) (length (drop c xs)) refl $ fjoin ! $ move ! (1 ∷ 0 ∷ []) $ done !
 
   together : ent 𝓤 (sep 𝓤 (sem 𝓤 H A front) (sem 𝓤 H A rest)) (sem 𝓤 H A whole)
   together =
-      qed W (‵ front ∷ ‵ rest ∷ []) ∵ fsplit ! $ toss ! $ rewrite ! 0 (λ (F : Fml). ‵ F) (parts-cells R fullShare (take c xs) b 0) refl $ move ! (1 ∷ []) $ fsplit ! $ toss ! $
+      qed W (‵ front ∷ ‵ rest ∷ []) ∵ fsplit ! $ toss ! $ rewrite ! 0 (λ (F : Fml). ‵ F) (parts-cells R fullShare (take c xs) b 0) refl $ move ! (1 ∷ []) $
+      fsplit ! $ toss ! $
       rewrite ! 0 (λ (F : Fml). ‵ F) (parts-cells R fullShare (drop c xs) b (at 0 (mem R .size) (length (take c xs)))) refl $ move ! (1 ∷ 0 ∷ []) $
       use2 W (‵ (cells (Sh R fullShare) (take c xs ++ drop c xs) b 0)) (join-app 𝓤 H A (Sh R fullShare) (take c xs) (drop c xs) b 0) $
       rewrite ! 0 (λ (ys : List (R .Denot)). ‵ (cells (Sh R fullShare) ys b 0)) (take-append-drop c xs) refl $
@@ -84,18 +89,22 @@ module _ {M : Type 1} (𝓤 : URA M) (H : Heap 𝓤) (A : Atoms 𝓤) (W : Given
       (H .⇛ (sep 𝓤 (ex 𝓤 (λ (γ : GName). sep 𝓤 (sem 𝓤 H A (lent R b xs c ℓ κ γ)) (sem 𝓤 H A (kept R b xs c κ)))) (sem 𝓤 H A rest)))
   unfolding partOf
   lends g s v =
-      qed W (‵ (fat fullShare τ b 0 v) ∷ ‵ (Array R n .own xs (v ∷ [])) ∷ []) ∵ updating ! $ use1 W (‵ (fat fullShare (rawTy τ) b 0 v)) (W .laws .at-raw fullShare τ b 0 v) $ fjoin ! $
+      qed W (‵ (fat fullShare τ b 0 v) ∷ ‵ (Array R n .own xs (v ∷ [])) ∷ []) ∵ updating ! $
+      use1 W (‵ (fat fullShare (rawTy τ) b 0 v)) (W .laws .at-raw fullShare τ b 0 v) $ fjoin ! $
       fpack ! (List Val) (λ us. fsep (cellAt fullShare (Array R n .mir) us b 0) (Array R n .own xs us)) (v ∷ []) $
       use1 W (‵ (arr-parts (shares R) n .part fullShare xs b 0)) (array-apart 𝓤 H A W R fullShare s n xs b 0) $
       rewrite ! 0 (λ (m : ℕ). ‵ (arr-parts (shares R) m .part fullShare xs b 0)) (sym e) refl $ use1 W (‵ front ⊛ ‵ rest) apart $ split ! $
-      use1 W (later (some (λ (γ : GName). ‵ (lent R b xs c ℓ κ γ) ⊛ ‵ (kept R b xs c κ)))) (lends-shr-slice 𝓤 H A W R ℓ κ fullShare (take c xs) b 0 g) $ await ! tt $ at-once ! $ done !
+      use1 W (later (some (λ (γ : GName). ‵ (lent R b xs c ℓ κ γ) ⊛ ‵ (kept R b xs c κ)))) (lends-shr-slice 𝓤 H A W R ℓ κ fullShare (take c xs) b 0 g) $
+      await ! tt $ at-once ! $ done !
 
   -- Once the lifetime is over, the array's room comes back.
   pub back : ent 𝓤 (sep 𝓤 (A .dead κ) (sep 𝓤 (sem 𝓤 H A (kept R b xs c κ)) (sem 𝓤 H A rest))) (H .⇛ (H .room τ b 0))
   unfolding partOf
   back =
       qed W (‵ (fdead κ) ∷ ‵ (kept R b xs c κ) ∷ ‵ rest ∷ []) ∵ updating ! $ lent-back ! tt $ use2 W (‵ whole) together $
-      rewrite ! 0 (λ (m : ℕ). ‵ (arr-parts (shares R) m .part fullShare xs b 0)) e refl $ use1 W (‵ (partAt (Array R n) fullShare xs b 0)) (array-whole 𝓤 H A W R fullShare n xs b 0) $
+      rewrite ! 0 (λ (m : ℕ). ‵ (arr-parts (shares R) m .part fullShare xs b 0)) e refl $
+      use1 W (‵ (partAt (Array R n) fullShare xs b 0)) (array-whole 𝓤 H A W R fullShare n xs b 0) $
       fpick ! (λ vs. fsplit ! $ move ! (1 ∷ []) $ fpick ! (λ us. fsplit ! $ fsplit ! $ feqL ! (λ is. toss ! $ toss ! $
-      rewrite ! 0 (λ (ws : List Val). ‵ (cellAt fullShare (Array R n .mir) ws b 0)) is refl $ use1 W (‵ (fat fullShare τ b 0 (arrayVal us))) (W .laws .raw-at fullShare τ b 0 (arrayVal us)) $
+      rewrite ! 0 (λ (ws : List Val). ‵ (cellAt fullShare (Array R n .mir) ws b 0)) is refl $
+      use1 W (‵ (fat fullShare τ b 0 (arrayVal us))) (W .laws .raw-at fullShare τ b 0 (arrayVal us)) $
       use1 W (‵ (froom τ b 0)) (W .laws .at-room τ b 0 (arrayVal us)) $ at-once ! $ done !)))

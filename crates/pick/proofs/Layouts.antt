@@ -16,7 +16,8 @@ use Rattle.rules.proofs.Members.{In}
 use Rattle.rules.proofs.Series.{acceptable-leaf, series-back, only-done}
 use Rattle.records.specs.Records.{recordIn, children, places, position, above, leftCode, childRecord, recordsOf, layout}
 use Rattle.records.specs.declared.Node.{Node}
-use Rattle.records.proofs.Positions.{Held, position-inside, held-at, position-of, above-child, places-append, length-places, position-lt, child-held, has-held, places-once, right-next}
+use Rattle.records.proofs.Positions.{Held, position-inside, held-at, position-of, above-child, places-append}
+use Rattle.records.proofs.Positions.{length-places, position-lt, child-held, has-held, places-once, right-next}
 use Rattle.records.proofs.InPlace.{few-places, record-of, record-at, parent-of}
 use Rattle.records.proofs.Seen.{left-link}
 use Rattle.pick.specs.Picks.{Linked}
@@ -30,7 +31,8 @@ module _ (t : Table) (ns : List Refinement) (whole : series t ns ≡ true) where
       rw (above-child (n .place) b, ap places e ∙ places-append done (n ∷ todo))
       (position-inside (n .place) (places done) (children (n ∷ todo))
       (has-held done (n .place)
-      (leaf-has (n .place) (tree done) (acceptable-leaf t (tree done) n (and-left (acceptable t (tree done) n) _ (series-back t done (n ∷ todo) leaf (rw e at whole)))))))
+      (leaf-has (n .place) (tree done)
+      (acceptable-leaf t (tree done) n (and-left (acceptable t (tree done) n) _ (series-back t done (n ∷ todo) leaf (rw e at whole)))))))
 
   -- So the parent of every place but the root stands before it.
   parent-before : (done todo : List Refinement) → ns ≡ done ++ todo → (j : ℕ) → j < length (children todo)

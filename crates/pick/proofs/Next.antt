@@ -12,7 +12,8 @@ use borrow.Author.Tests.{eqb-true, eq-eqb, ne-eqb}
 use Rattle.rules.specs.Table.{Table, ways}
 use Rattle.rules.specs.declared.Way.{Way}
 use Rattle.rules.specs.Leaf.{leafWidth, isOpen}
-use Rattle.rules.specs.Tree.{rootWays, Side, left, right, Place, DTree, leaf, inner, child, nodes, Refinement, tree, kindAt, leafWays, childNode, descend, root, series}
+use Rattle.rules.specs.Tree.{rootWays, Side, left, right, Place, DTree, leaf, inner, child}
+use Rattle.rules.specs.Tree.{nodes, Refinement, tree, kindAt, leafWays, childNode, descend, root, series}
 use Rattle.rules.specs.Tree.{Node as Spot}
 use Rattle.rules.specs.Run as Run
 use Rattle.rules.specs.Run.{Candidate, from, widest, choice, next}
@@ -52,7 +53,11 @@ shown-wider ns p (some x) none = refl
 shown-wider ns p (some x) (some y) = by (ltb (x .width) (y .width))
   where
     by : (b : Bool)
-        → (elim b as (λ b. Found) [ true ↦ At (position (p ++ y .place) (places ns)) (y .width) | false ↦ At (position (p ++ x .place) (places ns)) (x .width) ])
+        → (elim b as (λ b. Found) [
+          | true ↦ At (position (p ++ y .place) (places ns)) (y .width)
+          | false ↦ At (position (p ++ x .place) (places ns))
+              (x .width)
+        ])
         ≡ shown ns p (elim b as (λ b. Option Candidate) [ true ↦ some y | false ↦ some x ])
     by true = refl
     by false = refl
@@ -84,7 +89,8 @@ module _ (t : Table) (ns : List Refinement) (whole : series t ns ≡ true) where
 
       on : (b : Bool) (w : ℕ) → w ≡ leafWidth (t .weights) (y .ways)
           → (elim b as (λ b. Found) [ true ↦ At (position p (places ns)) w | false ↦ Nothing ])
-          ≡ shown ns p (elim b as (λ b. Option Candidate) [ true ↦ some (record { width = leafWidth (t .weights) (y .ways); place = []; ways = y .ways }) | false ↦ none ])
+          ≡ shown ns p (elim b as (λ b. Option Candidate)
+          [ true ↦ some (record { width = leafWidth (t .weights) (y .ways); place = []; ways = y .ways }) | false ↦ none ])
       on true w q = ap₂ (λ (r : Place) (v : ℕ). At (position r (places ns)) v) (sym (append-nil p)) q
       on false w q = refl
 
@@ -92,7 +98,8 @@ module _ (t : Table) (ns : List Refinement) (whole : series t ns ≡ true) where
       by (refined dead none-there) = absurd (Option·none-ne-some _ (sym none-there ∙ there))
       by (unrefined us found live ways-are wide) =
           let q : us ≡ y .ways = Option·some-injective us (y .ways) (sym found ∙ there) in
-          rw (live ∙ ap (isOpen (t .weights)) q, ownFound) (on (isOpen (t .weights) (y .ways)) (recordWidth (recordAt t ns p)) (wide ∙ ap (leafWidth (t .weights)) q))
+          rw (live ∙ ap (isOpen (t .weights)) q, ownFound)
+          (on (isOpen (t .weights) (y .ways)) (recordWidth (recordAt t ns p)) (wide ∙ ap (leafWidth (t .weights)) q))
 
   -- The search below a place's record finds what the rules find below the place.
   found-below : (s : DTree) (f : ℕ) (p : Place) (y : Spot) → Stands p y s → nodes s ≤ f
@@ -145,7 +152,8 @@ Meant t ns Nothing = next t (tree ns) ≡ none
 
 module _ (t : Table) (ns : List Refinement) (whole : series t ns ≡ true) where
   -- The record of the rules' widest leaf.
-  leaf-picked : (x : Candidate) → widest (t .weights) (rootWays t) (tree ns) ≡ some x → Leftmost (t .weights) (rootWays t) (tree ns) x → Picked t ns (position (x .place) (places ns))
+  leaf-picked : (x : Candidate) → widest (t .weights) (rootWays t) (tree ns) ≡ some x → Leftmost (t .weights) (rootWays t) (tree ns) x
+      → Picked t ns (position (x .place) (places ns))
   unfolding next
   leaf-picked x e k = by (holds t ns whole (x .place) held)
     where

@@ -49,7 +49,8 @@ module _ {xs : List Node} {used : ℕ} (linked : Linked xs used) where
   order-deep (suc f) zero i h a b = absurd (omega arith)
   order-deep (suc f) (suc g) i h a b = by (order-deep f g) (ℕ-discrete (recordIn xs i .left) 0)
     where
-      by : ((j : ℕ) → j < used → used ≤ f + j → used ≤ g + j → order f xs j ≡ order g xs j) → Dec (recordIn xs i .left ≡ 0) → order (suc f) xs i ≡ order (suc g) xs i
+      by : ((j : ℕ) → j < used → used ≤ f + j → used ≤ g + j → order f xs j ≡ order g xs j) → Dec (recordIn xs i .left ≡ 0)
+          → order (suc f) xs i ≡ order (suc g) xs i
       by ih (yes z) = rw (eq-eqb (recordIn xs i .left) 0 z)
       by ih (no q) =
           let n = linked .inside i h q in

@@ -37,7 +37,8 @@ entered-append xs b [] js = refl
 entered-append xs b (i ∷ is) js = entered-append xs (wider b (added xs i)) is js
 
 -- A leaf adds what it is.
-entered-leaf : (xs : List Node) (b : Found) (i : ℕ) (is : List ℕ) → recordIn xs i .left ≡ 0 → entered xs b (i ∷ is) ≡ entered xs (wider b (ownFound i (recordIn xs i))) is
+entered-leaf : (xs : List Node) (b : Found) (i : ℕ) (is : List ℕ) → recordIn xs i .left ≡ 0
+    → entered xs b (i ∷ is) ≡ entered xs (wider b (ownFound i (recordIn xs i))) is
 unfolding entered added
 entered-leaf xs b i is z = rw (eq-eqb (recordIn xs i .left) 0 z, added)
 
@@ -82,7 +83,8 @@ module _ {xs : List Node} {used : ℕ} (linked : Linked xs used) (i : ℕ) (insi
   unfolding ahead
   ahead-inner q =
       ap (λ (r : List ℕ). r ++ after used used xs i) (order-inner linked i inside q)
-      ∙ ap (λ (r : List ℕ). i ∷ r) (append-assoc (order used xs l) (order used xs (suc l)) (after used used xs i) ∙ ap (λ (r : List ℕ). order used xs l ++ r) (sym then))
+      ∙ ap (λ (r : List ℕ). i ∷ r) (append-assoc (order used xs l) (order used xs (suc l)) (after used used xs i)
+      ∙ ap (λ (r : List ℕ). order used xs l ++ r) (sym then))
     where
       l : ℕ
       l = recordIn xs i .left
@@ -185,7 +187,9 @@ module _ {xs : List Node} {used i : ℕ} {best : Found} where
       (record {
         inside = omega arith;
         linked = w .linked;
-        rest = sym (ap (entered xs best) (ahead-inner (w .linked) i (w .inside) q) ∙ entered-inner xs best i (ahead xs used true (recordIn xs i .left)) q) ∙ w .rest;
+        rest =
+            sym (ap (entered xs best) (ahead-inner (w .linked) i (w .inside) q) ∙ entered-inner xs best i (ahead xs used true (recordIn xs i .left)) q)
+            ∙ w .rest;
       })
 
   -- Fewer turns are left then.

@@ -31,7 +31,8 @@ came i down best = record { at = i; down = down; over = false; best = best }
 
 -- On the way down at record n: a leaf is entered and the search comes back up, an inner record leads to its left child.
 unfoldable pub goneDown : View → Node → View
-goneDown s n = elim (eqb (n .left) 0) as (λ b. View) [ true ↦ came (s .at) false (wider (s .best) (ownFound (s .at) n)) | false ↦ came (n .left) true (s .best) ]
+goneDown s n =
+    elim (eqb (n .left) 0) as (λ b. View) [ true ↦ came (s .at) false (wider (s .best) (ownFound (s .at) n)) | false ↦ came (n .left) true (s .best) ]
 
 -- Coming back up from a child n of p: after the left child the right one is next, after the right one the search goes on up.
 unfoldable pub goneUp : View → Node → Node → View

@@ -1,5 +1,6 @@
 //! Which leaf a run refines next: the widest open one, the leftmost if several are as wide, found by the links of the records.
-//! Rests on the records of `records`, read by `node`, and on `store`. specs/ has the search as a definition, proofs/ that on a layout it finds the rules' next leaf.
+//! Rests on the records of `records`, read by `node`, and on `store`.
+//! specs/ has the search as a definition, proofs/ that on a layout it finds the rules' next leaf.
 ghost use mathlib.Core.Path.{_≡_};
 ghost use mathlib.Core.Bool.{false};
 ghost use Prim.Native.Nat.{_+_, _<_};

@@ -11,7 +11,8 @@ use native.Mathlib.Decide.{ℕ-discrete}
 use lib.ListN.{length, getD, set, length-append, length-set}
 use lib.Seq.{getD-set-same, getD-set-other, getD-append-seam}
 use Rattle.rules.specs.Table.{Table}
-use Rattle.rules.specs.Tree.{Side, left, right, Place, DTree, leaf, refineAt, Refinement, grow, tree, hasAt, leafAt, onPath, kindAt, Subtree, childNode, root, subtree, acceptable, seriesFrom, series}
+use Rattle.rules.specs.Tree.{Side, left, right, Place, DTree, leaf, refineAt, Refinement, grow, tree, hasAt}
+use Rattle.rules.specs.Tree.{leafAt, onPath, kindAt, Subtree, childNode, root, subtree, acceptable, seriesFrom, series}
 use Rattle.rules.specs.Tree.{Node as Spot}
 use Rattle.rules.specs.Refusals.{Accepted}
 use Rattle.rules.specs.declared.Kind.{Kind}
@@ -19,10 +20,12 @@ use Rattle.rules.proofs.Booleans.{and-both}
 use Rattle.rules.proofs.Places.{leaf-has, has-child, has-subtree, subtree-new, off-path, nodeOnly, node-stays, refined-kind, done-elsewhere, new-undone}
 use Rattle.rules.proofs.Series.{acceptable-leaf, grow-append, series-append, only-done}
 use Rattle.rules.proofs.Levels.{refined-above}
-use Rattle.records.specs.Records.{treeRecords, blank, children, places, position, above, liveCode, leftCode, recordFrom, subtreeOr, recordAt, recordsOf, recordWays}
+use Rattle.records.specs.Records.{treeRecords, blank, children, places, position, above, liveCode}
+use Rattle.records.specs.Records.{leftCode, recordFrom, subtreeOr, recordAt, recordsOf, recordWays}
 use Rattle.records.specs.Growing.{raise, refinedRecord, freshRecord, spotOf, refinedAt, grownAt}
 use Rattle.records.specs.declared.Node.{Node}
-use Rattle.records.proofs.Positions.{Held, above-child, position-append, position-of, places-append, position-lt, has-held, held-has, places-once, right-next, has-above, path-self, one-place}
+use Rattle.records.proofs.Positions.{Held, above-child, position-append, position-of, places-append, position-lt, has-held}
+use Rattle.records.proofs.Positions.{held-has, places-once, right-next, has-above, path-self, one-place}
 use Rattle.records.proofs.InPlace.{few-places, records-long, record-at, record-rest}
 use Rattle.records.proofs.Words.{record-ways}
 use Rattle.records.proofs.Raised.{bare, Close, raised}
@@ -57,7 +60,8 @@ alone none = subtreeOr none
 alone (some x) = record { node = x; below = leaf }
 
 -- What hangs below a place shows in its record's interval alone.
-bare-alone : (t : Table) (o : Option Kind) (x : Option Subtree) (u l : ℕ) → bare (recordFrom t o (subtreeOr x) u l) ≡ bare (recordFrom t o (alone (nodeOnly x)) u l)
+bare-alone : (t : Table) (o : Option Kind) (x : Option Subtree) (u l : ℕ)
+    → bare (recordFrom t o (subtreeOr x) u l) ≡ bare (recordFrom t o (alone (nodeOnly x)) u l)
 unfolding subtreeOr
 bare-alone t o none u l = refl
 bare-alone t o (some x) u l = refl
@@ -136,7 +140,8 @@ module _ (t : Table) (ns : List Refinement) (whole : series t ns ≡ true) (n : 
   unfolding recordAt subtree
   kept r h off other =
       let d = kind-old r other in
-      let x : subtree t r (tree ms) ≡ subtree t r (tree ns) = ap (subtree t r) tree′ ∙ off-path r p (n .kind) (root t) (tree ns) off (held-has t ns whole r h) a-leaf in
+      let x : subtree t r (tree ms) ≡ subtree t r (tree ns) =
+      ap (subtree t r) tree′ ∙ off-path r p (n .kind) (root t) (tree ns) off (held-has t ns whole r h) a-leaf in
       let u = parent-old r h in
       let l = left-old r other in
       λ i. recordFrom t (d i) (subtreeOr (x i)) (u i) (l i)
@@ -149,7 +154,8 @@ module _ (t : Table) (ns : List Refinement) (whole : series t ns ≡ true) (n : 
       let x = node-old r h in
       let u = parent-old r h in
       let l = left-old r other in
-      bare-alone t _ (subtree t r (tree ms)) _ _ ∙ (λ i. bare (recordFrom t (d i) (alone (x i)) (u i) (l i))) ∙ sym (bare-alone t _ (subtree t r (tree ns)) _ _)
+      bare-alone t _ (subtree t r (tree ms)) _ _ ∙ (λ i. bare (recordFrom t (d i) (alone (x i)) (u i) (l i)))
+      ∙ sym (bare-alone t _ (subtree t r (tree ns)) _ _)
 
   -- The two new places.
   left-new : position (p ++ (left ∷ [])) (places ms) ≡ used
@@ -175,7 +181,8 @@ module _ (t : Table) (ns : List Refinement) (whole : series t ns ≡ true) (n : 
   fresh-is : (b : Side) → freshRecord t (childNode (n .kind) b (spotOf t (recordAt t ns p))) at-p ≡ recordAt t ms (p ++ (b ∷ []))
   unfolding recordAt subtree subtreeOr leftCode
   fresh-is b =
-      (λ i. freshRecord t (childNode (n .kind) b (record { set = []; present = told i .node .present; absent = told i .node .absent; ways = ways-told i })) at-p)
+      (λ i. freshRecord t (childNode (n .kind) b (record { set = []; present = told i .node .present; absent = told i .node .absent; ways = ways-told i }))
+      at-p)
       ∙ sym (λ i. recordFrom t (undone i) (subtreeOr (stands i)) (up-link i) (down-link i))
     where
       q : Place

@@ -12,7 +12,8 @@ use Rattle.rules.proofs.Booleans.{and-left}
 use Rattle.rules.proofs.Places.{leaf-has}
 use Rattle.rules.proofs.Members.{In}
 use Rattle.rules.proofs.Series.{acceptable-leaf, series-back, all-done}
-use Rattle.records.specs.Records.{treeRecords, blank, children, places, position, above, recordAt, recordsOf, layout, kindOf, historyFrom, treeCount, history}
+use Rattle.records.specs.Records.{treeRecords, blank, children, places, position, above, recordAt}
+use Rattle.records.specs.Records.{recordsOf, layout, kindOf, historyFrom, treeCount, history}
 use Rattle.records.specs.declared.Node.{Node}
 use Rattle.records.proofs.Positions.{Held, position-finds, above-child, places-append, length-places, has-held}
 use Rattle.records.proofs.InPlace.{record-at, kind-at}

@@ -42,7 +42,8 @@ get-map f (x ∷ l) (suc i) a b h = get-map f l i a b (omega arith)
 pub record-of : (t : Table) (ns : List Refinement) (i : ℕ) → i < length (places ns) → getD (recordsOf t ns) i blank ≡ recordAt t ns (getD (places ns) i [])
 unfolding recordsOf
 record-of t ns i l =
-    List·getD-append (map (recordAt t ns) (places ns)) (replicate (treeRecords - length (places ns)) blank) blank i (rw (length-map (places ns) (recordAt t ns)) l)
+    List·getD-append (map (recordAt t ns) (places ns)) (replicate (treeRecords - length (places ns)) blank) blank i
+    (rw (length-map (places ns) (recordAt t ns)) l)
     ∙ get-map (recordAt t ns) (places ns) i [] blank l
 
 -- So the record at a place's position is that place's.

@@ -18,7 +18,8 @@ use Rattle.rules.specs.declared.Kind.{Kind}
 use Rattle.rules.proofs.HandedDown.{handed-lean}
 use Rattle.rules.proofs.Sets.{select-none}
 use Rattle.rules.proofs.Places.{has-subtree, undone-leaf, done-no-leaf}
-use Rattle.records.specs.Records.{blank, places, lowWord, highWord, inWords, liveCode, recordWays, recordIn, subtreeOr, recordAt, recordsOf, layout, Good}
+use Rattle.records.specs.Records.{blank, places, lowWord, highWord, inWords, liveCode, recordWays}
+use Rattle.records.specs.Records.{recordIn, subtreeOr, recordAt, recordsOf, layout, Good}
 use Rattle.records.specs.Growing.{recordWidth}
 use Rattle.records.specs.declared.Tree.{Tree}
 use Rattle.records.proofs.Positions.{Held, held-at, held-has}
@@ -42,13 +43,16 @@ holds t ns h p i = by (has-subtree p (root t) (tree ns) (held-has t ns h p i)) (
 
     by : (x : Subtree) × (descend p (root t) (tree ns) ≡ some x) → (o : Option Kind) → kindAt p (tree ns) ≡ o → Holds t ns p
     by x (some k) d =
-        refined (ap (λ (o : Option Kind). liveCode (t .weights) o (subtreeOr (subtree t p (tree ns)) .node .ways)) d) (done-no-leaf p (rootWays t) k (tree ns) d)
+        refined (ap (λ (o : Option Kind). liveCode (t .weights) o (subtreeOr (subtree t p (tree ns)) .node .ways)) d)
+        (done-no-leaf p (rootWays t) k (tree ns) d)
     by x none d =
         let l = undone-leaf p (root t) (tree ns) (x .0) (x .1) d in
         unrefined (x .0 .node .ways) (l .0)
-        (ap₂ (λ (o : Option Kind) (y : Option Subtree). eqb (liveCode (t .weights) o (subtreeOr y .node .ways)) 1) d (x .1) ∙ open-code (isOpen (t .weights) (x .0 .node .ways)))
+        (ap₂ (λ (o : Option Kind) (y : Option Subtree). eqb (liveCode (t .weights) o (subtreeOr y .node .ways)) 1) d (x .1)
+        ∙ open-code (isOpen (t .weights) (x .0 .node .ways)))
         (record-ways t ns h p (x .0) (x .1))
-        (ap (λ (y : Option Subtree). end up (t .weights) (subtreeOr y .node .ways) (subtreeOr y .below) - end down (t .weights) (subtreeOr y .node .ways) (subtreeOr y .below)) (x .1)
+        (ap (λ (y : Option Subtree). end up (t .weights) (subtreeOr y .node .ways) (subtreeOr y .below) - end down (t .weights) (subtreeOr y .node .ways)
+        (subtreeOr y .below)) (x .1)
         ∙ ap (λ (s : DTree). end up (t .weights) (x .0 .node .ways) s - end down (t .weights) (x .0 .node .ways) s) (l .1))
 
 -- ---- the ways of a record are lean

@@ -9,7 +9,8 @@ use Prim.Native.Nat.{ℕ, zero, suc, _+_, _*_, _<_}
 use native.Mathlib.Omega.{arith}
 use lib.ListN.{length, getD, length-append}
 use Rattle.rules.specs.Table.{Table}
-use Rattle.rules.specs.Tree.{Side, left, right, Place, DTree, leaf, inner, refineAt, Refinement, refine, grow, tree, hasAt, kindAt, onPath, acceptable, seriesFrom, series}
+use Rattle.rules.specs.Tree.{Side, left, right, Place, DTree, leaf, inner, refineAt, Refinement}
+use Rattle.rules.specs.Tree.{refine, grow, tree, hasAt, kindAt, onPath, acceptable, seriesFrom, series}
 use Rattle.rules.specs.declared.Kind.{Kind}
 use Rattle.rules.proofs.Booleans.{and-left, and-right, is-false, same-test}
 use Rattle.rules.proofs.Places.{leaf-undone, refined-kind, has-child, has-no-child, has-stays, has-only}
@@ -293,7 +294,8 @@ other-child q p = is-false _ (λ h. sides-differ q p (same-equal (q ++ (left ∷
 other-child′ : (q p : Place) → samePlace (q ++ (right ∷ [])) (p ++ (left ∷ [])) ≡ false
 other-child′ q p = is-false _ (λ h. sides-differ p q (sym (same-equal (q ++ (right ∷ [])) (p ++ (left ∷ [])) h)))
 
-next-of : (q : Place) (k : Kind) (ns : List Refinement) → In (record { place = q; kind = k }) ns → position (q ++ (right ∷ [])) (children ns) ≡ suc (position (q ++ (left ∷ [])) (children ns))
+next-of : (q : Place) (k : Kind) (ns : List Refinement) → In (record { place = q; kind = k }) ns
+    → position (q ++ (right ∷ [])) (children ns) ≡ suc (position (q ++ (left ∷ [])) (children ns))
 unfolding position children
 next-of q k (n ∷ ns) i = by (samePlace q (n .place)) refl i (next-of q k ns)
   where
@@ -303,10 +305,12 @@ next-of q k (n ∷ ns) i = by (samePlace q (n .place)) refl i (next-of q k ns)
     by true e i ih = rw (same-child q (n .place) left ∙ e, other-child′ q (n .place), same-child q (n .place) right ∙ e, position)
     by false e (List·Memᴰ·head h) ih = absurd (true≢false (sym (same-self q) ∙ ap (λ (m : Refinement). samePlace q (m .place)) h ∙ e))
     by false e (List·Memᴰ·tail h) ih =
-        rw (same-child q (n .place) left ∙ e, other-child q (n .place), other-child′ q (n .place), same-child q (n .place) right ∙ e, position) (ap (λ (m : ℕ). suc (suc m)) (ih h))
+        rw (same-child q (n .place) left ∙ e, other-child q (n .place), other-child′ q (n .place), same-child q (n .place) right ∙ e, position)
+        (ap (λ (m : ℕ). suc (suc m)) (ih h))
 
 -- Among all places the right child follows the left.
-pub right-next : (q : Place) (k : Kind) (ns : List Refinement) → In (record { place = q; kind = k }) ns → position (q ++ (right ∷ [])) (places ns) ≡ suc (position (q ++ (left ∷ [])) (places ns))
+pub right-next : (q : Place) (k : Kind) (ns : List Refinement) → In (record { place = q; kind = k }) ns
+    → position (q ++ (right ∷ [])) (places ns) ≡ suc (position (q ++ (left ∷ [])) (places ns))
 right-next q k ns i = position-child q right ns ∙ ap suc (next-of q k ns i) ∙ ap suc (sym (position-child q left ns))
 
 -- ---- the place above

@@ -16,7 +16,8 @@ use Rattle.rules.specs.Rounding.{Dir, down, up}
 use Rattle.rules.specs.Table.{Table}
 use Rattle.rules.specs.declared.Way.{Way}
 use Rattle.rules.specs.Leaf.{leafEnd}
-use Rattle.rules.specs.Tree.{Side, left, right, Place, DTree, leaf, inner, child, combine, overlap, end, Refinement, tree, onPath, kindAt, Subtree, childNode, descend, root, subtree, series}
+use Rattle.rules.specs.Tree.{Side, left, right, Place, DTree, leaf, inner, child, combine, overlap, end}
+use Rattle.rules.specs.Tree.{Refinement, tree, onPath, kindAt, Subtree, childNode, descend, root, subtree, series}
 use Rattle.rules.specs.declared.Kind.{Kind}
 use Rattle.rules.proofs.Booleans.{is-false}
 use Rattle.rules.proofs.Places.{done-has, has-child, has-subtree, subtree-kind, subtree-child, branch}
@@ -24,7 +25,8 @@ use Rattle.rules.proofs.Series.{only-done}
 use Rattle.records.specs.Records.{treeRecords, blank, places, samePlace, position, above, leftCode, subtreeOr, recordAt, recordsOf, kindOf}
 use Rattle.records.specs.Growing.{withEnds, joined, joinAt, raise}
 use Rattle.records.specs.declared.Node.{Node}
-use Rattle.records.proofs.Positions.{Held, held-at, position-of, position-lt, has-held, places-once, right-next, above-length, done-above, path-child, path-above, one-place}
+use Rattle.records.proofs.Positions.{Held, held-at, position-of, position-lt, has-held, places-once}
+use Rattle.records.proofs.Positions.{right-next, above-length, done-above, path-child, path-above, one-place}
 use Rattle.records.proofs.InPlace.{few-places, records-long, record-of, record-rest, kind-at, parent-of}
 
 -- ---- local agreement
@@ -35,7 +37,8 @@ end-inner : (d : Dir) (ws : List ℕ) (vs : List Way) (s : DTree) (k : Kind) →
 unfolding kindAt end
 end-inner d ws vs leaf k e = absurd (Option·none-ne-some _ e)
 end-inner d ws vs (inner j l r) k e =
-    ap (λ (i : Kind). overlap d (leafEnd d ws vs) (combine i d ws (end d ws (child i left vs) l) (end d ws (child i right vs) r))) (Option·some-injective j k e)
+    ap (λ (i : Kind). overlap d (leafEnd d ws vs) (combine i d ws (end d ws (child i left vs) l) (end d ws (child i right vs) r)))
+    (Option·some-injective j k e)
 
 -- LOCAL AGREEMENT: joining an inner record with its children's records changes nothing.
 pub agrees : (t : Table) (ns : List Refinement) (q : Place) (k : Kind) → kindAt q (tree ns) ≡ some k
@@ -63,7 +66,8 @@ agrees t ns q k d = λ i. withEnds (recordAt t ns q) (ends down i) (ends up i)
         (combine (kindOf (recordAt t ns q)) d (t .weights) (endAt d (there (q ++ (left ∷ [])))) (endAt d (there (q ++ (right ∷ [])))))
         ≡ endAt d (there q)
     ends e =
-        (λ i. overlap e (leafEnd e (t .weights) (self i .node .ways)) (combine (kind-at t ns q k d i) e (t .weights) (endAt e (side left i)) (endAt e (side right i))))
+        (λ i. overlap e (leafEnd e (t .weights) (self i .node .ways))
+        (combine (kind-at t ns q k d i) e (t .weights) (endAt e (side left i)) (endAt e (side right i))))
         ∙ sym (end-inner e (t .weights) (found .0 .node .ways) (found .0 .below) k (sym (subtree-kind q (root t) (tree ns) (found .0) (found .1)) ∙ d))
         ∙ ap (endAt e) (sym self)
 
@@ -107,7 +111,8 @@ module _ (t : Table) (ns : List Refinement) (whole : series t ns ≡ true) where
     held = has-held ns q (done-has q k (tree ns) d)
 
     -- What is joined is the right record.
-    join-is : joined (t .weights) (getD xs at-q blank) (getD xs (getD xs at-q blank .left) blank) (getD xs (suc (getD xs at-q blank .left)) blank) ≡ recordAt t ns q
+    join-is : joined (t .weights) (getD xs at-q blank) (getD xs (getD xs at-q blank .left) blank) (getD xs (suc (getD xs at-q blank .left)) blank)
+        ≡ recordAt t ns q
     unfolding recordAt leftCode
     join-is =
         ap₂ (joined (t .weights) x) (ap (λ (i : ℕ). getD xs i blank) left-is ∙ child-is left) (ap (λ (i : ℕ). getD xs i blank) right-is ∙ child-is right)
@@ -144,11 +149,13 @@ module _ (t : Table) (ns : List Refinement) (whole : series t ns ≡ true) where
 
     -- Another place's record is as it was.
     join-cases : (r : Place) → Held r (places ns)
-        → (getD after (position r (places ns)) blank ≡ recordAt t ns r) ⊎ ((r ≡ q → ⊥) × (getD after (position r (places ns)) blank ≡ getD xs (position r (places ns)) blank))
+        → (getD after (position r (places ns)) blank ≡ recordAt t ns r) ⊎
+        ((r ≡ q → ⊥) × (getD after (position r (places ns)) blank ≡ getD xs (position r (places ns)) blank))
     join-cases r h = by (ℕ-discrete (position r (places ns)) at-q)
       where
         by : Dec (position r (places ns) ≡ at-q)
-            → (getD after (position r (places ns)) blank ≡ recordAt t ns r) ⊎ ((r ≡ q → ⊥) × (getD after (position r (places ns)) blank ≡ getD xs (position r (places ns)) blank))
+            → (getD after (position r (places ns)) blank ≡ recordAt t ns r) ⊎
+            ((r ≡ q → ⊥) × (getD after (position r (places ns)) blank ≡ getD xs (position r (places ns)) blank))
         by (yes e) = inl (ap (λ (i : ℕ). getD after i blank) e ∙ join-here ∙ ap (recordAt t ns) (sym (one-place ns r q h held e)))
         by (no other) = inr (λ e. other (ap (λ (p : Place). position p (places ns)) e), join-else (position r (places ns)) other)
 
@@ -179,7 +186,8 @@ module _ (t : Table) (ns : List Refinement) (whole : series t ns ≡ true) where
   root-done : (xs : List Node) (k : Kind) → Close [] xs → kindAt [] (tree ns) ≡ some k → joinAt (t .weights) xs (position [] (places ns)) ≡ recordsOf t ns
   unfolding onPath
   root-done xs k c d =
-      ext-getD blank (joinAt (t .weights) xs (position [] (places ns))) (recordsOf t ns) (join-long [] xs k c d ∙ sym (records-long t ns whole)) (λ i l. by i (decLt i (length (places ns))))
+      ext-getD blank (joinAt (t .weights) xs (position [] (places ns))) (recordsOf t ns) (join-long [] xs k c d ∙ sym (records-long t ns whole))
+      (λ i l. by i (decLt i (length (places ns))))
     where
       off : (r : Place) → (r ≡ [] → ⊥) → onPath r [] ≡ false
       off [] other = absurd (other refl)

@@ -18,11 +18,13 @@ use Rattle.rules.proofs.Booleans.{and-left, and-right, and-both, same-test}
 use Rattle.rules.proofs.Places.{leaf-has}
 use Rattle.rules.proofs.Members.{In}
 use Rattle.rules.proofs.Series.{acceptable-leaf, series-append, series-front, series-back, series-inners, all-done}
-use Rattle.records.specs.Records.{treeRecords, blank, children, places, position, recordWays, recordAt, recordsOf, layout, kindOf, treeCount, isGood, Good}
+use Rattle.records.specs.Records.{treeRecords, blank, children, places, position, recordWays, recordAt}
+use Rattle.records.specs.Records.{recordsOf, layout, kindOf, treeCount, isGood, Good}
 use Rattle.records.specs.Growing.{grownAt, mayAt, rebuild, sameAs, isGoodRebuilt}
 use Rattle.records.specs.declared.Node.{Node}
 use Rattle.records.specs.declared.Tree.{Tree}
-use Rattle.records.proofs.Positions.{Held, above-child, held-at, position-append, position-of, places-append, length-places, position-lt, has-held, places-once}
+use Rattle.records.proofs.Positions.{Held, above-child, held-at, position-append, position-of}
+use Rattle.records.proofs.Positions.{places-append, length-places, position-lt, has-held, places-once}
 use Rattle.records.proofs.InPlace.{record-of, record-at, kind-at, parent-of}
 use Rattle.records.proofs.Grown.{grows}
 use Rattle.records.proofs.Live.{Holds, refined, unrefined, holds}
@@ -44,7 +46,8 @@ may-is t ns h p k i =
     ap (λ (x : Node). eqb (x .live) 1 && (ltb (length (places ns)) treeRecords && possible k (recordWays t x))) (record-at t ns p i) ∙ by (holds t ns h p i)
   where
     by : Holds t ns p
-        → eqb (recordAt t ns p .live) 1 && (ltb (length (places ns)) treeRecords && possible k (recordWays t (recordAt t ns p))) ≡ acceptable t (tree ns) (record { place = p; kind = k })
+        → eqb (recordAt t ns p .live) 1 && (ltb (length (places ns)) treeRecords && possible k (recordWays t (recordAt t ns p)))
+        ≡ acceptable t (tree ns) (record { place = p; kind = k })
     by (refined dead none-there) = rw (dead, none-there, acceptable)
     by (unrefined us there live ways-are wide) = rw (live, ways-are, room-is t ns h, there, acceptable)
 
@@ -88,7 +91,9 @@ module _ (t : Table) (ok : Accepted t) where
       all = ap places e ∙ places-append before (n ∷ todo)
 
       first : getD (places ns) used [] ≡ n .place ++ (left ∷ [])
-      first = ap (λ (ps : List Place). getD ps used []) all ∙ getD-append-seam (places before) (n .place ++ (left ∷ [])) ((n .place ++ (right ∷ [])) ∷ children todo) []
+      first =
+          ap (λ (ps : List Place). getD ps used []) all
+          ∙ getD-append-seam (places before) (n .place ++ (left ∷ [])) ((n .place ++ (right ∷ [])) ∷ children todo) []
 
       inside : used < length (places ns)
       inside = omega (arith, length-places ns, length-places before, ap length e, length-append before (n ∷ todo))
@@ -204,7 +209,8 @@ module _ (t : Table) (ok : Accepted t) where
       longer b = record { made = b .made; accepted = b .accepted; is = b .is; many = omega (arith, b .many, length-append before (n ∷ [])) }
 
       by : (b : Bool) → ltb j used && mayAt t (recordsOf t before) used j k ≡ b
-          → (elim b as (λ b. Option (List Node)) [ true ↦ rebuild t m all (grownAt t (recordsOf t before) used j k) (suc (suc used)) | false ↦ none ]) ≡ some xs
+          → (elim b as (λ b. Option (List Node)) [ true ↦ rebuild t m all (grownAt t (recordsOf t before) used j k) (suc (suc used)) | false ↦ none ])
+          ≡ some xs
           → (acceptable t (tree before) n ≡ true → rebuild t m all (recordsOf t (before ++ (n ∷ []))) (length (places (before ++ (n ∷ [])))) ≡ some xs
           → Built xs (length (before ++ (n ∷ [])) + m)) → Built xs (length before + suc m)
       by false q e ih = absurd (Option·none-ne-some _ e)
@@ -240,7 +246,8 @@ module _ (t : Table) (ok : Accepted t) where
       of-layout ns h =
           let l = length-places ns in
           let e : (length (places ns) - 1) / 2 ≡ length ns = omega (arith, l) in
-          and-both (eqb (length (places ns)) (2 * ((length (places ns) - 1) / 2) + 1)) _ (eq-eqb (length (places ns)) (2 * ((length (places ns) - 1) / 2) + 1) (omega (arith, l)))
+          and-both (eqb (length (places ns)) (2 * ((length (places ns) - 1) / 2) + 1)) _
+          (eq-eqb (length (places ns)) (2 * ((length (places ns) - 1) / 2) + 1) (omega (arith, l)))
           (ap (λ (m : ℕ). sameAs (recordsOf t ns) (rebuild t m (recordsOf t ns) (recordsOf t []) 1)) e
           ∙ ap (sameAs (recordsOf t ns)) (again ns h [] ns refl) ∙ nodes-self (recordsOf t ns))
 

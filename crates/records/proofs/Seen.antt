@@ -8,13 +8,15 @@ use Prim.Native.Nat.{ℕ, suc}
 use lib.ListN.{getD}
 use lib.Dec.{eqb, eqb·suc-zero}
 use Rattle.rules.specs.Table.{Table}
-use Rattle.rules.specs.Tree.{Side, left, right, Place, inners, Refinement, tree, kindAt, Subtree, descend, subtree, root, Interval, interval, intervalAt, series}
+use Rattle.rules.specs.Tree.{Side, left, right, Place, inners, Refinement, tree, kindAt}
+use Rattle.rules.specs.Tree.{Subtree, descend, subtree, root, Interval, interval, intervalAt, series}
 use Rattle.rules.specs.declared.Kind.{Kind}
 use Rattle.rules.specs.declared.Kind.the-variants.{IndependentOr, Shannon}
 use Rattle.rules.proofs.Places.{subtree-has, subtree-child, nothing-stands, nothing-below}
 use Rattle.rules.proofs.Members.{In}
 use Rattle.rules.proofs.Series.{only-done, series-inners}
-use Rattle.records.specs.Records.{blank, children, places, samePlace, position, kindCode, faultCode, leftCode, subtreeOr, recordAt, recordsOf, layout, kindOf, treeCount, childRecord, walk, fetch, seen, didThere, kindSeen, intervalSeen, treeKind, treeInterval}
+use Rattle.records.specs.Records.{blank, children, places, samePlace, position, kindCode, faultCode, leftCode, subtreeOr, recordAt, recordsOf, layout}
+use Rattle.records.specs.Records.{kindOf, treeCount, childRecord, walk, fetch, seen, didThere, kindSeen, intervalSeen, treeKind, treeInterval}
 use Rattle.records.specs.declared.Node.{Node}
 use Rattle.records.proofs.Positions.{Held, has-held, position-child, right-next}
 use Rattle.records.proofs.InPlace.{record-at}
@@ -46,7 +48,8 @@ shown (some y) x = some x
 
 module _ (t : Table) (ns : List Refinement) where
   -- The left link of a place's record.
-  pub left-link : (q : Place) (o : Option Kind) → kindAt q (tree ns) ≡ o → Held q (places ns) → getD (recordsOf t ns) (position q (places ns)) blank .left ≡ leftCode o q (places ns)
+  pub left-link : (q : Place) (o : Option Kind) → kindAt q (tree ns) ≡ o → Held q (places ns)
+      → getD (recordsOf t ns) (position q (places ns)) blank .left ≡ leftCode o q (places ns)
   unfolding recordAt
   left-link q o d h = ap (λ (x : Node). x .left) (record-at t ns q h) ∙ ap (λ (x : Option Kind). leftCode x q (places ns)) d
 
@@ -75,13 +78,15 @@ module _ (t : Table) (ns : List Refinement) where
 
       by : (o : Option Kind) → kindAt q (tree ns) ≡ o
           → ((z : Subtree) → subtree t (q ++ (b ∷ [])) (tree ns) ≡ some z
-          → walk (recordsOf t ns) p (position (q ++ (b ∷ [])) (places ns)) ≡ shown (subtree t ((q ++ (b ∷ [])) ++ p) (tree ns)) (position ((q ++ (b ∷ [])) ++ p) (places ns)))
+          → walk (recordsOf t ns) p (position (q ++ (b ∷ [])) (places ns))
+          ≡ shown (subtree t ((q ++ (b ∷ [])) ++ p) (tree ns)) (position ((q ++ (b ∷ [])) ++ p) (places ns)))
           → walk (recordsOf t ns) (b ∷ p) (position q (places ns)) ≡ shown (subtree t (q ++ b ∷ p) (tree ns)) (position (q ++ b ∷ p) (places ns))
       by none d ih =
           walk-none (recordsOf t ns) b p (position q (places ns)) (left-link q none d held)
           ∙ ap (λ (o : Option Subtree). shown o (position (q ++ b ∷ p) (places ns))) (sym (nothing-below q b p (root t) (tree ns) d))
       by (some k) d ih =
-          walk-some (recordsOf t ns) b p (position q (places ns)) (position (q ++ (left ∷ [])) (children ns)) (left-link q (some k) d held ∙ position-child q left ns)
+          walk-some (recordsOf t ns) b p (position q (places ns)) (position (q ++ (left ∷ [])) (children ns))
+          (left-link q (some k) d held ∙ position-child q left ns)
           ∙ ap (walk (recordsOf t ns) p) (step-to q k b (only-done ns q k d))
           ∙ ih _ (subtree-child q b k (root t) (tree ns) y d e)
           ∙ ap (λ (r : Place). shown (subtree t r (tree ns)) (position r (places ns))) (append-assoc q (b ∷ []) p)

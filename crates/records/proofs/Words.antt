@@ -28,7 +28,8 @@ eqb-swap : (m n : ℕ) → eqb m n ≡ eqb n m
 eqb-swap m n = same-test _ _ (λ h. eq-eqb n m (sym (eqb-true m n h))) (λ h. eq-eqb m n (sym (eqb-true n m h)))
 
 eqb-less : (m n : ℕ) → 64 ≤ m → 64 ≤ n → eqb (m - 64) (n - 64) ≡ eqb n m
-eqb-less m n h k = same-test _ _ (λ q. eq-eqb n m (omega (arith, eqb-true (m - 64) (n - 64) q))) (λ q. eq-eqb (m - 64) (n - 64) (omega (arith, eqb-true n m q)))
+eqb-less m n h k =
+    same-test _ _ (λ q. eq-eqb n m (omega (arith, eqb-true (m - 64) (n - 64) q))) (λ q. eq-eqb (m - 64) (n - 64) (omega (arith, eqb-true n m q)))
 
 -- A number is in the two words of some ways exactly if one of them has it.
 pub words-number : (us : List Way) (i : ℕ) → inWords (lowWord us) (highWord us) i ≡ hasNumber us i
@@ -68,7 +69,8 @@ pub record-ways : (t : Table) (ns : List Refinement) → series t ns ≡ true �
 unfolding recordWays recordAt subtreeOr
 record-ways t ns h p x e =
     ap (λ (o : Option Subtree). told (subtreeOr o .node)) e
-    ∙ ap (remaining (x .node .present) (x .node .absent)) (select-same 0 (ways t) (inWords (lowWord us) (highWord us)) (hasNumber us) (ways-rising t) (λ j l. words-number us j))
+    ∙ ap (remaining (x .node .present) (x .node .absent))
+    (select-same 0 (ways t) (inWords (lowWord us) (highWord us)) (hasNumber us) (ways-rising t) (λ j l. words-number us j))
     ∙ handed-own t ns h p x e
   where
     us : List Way

@@ -83,7 +83,8 @@ pub fn refine_by_rule(weights: &[u32], present: &[u64], absent: &[u64], tree: &m
     requires { ⌜ Safe (treeOf (now tree) .nodes) ⌝ }
     requires { ⌜ (j < treeRecords) × (treeOf (now tree) .used + 1 < treeRecords) ⌝ }
     requires { ⌜ Lean (recordWays (table (now weights) (now present) (now absent)) (recordIn (treeOf (now tree) .nodes) j)) ⌝ }
-    ensures { λ _. ⌜ ByRule (table (now (weights .entry)) (now (present .entry)) (now (absent .entry))) (treeOf (now (tree .entry))) j (treeOf (now (tree .exit))) ⌝ }
+    ensures { λ _. ⌜ ByRule (table (now (weights .entry)) (now (present .entry)) (now (absent .entry)))
+        (treeOf (now (tree .entry))) j (treeOf (now (tree .exit))) ⌝ }
 {
     let c = ways_of(present, absent, record_at(tree, j));
     let k = choose(weights.len(), present, absent, c);

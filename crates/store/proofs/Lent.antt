@@ -47,15 +47,18 @@ unfolding treeOf
 record-is ws i h = nodes-at ws 0 treeRecords i h ∙ ap (nodeAt ws) (omega arith)
 
 -- Words whose records and count are those of a tree of 511 records are that tree.
-pub tree-is : (ws : List ℕ) (x : Tree) → length (x .nodes) ≡ treeRecords → ((i : ℕ) → i < treeRecords → nodeAt ws i ≡ recordIn (x .nodes) i) → getD ws countWord 0 ≡ x .used
+pub tree-is : (ws : List ℕ) (x : Tree) → length (x .nodes) ≡ treeRecords → ((i : ℕ) → i < treeRecords → nodeAt ws i ≡ recordIn (x .nodes) i)
+    → getD ws countWord 0 ≡ x .used
     → treeOf ws ≡ x
 unfolding treeOf
 tree-is ws x e f u =
-    let r = ext-getD blank (treeOf ws .nodes) (x .nodes) (long ws ∙ sym e) (λ i l. let h : i < treeRecords = omega (arith, long ws) in record-is ws i h ∙ f i h) in
+    let r = ext-getD blank (treeOf ws .nodes) (x .nodes) (long ws ∙ sym e)
+    (λ i l. let h : i < treeRecords = omega (arith, long ws) in record-is ws i h ∙ f i h) in
     λ i. record { nodes = r i; used = u i }
 
 -- Records of equal words are equal.
-pub same-record : (us ws : List ℕ) (i j : ℕ) → ((q : ℕ) → q < recordFields → getD us (firstWord i + q) 0 ≡ getD ws (firstWord j + q) 0) → nodeAt us i ≡ nodeAt ws j
+pub same-record : (us ws : List ℕ) (i j : ℕ) → ((q : ℕ) → q < recordFields → getD us (firstWord i + q) 0 ≡ getD ws (firstWord j + q) 0)
+    → nodeAt us i ≡ nodeAt ws j
 same-record us ws i j f =
     λ z. record {
       kind = (ap (λ k. getD us k 0) (sym (add-zero (firstWord i))) ∙ f 0 (omega arith) ∙ ap (λ k. getD ws k 0) (add-zero (firstWord j))) z;
@@ -87,7 +90,8 @@ all-zero : (k : ℕ) → k ≡ treeWords → treeOf (replicate k 0) ≡ noNodes
 unfolding noNodes
 all-zero k e =
     tree-is (replicate k 0) noNodes (length-replicate treeRecords blank)
-    (λ i h. same-record (replicate k 0) [] i 0 (λ q l. getD-replicate k (firstWord i + q) 0 0 (omega arith)) ∙ sym (getD-replicate treeRecords i blank blank h))
+    (λ i h. same-record (replicate k 0) [] i 0 (λ q l. getD-replicate k (firstWord i + q) 0 0 (omega arith))
+    ∙ sym (getD-replicate treeRecords i blank blank h))
     (getD-replicate k countWord 0 0 (omega arith))
 
 -- The same at the number of the words.

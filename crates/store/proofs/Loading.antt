@@ -30,7 +30,8 @@ begun ws x e =
     }
 
 -- One more record.
-pub turn : (ws : List ℕ) (xs : List Node) (i : ℕ) → Loading ws xs i → i < treeRecords → (x : Node) → x ≡ recordIn (treeOf ws .nodes) i → Loading ws (set xs i x) (i + 1)
+pub turn : (ws : List ℕ) (xs : List Node) (i : ℕ) → Loading ws xs i → i < treeRecords → (x : Node) → x ≡ recordIn (treeOf ws .nodes) i
+    → Loading ws (set xs i x) (i + 1)
 turn ws xs i l h x e = record { inside = omega arith; whole = length-set xs i x ∙ l .whole; read = λ k r. by k r (ℕ-discrete k i) }
   where
     by : (k : ℕ) → k < i + 1 → Dec (k ≡ i) → recordIn (set xs i x) k ≡ recordIn (treeOf ws .nodes) k
@@ -38,7 +39,8 @@ turn ws xs i l h x e = record { inside = omega arith; whole = length-set xs i x 
     by k r (no f) = getD-set-other xs i k x blank f ∙ l .read k (lt-of-le-of-ne (omega arith) f)
 
 -- All of them are the tree.
-pub done : (ws : List ℕ) (xs : List Node) (i : ℕ) → Loading ws xs i → treeRecords ≤ i → (u : ℕ) → u ≡ treeOf ws .used → _≡_ {A = Tree} (record { nodes = xs; used = u }) (treeOf ws)
+pub done : (ws : List ℕ) (xs : List Node) (i : ℕ) → Loading ws xs i → treeRecords ≤ i → (u : ℕ) → u ≡ treeOf ws .used
+    → _≡_ {A = Tree} (record { nodes = xs; used = u }) (treeOf ws)
 done ws xs i l h u e =
     let r = ext-getD blank xs (treeOf ws .nodes) (l .whole ∙ sym (long ws)) (λ k b. l .read k (omega (arith, l .whole))) in
     λ z. record { nodes = r z; used = e z }

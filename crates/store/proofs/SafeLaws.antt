@@ -49,7 +49,8 @@ safe-set xs j x h s n = record { each = λ i. at i (ℕ-discrete i j) }
     at i (no e) = rw (getD-set-other xs j i x blank e) (s .each i)
 
 -- A safe record with another fault, left child and interval, if these are in order; the other two codes are free.
-pub safe-changed : (x : Node) (code f mark l lo hi : ℕ) → SafeNode x → f < 64 → l + 1 < treeRecords → lo ≤ S → hi ≤ S → SafeNode (changed x code f mark l lo hi)
+pub safe-changed : (x : Node) (code f mark l lo hi : ℕ) → SafeNode x → f < 64 → l + 1 < treeRecords → lo ≤ S → hi ≤ S
+    → SafeNode (changed x code f mark l lo hi)
 safe-changed x code f mark l lo hi s a b c d =
     record {
       fault-fits = a;

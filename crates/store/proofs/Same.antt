@@ -32,7 +32,8 @@ run-at ws i k (suc n) (suc q) h = run-at ws i (suc k) n q (omega arith) ∙ ap (
 field-at : (ws : List ℕ) (j q : ℕ) → q < recordFields → getD (fields (nodeAt ws j)) q 0 ≡ getD ws (firstWord j + q) 0
 unfolding run
 field-at ws j q h =
-    ap (λ p. getD (getD ws p 0 ∷ run ws (firstWord j) 1 12) q 0) (sym (add-zero (firstWord j))) ∙ run-at ws (firstWord j) 0 recordFields q h ∙ ap (λ p. getD ws (firstWord j + p) 0) (omega arith)
+    ap (λ p. getD (getD ws p 0 ∷ run ws (firstWord j) 1 12) q 0) (sym (add-zero (firstWord j))) ∙ run-at ws (firstWord j) 0 recordFields q h
+    ∙ ap (λ p. getD ws (firstWord j + p) 0) (omega arith)
 
 -- ---- the words of two trees
 
@@ -45,7 +46,8 @@ module _ (us ws : List ℕ) where
       let l : j < treeRecords = omega arith in
       let r : q < recordFields = omega arith in
       let n : nodeAt us j ≡ nodeAt ws j = sym (record-is us j l) ∙ ap (λ (xs : List Node). recordIn xs j) e ∙ record-is ws j l in
-      let f : getD us (firstWord j + q) 0 ≡ getD ws (firstWord j + q) 0 = sym (field-at us j q r) ∙ ap (λ (x : Node). getD (fields x) q 0) n ∙ field-at ws j q r in
+      let f : getD us (firstWord j + q) 0 ≡ getD ws (firstWord j + q) 0 =
+      sym (field-at us j q r) ∙ ap (λ (x : Node). getD (fields x) q 0) n ∙ field-at ws j q r in
       let w : firstWord j + q ≡ k = omega arith in
       ap (λ (p : ℕ). getD us p 0) (sym w) ∙ f ∙ ap (λ (p : ℕ). getD ws p 0) w
 

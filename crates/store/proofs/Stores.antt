@@ -47,7 +47,8 @@ module _ (ws : List ℕ) (j : ℕ) (n : Node) (h : j < treeRecords) (e : length 
   unfolding us
   there =
       same-record us (fields n) j 0
-      (λ q l. ap (λ p. getD us (firstWord j + p) 0) (sym (zero-add q)) ∙ found (fields n) ws (firstWord j) 0 (omega arith) q l ∙ ap (λ p. getD (fields n) p 0) (sym (zero-add q)))
+      (λ q l. ap (λ p. getD us (firstWord j + p) 0) (sym (zero-add q)) ∙ found (fields n) ws (firstWord j) 0 (omega arith) q l
+      ∙ ap (λ p. getD (fields n) p 0) (sym (zero-add q)))
 
   -- Every other record is as it was.
   elsewhere : (i : ℕ) → (i ≡ j → ⊥) → nodeAt us i ≡ nodeAt ws i
@@ -62,7 +63,9 @@ module _ (ws : List ℕ) (j : ℕ) (n : Node) (h : j < treeRecords) (e : length 
       (kept (fields n) ws (firstWord j) 0 countWord (λ q a b z. omega arith))
     where
       by : (i : ℕ) → i < treeRecords → Dec (i ≡ j) → nodeAt us i ≡ recordIn (set (treeOf ws .nodes) j n) i
-      by i l (yes z) = ap (nodeAt us) z ∙ there ∙ sym (getD-set-same (treeOf ws .nodes) j n blank (omega (arith, long ws))) ∙ ap (recordIn (set (treeOf ws .nodes) j n)) (sym z)
+      by i l (yes z) =
+          ap (nodeAt us) z ∙ there ∙ sym (getD-set-same (treeOf ws .nodes) j n blank (omega (arith, long ws)))
+          ∙ ap (recordIn (set (treeOf ws .nodes) j n)) (sym z)
       by i l (no f) = elsewhere i f ∙ sym (record-is ws i l) ∙ sym (getD-set-other (treeOf ws .nodes) j i n blank f)
 
   -- The same of the stores as the code makes them, the first at word 13j.

@@ -41,7 +41,8 @@ returns-3 c =
     let u = r .before in
     let k = u .before .before .before in
     let f = k .before .before in
-    refinable _ _ _ _ (f .before .if1 .left) _ (sym (k .j .given .1) ∙ f .find .ensures) (u .before .record-at .ensures) (u .used-in .ensures) _ (r .refusal .ensures .0)
+    refinable _ _ _ _ (f .before .if1 .left) _ (sym (k .j .given .1) ∙ f .find .ensures) (u .before .record-at .ensures) (u .used-in .ensures) _
+    (r .refusal .ensures .0)
     (c .if2 .taken) (r .refusal .ensures .1 (c .if2 .taken)) (f .before .before .before .before .before .pre .1 .1)
 
 returns-4 : tie.Need-returns-4
@@ -50,7 +51,8 @@ returns-4 c =
     let u = r .before in
     let k = u .before .before .before in
     let f = k .before .before in
-    refused _ _ _ _ (f .before .if1 .left) _ (sym (k .j .given .1) ∙ f .find .ensures) (u .before .record-at .ensures) (u .used-in .ensures) _ (r .refusal .ensures .0) (c .if2 .left)
+    refused _ _ _ _ (f .before .if1 .left) _ (sym (k .j .given .1) ∙ f .find .ensures) (u .before .record-at .ensures) (u .used-in .ensures) _
+    (r .refusal .ensures .0) (c .if2 .left)
 
 pub leaf-at-spec : {M : Type 1} → statement M
 leaf-at-spec =

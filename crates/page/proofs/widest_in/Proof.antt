@@ -19,9 +19,11 @@ use prog.Wp.{Heap, Env, Calls, Loops, WpFn, Tables}
 use ghost.Atoms.{Atoms}
 use contract.Monad.{Fun, fact}
 use contract.Running.{givenOf, tables, tablesOf}
-use types.Kit.{Given, Item, ‵, raw, _⊛_, some, later, ⋆, Sq, runs, atRet, _$_, _∵_, !, qed, by, move, keep, use1, use2, use3, split, pick, rewrite, suffices, await, done}
+use types.Kit.{Given, Item, ‵, raw, _⊛_, some, later, ⋆, Sq, runs, atRet, _$_, _∵_, ! }
+use types.Kit.{qed, by, move, keep, use1, use2, use3, split, pick, rewrite, suffices, await, done}
 use types.Part.{agg}
-use types.Run.{look, init, forget, stop, from, load, lit, of-opd, addr, and-then, no-more, assigns, land, returns, enter, alloc1, alloc0, params1, pass1, pass0, free1, free0}
+use types.Run.{look, init, forget, stop, from, load, lit, of-opd, addr, and-then, no-more}
+use types.Run.{assigns, land, returns, enter, alloc1, alloc0, params1, pass1, pass0, free1, free0}
 use types.Tokens.{lft-new, lft-end}
 use sound.WpLaws.{FmC, fmOf, WpFn-mono}
 use denote.RattleType.{RattleType, owns}
@@ -85,7 +87,8 @@ stayed = (stay-none (λ _. Nodes) yes, tt)
 abbrev vals : Node → List Val
 vals = LL.vals T.the-type T′.the-laws
 
-module _ {M : Type 1} (𝓤 : URA M) (H : Heap 𝓤) (A : Atoms 𝓤) (W : Given 𝓤 H A) (mem : Memory → SProp 𝓤) (run : Routine → Fun 𝓤) (xs : List Node) (v : Val) (is : Is Nodes xs (v ∷ [])) where
+module _ {M : Type 1} (𝓤 : URA M) (H : Heap 𝓤) (A : Atoms 𝓤) (W : Given 𝓤 H A) (mem : Memory → SProp 𝓤) (run : Routine → Fun 𝓤) (xs : List Node) (v : Val)
+    (is : Is Nodes xs (v ∷ [])) where
   long : length xs ≡ n
   long = is .1 .0 .1
 
@@ -95,7 +98,8 @@ module _ {M : Type 1} (𝓤 : URA M) (H : Heap 𝓤) (A : Atoms 𝓤) (W : Given
   exits : (r : Spot) (u : Val) → r ≡ widestOf xs → ent 𝓤 (⋆ 𝓤 H A (‵ (owns (Nodes ∷ []) (xs, tt) (v ∷ [], tt)) ∷ ‵ (S.the-row .own r (u ∷ [])) ∷ [])) (Post u)
   exits r u e =
       qed W (‵ (owns (Nodes ∷ []) (xs, tt) (v ∷ [], tt)) ∷ ‵ (S.the-row .own r (u ∷ [])) ∷ []) ∵
-      suffices ! _ (ends-at 𝓤 H A f.ended stayed (f.clauses 𝓤 H A mem run) W ((tt, tt, tt, (xs, tt), (v ∷ [], tt)), tt) u r (tt, tt) (tt, tt)) $ says-both ! e (subst (WidestLaw xs) (sym e) (widest-told xs)) $ nothing ! $ done !
+      suffices ! _ (ends-at 𝓤 H A f.ended stayed (f.clauses 𝓤 H A mem run) W ((tt, tt, tt, (xs, tt), (v ∷ [], tt)), tt) u r (tt, tt) (tt, tt)) $
+      says-both ! e (subst (WidestLaw xs) (sym e) (widest-told xs)) $ nothing ! $ done !
 
   -- All elements are lent.
   all : take n xs ≡ xs
@@ -107,50 +111,72 @@ module _ {M : Type 1} (𝓤 : URA M) (H : Heap 𝓤) (A : Atoms 𝓤) (W : Given
   abbrev x : ℕ → GName → RefT (List Node)
   x b γ = slice T.the-row b xs n γ
 
-  module _ (C : Calls 𝓤 H) (Λ : Loops 𝓤 H) (fm : FmC 𝓤 H (W .laws) C) (known : Triple 𝓤 (C #page·widest) (Widest 𝓤 H A mem run)) (wt : Holds (hasTy array v) × WT v) where
+  module _ (C : Calls 𝓤 H) (Λ : Loops 𝓤 H) (fm : FmC 𝓤 H (W .laws) C) (known : Triple 𝓤 (C #page·widest) (Widest 𝓤 H A mem run))
+      (wt : Holds (hasTy array v) × WT v) where
     module _ (l₀ l₁ l₂ l₃ l₄ : ℕ) where
       abbrev En : Env 𝓤 H
       En = (S′.mir, l₀) ∷ (array, l₁) ∷ (array, l₂) ∷ (ref, l₃) ∷ (fat-ref, l₄) ∷ []
 
       abbrev Entered : List (Item 𝓤)
-      Entered = ‵ (froom fat-ref l₄ 0) ∷ ‵ (fdies fat-ref l₄) ∷ ‵ (froom ref l₃ 0) ∷ ‵ (fdies ref l₃) ∷ ‵ (froom array l₂ 0) ∷ ‵ (fdies array l₂) ∷ ‵ (fat fullShare array l₁ 0 v) ∷ ‵ (fdies array l₁)
+      Entered =
+          ‵ (froom fat-ref l₄ 0) ∷ ‵ (fdies fat-ref l₄) ∷ ‵ (froom ref l₃ 0) ∷ ‵ (fdies ref l₃) ∷ ‵ (froom array l₂ 0) ∷ ‵ (fdies array l₂)
+          ∷ ‵ (fat fullShare array l₁ 0 v) ∷ ‵ (fdies array l₁)
           ∷ ‵ (froom S′.mir l₀ 0) ∷ ‵ (fdies S′.mir l₀) ∷ ‵ ftrue ∷ ‵ (owns (Nodes ∷ []) (xs, tt) (v ∷ [], tt)) ∷ []
 
       body : Sq W Entered (runs C Λ En lowered.t-1 (atRet En Post))
       body =
           assigns ! (of-opd ! (load ! (from ! (stop !)) (look ! 6 refl))) (from ! (stop !)) (init ! 4 refl wt) $
           assigns ! (addr ! (from ! (stop !))) (from ! (stop !)) (init ! 2 refl (tt, tt)) $
-          assigns ! (agg ! (and-then ! (load ! (from ! (stop !)) (look ! 2 refl)) (and-then ! (lit ! tt) (no-more !)))) (from ! (stop !)) (init ! 0 refl (tt, (tt, (record { fits = lit< tt }, tt)))) $
+          assigns ! (agg ! (and-then ! (load ! (from ! (stop !)) (look ! 2 refl)) (and-then ! (lit ! tt) (no-more !)))) (from ! (stop !))
+          (init ! 0 refl (tt, (tt, (record { fits = lit< tt }, tt)))) $
           rewrite ! 0 (λ (m : ℕ). ‵ (fat fullShare fat-ref l₄ 0 (sliceVal (l₂, 0) m))) counted refl $
           -- The array is lent for a new lifetime.
-          owned ! Nodes (Is Nodes) (array-makes 𝓤 H A W T.the-row (LL.makes T.the-type T′.the-plain 𝓤 H A) n) xs (v ∷ []) is $ move ! (5 ∷ 0 ∷ []) $ lft-new ! tt (λ α. move ! (1 ∷ 2 ∷ []) $
-          use2 W (later (some (λ (γ : GName). ‵ (lent T.the-row l₂ xs n (named 0) (α ∷ []) γ) ⊛ ‵ (kept T.the-row l₂ xs n (α ∷ []))) ⊛ ‵ (unlent T.the-row l₂ xs n)))
-          (lends 𝓤 H A W T.the-row n (named 0) (α ∷ []) l₂ xs long n (subst (λ (m : ℕ). Room T.the-row m) counted (lit< tt, lit< tt)) tt v) $ await ! tt $ split ! $ pick ! (λ γ. split ! $
+          owned ! Nodes (Is Nodes) (array-makes 𝓤 H A W T.the-row (LL.makes T.the-type T′.the-plain 𝓤 H A) n) xs (v ∷ []) is $ move ! (5 ∷ 0 ∷ []) $
+          lft-new ! tt (λ α. move ! (1 ∷ 2 ∷ []) $
+          use2 W (later (some (λ (γ : GName). ‵ (lent T.the-row l₂ xs n (named 0) (α ∷ []) γ) ⊛ ‵ (kept T.the-row l₂ xs n (α ∷ []))) ⊛ ‵ (unlent T.the-row l₂
+          xs n)))
+          (lends 𝓤 H A W T.the-row n (named 0) (α ∷ []) l₂ xs long n (subst (λ (m : ℕ). Room T.the-row m) counted (lit< tt, lit< tt)) tt v) $ await ! tt $
+          split ! $ pick ! (λ γ. split ! $
           -- [what the slice owns; what its lender keeps; what is not lent; the token; _4; ..; _3; ..; that _2 dies; _1; ..; _0; ..; true; what a owns]
-          move ! (3 ∷ 0 ∷ []) $ use2 W (raw (Widest 𝓤 H A mem run .pre (to 𝓤 H A mem run (α ∷ []) fullShare (x l₂ γ)))) (ask 𝓤 H A mem run (α ∷ []) fullShare (x l₂ γ) W) $
-          calls-at ! fm (Widest 𝓤 H A mem run) known (to 𝓤 H A mem run (α ∷ []) fullShare (x l₂ γ)) (and-then ! (load ! (from ! (stop !)) (look ! 3 refl)) (no-more !)) (λ u.
-          use1 W (later (some (λ (r : Spot). ((‵ (flft (α ∷ []) fullShare) ⊛ ‵ ftrue) ⊛ ‵ (S.the-row .own r (u ∷ []))) ⊛ raw (ensured 𝓤 H A widest.ended (widest.clauses 𝓤 H A mem run) ((α ∷ []), tt) (x l₂ γ, tt) tt r)))) (id⊢ 𝓤 _) $ await ! tt $ pick ! (λ r.
-          split ! $ move ! (1 ∷ []) $ use1 W (raw (fact 𝓤 (r ≡ widestOf (take n xs)))) (said 𝓤 H A mem run (α ∷ []) fullShare (x l₂ γ) r) $ heard ! (r ≡ widestOf (take n xs)) (λ e. split ! $ split ! $
+          move ! (3 ∷ 0 ∷ []) $ use2 W (raw (Widest 𝓤 H A mem run .pre (to 𝓤 H A mem run (α ∷ []) fullShare (x l₂ γ))))
+          (ask 𝓤 H A mem run (α ∷ []) fullShare (x l₂ γ) W) $
+          calls-at ! fm (Widest 𝓤 H A mem run) known (to 𝓤 H A mem run (α ∷ []) fullShare (x l₂ γ))
+          (and-then ! (load ! (from ! (stop !)) (look ! 3 refl)) (no-more !)) (λ u.
+          use1 W (later (some (λ (r : Spot).
+          ((‵ (flft (α ∷ []) fullShare) ⊛ ‵ ftrue) ⊛ ‵ (S.the-row .own r (u ∷ []))) ⊛ raw (ensured 𝓤 H A widest.ended (widest.clauses 𝓤 H A mem run)
+          ((α ∷ []), tt) (x l₂ γ, tt) tt r)))) (id⊢ 𝓤 _) $ await ! tt $ pick ! (λ r.
+          split ! $ move ! (1 ∷ []) $ use1 W (raw (fact 𝓤 (r ≡ widestOf (take n xs)))) (said 𝓤 H A mem run (α ∷ []) fullShare (x l₂ γ) r) $
+          heard ! (r ≡ widestOf (take n xs)) (λ e. split ! $ split ! $
           -- [the token; true; the result; what the lender keeps; what is not lent; ..]: the lifetime is ended, and the array's room comes back.
-          lft-end ! tt $ move ! (0 ∷ 3 ∷ 4 ∷ []) $ use3 W (later (‵ (froom array l₂ 0))) (back 𝓤 H A W T.the-row n (named 0) (α ∷ []) l₂ xs long n) $ await ! tt $ move ! (2 ∷ []) $
+          lft-end ! tt $ move ! (0 ∷ 3 ∷ 4 ∷ []) $ use3 W (later (‵ (froom array l₂ 0))) (back 𝓤 H A W T.the-row n (named 0) (α ∷ []) l₂ xs long n) $
+          await ! tt $ move ! (2 ∷ []) $
           peeks ! S.the-row (Is S.the-row) (shows 𝓤 H A S.the-row) r (u ∷ []) (λ is′.
           land ! (from ! (stop !)) (init ! 10 refl (EL.lawful S.the-type S′.the-laws 𝓤 H A W tt .typed r _ is′ .0)) $
           returns ! (look ! 10 refl) $ forget ! 3 refl $ forget ! 5 refl $ forget ! 8 refl $ forget ! 10 refl $
-          move ! (10 ∷ 11 ∷ []) $ free1 ! $ move ! (8 ∷ 9 ∷ []) $ free1 ! $ move ! (1 ∷ 7 ∷ []) $ free1 ! $ move ! (4 ∷ 5 ∷ []) $ free1 ! $ move ! (2 ∷ 3 ∷ []) $ free1 ! $ free0 ! $
+          move ! (10 ∷ 11 ∷ []) $ free1 ! $ move ! (8 ∷ 9 ∷ []) $ free1 ! $ move ! (1 ∷ 7 ∷ []) $ free1 ! $ move ! (4 ∷ 5 ∷ []) $ free1 ! $
+          move ! (2 ∷ 3 ∷ []) $ free1 ! $ free0 ! $
           keep ! (3 ∷ 0 ∷ []) $ by ! (exits r u (e ∙ ap widestOf all))))))))
 
     walk : ent 𝓤 (onEntry 𝓤 H A f.signature tt tt (xs, tt) (v ∷ [], tt)) (WpFn 𝓤 H C Λ code.function (v ∷ []) Post)
     walk =
         qed W (‵ ftrue ∷ ‵ (owns (Nodes ∷ []) (xs, tt) (v ∷ [], tt)) ∷ []) ∵ enter ! C Λ code.function (v ∷ []) _ $
-        alloc1 ! (λ l₀. alloc1 ! (λ l₁. alloc1 ! (λ l₂. alloc1 ! (λ l₃. alloc1 ! (λ l₄. alloc0 ! $ params1 ! $ pass1 ! (init ! 6 refl wt) $ pass0 ! $ body l₀ l₁ l₂ l₃ l₄)))))
+        alloc1 ! (λ l₀. alloc1 ! (λ l₁.
+        alloc1 ! (λ l₂. alloc1 ! (λ l₃. alloc1 ! (λ l₄. alloc0 ! $ params1 ! $ pass1 ! (init ! 6 refl wt) $ pass0 ! $ body l₀ l₁ l₂ l₃ l₄)))))
 
-module _ {M : Type 1} (𝓤 : URA M) (H : Heap 𝓤) (A : Atoms 𝓤) (W : Given 𝓤 H A) (mem : Memory → SProp 𝓤) (run : Routine → Fun 𝓤) (𝓣 : Tables 𝓤 H) (known : Triple 𝓤 (𝓣 .C #page·widest) (Widest 𝓤 H A mem run)) where
+module _ {M : Type 1} (𝓤 : URA M) (H : Heap 𝓤) (A : Atoms 𝓤) (W : Given 𝓤 H A) (mem : Memory → SProp 𝓤) (run : Routine → Fun 𝓤) (𝓣 : Tables 𝓤 H)
+    (known : Triple 𝓤 (𝓣 .C #page·widest) (Widest 𝓤 H A mem run)) where
   walks : Walks 𝓤 H A f.ended stayed (WpFn 𝓤 H (𝓣 .C) (𝓣 .Λ) code.function) (f.clauses 𝓤 H A mem run)
-  walks = walked 𝓤 H A f.ended stayed (f.clauses 𝓤 H A mem run) (WpFn 𝓤 H (𝓣 .C) (𝓣 .Λ) code.function) (λ κs. (array-vals vals, tt)) (λ κs. (array-tells T.the-row vals (LL.tells T.the-type T′.the-laws) n, tt))
-      (λ κs qs bounds a g are. via 𝓤 _ (fst∗ 𝓤 _ (emp 𝓤)) (walk 𝓤 H A W mem run (a .0) _ (are .0) (𝓣 .C) (𝓣 .Λ) (fmOf 𝓤 H (W .laws) 𝓣) known (array-typed T.the-row (LL.lawful T.the-type T′.the-laws 𝓤 H A W .typed) n (a .0) _ (are .0) .0)))
+  walks =
+      walked 𝓤 H A f.ended stayed (f.clauses 𝓤 H A mem run) (WpFn 𝓤 H (𝓣 .C) (𝓣 .Λ) code.function) (λ κs. (array-vals vals, tt))
+      (λ κs. (array-tells T.the-row vals (LL.tells T.the-type T′.the-laws) n, tt))
+      (λ κs qs bounds a g are. via 𝓤 _ (fst∗ 𝓤 _ (emp 𝓤))
+      (walk 𝓤 H A W mem run (a .0) _ (are .0) (𝓣 .C) (𝓣 .Λ) (fmOf 𝓤 H (W .laws) 𝓣) known
+      (array-typed T.the-row (LL.lawful T.the-type T′.the-laws 𝓤 H A W .typed) n (a .0) _ (are .0) .0)))
 
   meets : Meets 𝓤 H A f.signature (WpFn 𝓤 H (𝓣 .C) (𝓣 .Λ) code.function) (f.spec 𝓤 H A mem run)
-  meets = walk-meets 𝓤 H A f.ended stayed W (goes-none 𝓤 H A W 0 (λ _. Nodes) yes (λ κs x f. refl), tt) (f.clauses 𝓤 H A mem run) (WpFn 𝓤 H (𝓣 .C) (𝓣 .Λ) code.function) (WpFn-mono 𝓤 H (W .laws) 𝓣 code.function) walks
+  meets =
+      walk-meets 𝓤 H A f.ended stayed W (goes-none 𝓤 H A W 0 (λ _. Nodes) yes (λ κs x f. refl), tt) (f.clauses 𝓤 H A mem run)
+      (WpFn 𝓤 H (𝓣 .C) (𝓣 .Λ) code.function) (WpFn-mono 𝓤 H (W .laws) 𝓣 code.function) walks
 
 pub widest-in-spec : {M : Type 1} → stated.statement M
 unfolding code.routine tablesOf

@@ -19,9 +19,11 @@ use prog.Wp.{Heap, Env, Calls, Loops, WpFn, Tables}
 use ghost.Atoms.{Atoms}
 use contract.Monad.{Fun, fact}
 use contract.Running.{givenOf, tables, tablesOf}
-use types.Kit.{Given, Item, ‵, raw, _⊛_, some, later, ⋆, Sq, runs, atRet, _$_, _∵_, !, qed, by, move, keep, use1, use2, use3, split, pick, rewrite, suffices, await, done}
+use types.Kit.{Given, Item, ‵, raw, _⊛_, some, later, ⋆, Sq, runs, atRet, _$_, _∵_, ! }
+use types.Kit.{qed, by, move, keep, use1, use2, use3, split, pick, rewrite, suffices, await, done}
 use types.Part.{agg}
-use types.Run.{look, init, forget, stop, from, load, of-opd, addr, and-then, no-more, assigns, land, returns, enter, alloc1, alloc0, params1, pass1, pass0, free1, free0}
+use types.Run.{look, init, forget, stop, from, load, of-opd, addr, and-then, no-more, assigns}
+use types.Run.{land, returns, enter, alloc1, alloc0, params1, pass1, pass0, free1, free0}
 use types.Tokens.{lft-new, lft-end}
 use sound.WpLaws.{FmC, fmOf, WpFn-mono}
 use denote.RattleType.{RattleType, owns}
@@ -84,17 +86,20 @@ stayed = (stay-none (λ _. Nodes) yes, (stay-none (λ _. usize) yes, tt))
 abbrev vals : Node → List Val
 vals = LL.vals T.the-type T′.the-laws
 
-module _ {M : Type 1} (𝓤 : URA M) (H : Heap 𝓤) (A : Atoms 𝓤) (W : Given 𝓤 H A) (mem : Memory → SProp 𝓤) (run : Routine → Fun 𝓤) (xs : List Node) (v : Val) (is : Is Nodes xs (v ∷ [])) (c : ℕ) (fits : c < 2 ^ 64) (inside : c ≤ n) where
+module _ {M : Type 1} (𝓤 : URA M) (H : Heap 𝓤) (A : Atoms 𝓤) (W : Given 𝓤 H A) (mem : Memory → SProp 𝓤) (run : Routine → Fun 𝓤) (xs : List Node) (v : Val)
+    (is : Is Nodes xs (v ∷ [])) (c : ℕ) (fits : c < 2 ^ 64) (inside : c ≤ n) where
   long : length xs ≡ n
   long = is .1 .0 .1
 
   abbrev Post : Val → SProp 𝓤
   Post = walkOf 𝓤 H A f.ended stayed (f.clauses 𝓤 H A mem run) .post ((tt, tt, tt, (xs, (c, tt)), (v ∷ [], (vint w64 c ∷ [], tt))), tt)
 
-  exits : (r : Spot) (u : Val) → r ≡ widestOf (take c xs) → ent 𝓤 (⋆ 𝓤 H A (‵ (owns (Nodes ∷ usize ∷ []) (xs, (c, tt)) (v ∷ [], (vint w64 c ∷ [], tt))) ∷ ‵ (S.the-row .own r (u ∷ [])) ∷ [])) (Post u)
+  exits : (r : Spot) (u : Val) → r ≡ widestOf (take c xs)
+      → ent 𝓤 (⋆ 𝓤 H A (‵ (owns (Nodes ∷ usize ∷ []) (xs, (c, tt)) (v ∷ [], (vint w64 c ∷ [], tt))) ∷ ‵ (S.the-row .own r (u ∷ [])) ∷ [])) (Post u)
   exits r u e =
       qed W (‵ (owns (Nodes ∷ usize ∷ []) (xs, (c, tt)) (v ∷ [], (vint w64 c ∷ [], tt))) ∷ ‵ (S.the-row .own r (u ∷ [])) ∷ []) ∵
-      suffices ! _ (ends-at 𝓤 H A f.ended stayed (f.clauses 𝓤 H A mem run) W ((tt, tt, tt, (xs, (c, tt)), (v ∷ [], (vint w64 c ∷ [], tt))), tt) u r (tt, (tt, tt)) (tt, (tt, tt))) $ says ! e $ nothing ! $ done !
+      suffices ! _ (ends-at 𝓤 H A f.ended stayed (f.clauses 𝓤 H A mem run) W ((tt, tt, tt, (xs, (c, tt)), (v ∷ [], (vint w64 c ∷ [], tt))), tt) u r
+      (tt, (tt, tt)) (tt, (tt, tt))) $ says ! e $ nothing ! $ done !
 
   counted : c ≡ length (take c xs)
   counted = sym (length-take-le c xs (omega (arith, inside, long)))
@@ -102,7 +107,8 @@ module _ {M : Type 1} (𝓤 : URA M) (H : Heap 𝓤) (A : Atoms 𝓤) (W : Given
   abbrev x : ℕ → GName → RefT (List Node)
   x b γ = slice T.the-row b xs c γ
 
-  module _ (C : Calls 𝓤 H) (Λ : Loops 𝓤 H) (fm : FmC 𝓤 H (W .laws) C) (known : Triple 𝓤 (C #page·widest) (Widest 𝓤 H A mem run)) (wt : Holds (hasTy array v) × WT v) where
+  module _ (C : Calls 𝓤 H) (Λ : Loops 𝓤 H) (fm : FmC 𝓤 H (W .laws) C) (known : Triple 𝓤 (C #page·widest) (Widest 𝓤 H A mem run))
+      (wt : Holds (hasTy array v) × WT v) where
     module _ (l₀ l₁ l₂ l₃ l₄ l₅ : ℕ) where
       abbrev En : Env 𝓤 H
       En = (S′.mir, l₀) ∷ (array, l₁) ∷ (tyInt w64, l₂) ∷ (array, l₃) ∷ (ref, l₄) ∷ (fat-ref, l₅) ∷ []
@@ -116,39 +122,58 @@ module _ {M : Type 1} (𝓤 : URA M) (H : Heap 𝓤) (A : Atoms 𝓤) (W : Given
       body =
           assigns ! (of-opd ! (load ! (from ! (stop !)) (look ! 8 refl))) (from ! (stop !)) (init ! 4 refl wt) $
           assigns ! (addr ! (from ! (stop !))) (from ! (stop !)) (init ! 2 refl (tt, tt)) $
-          assigns ! (agg ! (and-then ! (load ! (from ! (stop !)) (look ! 2 refl)) (and-then ! (load ! (from ! (stop !)) (look ! 6 refl)) (no-more !)))) (from ! (stop !)) (init ! 0 refl (tt, (tt, (record { fits = fits }, tt)))) $
+          assigns ! (agg ! (and-then ! (load ! (from ! (stop !)) (look ! 2 refl)) (and-then ! (load ! (from ! (stop !)) (look ! 6 refl)) (no-more !))))
+          (from ! (stop !)) (init ! 0 refl (tt, (tt, (record { fits = fits }, tt)))) $
           rewrite ! 0 (λ (m : ℕ). ‵ (fat fullShare fat-ref l₅ 0 (sliceVal (l₃, 0) m))) counted refl $
           -- The first elements are lent for a new lifetime.
-          owned ! Nodes (Is Nodes) (array-makes 𝓤 H A W T.the-row (LL.makes T.the-type T′.the-plain 𝓤 H A) n) xs (v ∷ []) is $ move ! (5 ∷ 0 ∷ []) $ lft-new ! tt (λ α. move ! (1 ∷ 2 ∷ []) $
-          use2 W (later (some (λ (γ : GName). ‵ (lent T.the-row l₃ xs c (named 0) (α ∷ []) γ) ⊛ ‵ (kept T.the-row l₃ xs c (α ∷ []))) ⊛ ‵ (unlent T.the-row l₃ xs c)))
-          (lends 𝓤 H A W T.the-row n (named 0) (α ∷ []) l₃ xs long c (subst (λ (m : ℕ). Room T.the-row m) counted (fits, omega (arith, inside))) tt v) $ await ! tt $ split ! $ pick ! (λ γ. split ! $
-          -- [what the slice owns; what its lender keeps; what is not lent; the token; _5; ..; _4; ..; that _3 dies; _2; ..; _1; ..; _0; ..; true; what is owned]
-          move ! (3 ∷ 0 ∷ []) $ use2 W (raw (Widest 𝓤 H A mem run .pre (to 𝓤 H A mem run (α ∷ []) fullShare (x l₃ γ)))) (ask 𝓤 H A mem run (α ∷ []) fullShare (x l₃ γ) W) $
-          calls-at ! fm (Widest 𝓤 H A mem run) known (to 𝓤 H A mem run (α ∷ []) fullShare (x l₃ γ)) (and-then ! (load ! (from ! (stop !)) (look ! 3 refl)) (no-more !)) (λ u.
-          use1 W (later (some (λ (r : Spot). ((‵ (flft (α ∷ []) fullShare) ⊛ ‵ ftrue) ⊛ ‵ (S.the-row .own r (u ∷ []))) ⊛ raw (ensured 𝓤 H A widest.ended (widest.clauses 𝓤 H A mem run) ((α ∷ []), tt) (x l₃ γ, tt) tt r)))) (id⊢ 𝓤 _) $ await ! tt $ pick ! (λ r.
-          split ! $ move ! (1 ∷ []) $ use1 W (raw (fact 𝓤 (r ≡ widestOf (take c xs)))) (said 𝓤 H A mem run (α ∷ []) fullShare (x l₃ γ) r) $ heard ! (r ≡ widestOf (take c xs)) (λ e. split ! $ split ! $
+          owned ! Nodes (Is Nodes) (array-makes 𝓤 H A W T.the-row (LL.makes T.the-type T′.the-plain 𝓤 H A) n) xs (v ∷ []) is $ move ! (5 ∷ 0 ∷ []) $
+          lft-new ! tt (λ α. move ! (1 ∷ 2 ∷ []) $
+          use2 W (later (some (λ (γ : GName). ‵ (lent T.the-row l₃ xs c (named 0) (α ∷ []) γ) ⊛ ‵ (kept T.the-row l₃ xs c (α ∷ []))) ⊛ ‵ (unlent T.the-row l₃
+          xs c)))
+          (lends 𝓤 H A W T.the-row n (named 0) (α ∷ []) l₃ xs long c (subst (λ (m : ℕ). Room T.the-row m) counted (fits, omega (arith, inside))) tt v) $
+          await ! tt $ split ! $ pick ! (λ γ. split ! $
+          -- [what the slice owns; what its lender keeps; what is not lent; the token; _5; ..; _4; ..; that _3 dies; _2; ..; _1; ..; _0; ..; true;
+          -- what is owned]
+          move ! (3 ∷ 0 ∷ []) $ use2 W (raw (Widest 𝓤 H A mem run .pre (to 𝓤 H A mem run (α ∷ []) fullShare (x l₃ γ))))
+          (ask 𝓤 H A mem run (α ∷ []) fullShare (x l₃ γ) W) $
+          calls-at ! fm (Widest 𝓤 H A mem run) known (to 𝓤 H A mem run (α ∷ []) fullShare (x l₃ γ))
+          (and-then ! (load ! (from ! (stop !)) (look ! 3 refl)) (no-more !)) (λ u.
+          use1 W (later (some (λ (r : Spot).
+          ((‵ (flft (α ∷ []) fullShare) ⊛ ‵ ftrue) ⊛ ‵ (S.the-row .own r (u ∷ []))) ⊛ raw (ensured 𝓤 H A widest.ended (widest.clauses 𝓤 H A mem run)
+          ((α ∷ []), tt) (x l₃ γ, tt) tt r)))) (id⊢ 𝓤 _) $ await ! tt $ pick ! (λ r.
+          split ! $ move ! (1 ∷ []) $ use1 W (raw (fact 𝓤 (r ≡ widestOf (take c xs)))) (said 𝓤 H A mem run (α ∷ []) fullShare (x l₃ γ) r) $
+          heard ! (r ≡ widestOf (take c xs)) (λ e. split ! $ split ! $
           -- [the token; true; the result; what the lender keeps; what is not lent; ..]: the lifetime is ended, and the array's room comes back.
-          lft-end ! tt $ move ! (0 ∷ 3 ∷ 4 ∷ []) $ use3 W (later (‵ (froom array l₃ 0))) (back 𝓤 H A W T.the-row n (named 0) (α ∷ []) l₃ xs long c) $ await ! tt $ move ! (2 ∷ []) $
+          lft-end ! tt $ move ! (0 ∷ 3 ∷ 4 ∷ []) $ use3 W (later (‵ (froom array l₃ 0))) (back 𝓤 H A W T.the-row n (named 0) (α ∷ []) l₃ xs long c) $
+          await ! tt $ move ! (2 ∷ []) $
           peeks ! S.the-row (Is S.the-row) (shows 𝓤 H A S.the-row) r (u ∷ []) (λ is′.
           land ! (from ! (stop !)) (init ! 12 refl (EL.lawful S.the-type S′.the-laws 𝓤 H A W tt .typed r _ is′ .0)) $
           returns ! (look ! 12 refl) $ forget ! 3 refl $ forget ! 5 refl $ forget ! 8 refl $ forget ! 10 refl $ forget ! 12 refl $
-          move ! (12 ∷ 13 ∷ []) $ free1 ! $ move ! (10 ∷ 11 ∷ []) $ free1 ! $ move ! (8 ∷ 9 ∷ []) $ free1 ! $ move ! (1 ∷ 7 ∷ []) $ free1 ! $ move ! (4 ∷ 5 ∷ []) $ free1 ! $ move ! (2 ∷ 3 ∷ []) $ free1 ! $ free0 ! $
+          move ! (12 ∷ 13 ∷ []) $ free1 ! $ move ! (10 ∷ 11 ∷ []) $ free1 ! $ move ! (8 ∷ 9 ∷ []) $ free1 ! $ move ! (1 ∷ 7 ∷ []) $ free1 ! $
+          move ! (4 ∷ 5 ∷ []) $ free1 ! $ move ! (2 ∷ 3 ∷ []) $ free1 ! $ free0 ! $
           keep ! (3 ∷ 0 ∷ []) $ by ! (exits r u e)))))))
 
     walk : ent 𝓤 (onEntry 𝓤 H A f.signature tt tt (xs, (c, tt)) (v ∷ [], (vint w64 c ∷ [], tt))) (WpFn 𝓤 H C Λ code.function (v ∷ vint w64 c ∷ []) Post)
     walk =
-        qed W (‵ ftrue ∷ ‵ (owns (Nodes ∷ usize ∷ []) (xs, (c, tt)) (v ∷ [], (vint w64 c ∷ [], tt))) ∷ []) ∵ enter ! C Λ code.function (v ∷ vint w64 c ∷ []) _ $
+        qed W (‵ ftrue ∷ ‵ (owns (Nodes ∷ usize ∷ []) (xs, (c, tt)) (v ∷ [], (vint w64 c ∷ [], tt))) ∷ []) ∵ enter ! C Λ code.function (v ∷ vint w64 c
+        ∷ []) _ $
         alloc1 ! (λ l₀. alloc1 ! (λ l₁. alloc1 ! (λ l₂. alloc1 ! (λ l₃. alloc1 ! (λ l₄. alloc1 ! (λ l₅. alloc0 ! $ params1 ! $
         pass1 ! (init ! 8 refl wt) $ pass1 ! (init ! 6 refl (tt, record { fits = fits })) $ pass0 ! $ body l₀ l₁ l₂ l₃ l₄ l₅))))))
 
-module _ {M : Type 1} (𝓤 : URA M) (H : Heap 𝓤) (A : Atoms 𝓤) (W : Given 𝓤 H A) (mem : Memory → SProp 𝓤) (run : Routine → Fun 𝓤) (𝓣 : Tables 𝓤 H) (known : Triple 𝓤 (𝓣 .C #page·widest) (Widest 𝓤 H A mem run)) where
+module _ {M : Type 1} (𝓤 : URA M) (H : Heap 𝓤) (A : Atoms 𝓤) (W : Given 𝓤 H A) (mem : Memory → SProp 𝓤) (run : Routine → Fun 𝓤) (𝓣 : Tables 𝓤 H)
+    (known : Triple 𝓤 (𝓣 .C #page·widest) (Widest 𝓤 H A mem run)) where
   walks : Walks 𝓤 H A f.ended stayed (WpFn 𝓤 H (𝓣 .C) (𝓣 .Λ) code.function) (f.clauses 𝓤 H A mem run)
-  walks = walked 𝓤 H A f.ended stayed (f.clauses 𝓤 H A mem run) (WpFn 𝓤 H (𝓣 .C) (𝓣 .Λ) code.function) (λ κs. (array-vals vals, (uint-vals w64, tt))) (λ κs. (array-tells T.the-row vals (LL.tells T.the-type T′.the-laws) n, (uint-tells w64, tt)))
+  walks =
+      walked 𝓤 H A f.ended stayed (f.clauses 𝓤 H A mem run) (WpFn 𝓤 H (𝓣 .C) (𝓣 .Λ) code.function) (λ κs. (array-vals vals, (uint-vals w64, tt)))
+      (λ κs. (array-tells T.the-row vals (LL.tells T.the-type T′.the-laws) n, (uint-tells w64, tt)))
       (λ κs qs bounds a g are. needs 𝓤 _ _ (λ inside.
-      walk 𝓤 H A W mem run (a .0) _ (are .0) (a .1 .0) (are .1 .0 .1) inside (𝓣 .C) (𝓣 .Λ) (fmOf 𝓤 H (W .laws) 𝓣) known (array-typed T.the-row (LL.lawful T.the-type T′.the-laws 𝓤 H A W .typed) n (a .0) _ (are .0) .0)))
+      walk 𝓤 H A W mem run (a .0) _ (are .0) (a .1 .0) (are .1 .0 .1) inside (𝓣 .C) (𝓣 .Λ) (fmOf 𝓤 H (W .laws) 𝓣) known
+      (array-typed T.the-row (LL.lawful T.the-type T′.the-laws 𝓤 H A W .typed) n (a .0) _ (are .0) .0)))
 
   meets : Meets 𝓤 H A f.signature (WpFn 𝓤 H (𝓣 .C) (𝓣 .Λ) code.function) (f.spec 𝓤 H A mem run)
-  meets = walk-meets 𝓤 H A f.ended stayed W (goes-none 𝓤 H A W 0 (λ _. Nodes) yes (λ κs x f. refl), (goes-none 𝓤 H A W 0 (λ _. usize) yes (λ κs x f. refl), tt)) (f.clauses 𝓤 H A mem run) (WpFn 𝓤 H (𝓣 .C) (𝓣 .Λ) code.function) (WpFn-mono 𝓤 H (W .laws) 𝓣 code.function) walks
+  meets =
+      walk-meets 𝓤 H A f.ended stayed W (goes-none 𝓤 H A W 0 (λ _. Nodes) yes (λ κs x f. refl), (goes-none 𝓤 H A W 0 (λ _. usize) yes (λ κs x f. refl), tt))
+      (f.clauses 𝓤 H A mem run) (WpFn 𝓤 H (𝓣 .C) (𝓣 .Λ) code.function) (WpFn-mono 𝓤 H (W .laws) 𝓣 code.function) walks
 
 pub front-spec : {M : Type 1} → stated.statement M
 unfolding code.routine tablesOf

@@ -74,7 +74,8 @@ returns-2 : tie.Need-returns-2
 returns-2 c =
     let w = c .before .before .before .before in
     let s = w .before .before .before .args .s in
-    c .moved2 .ensures ∙ with-best _ (not-larger s _ (live-there w) _ (w .width .ensures) (c .before .before .before .if2 .taken) (omega (arith, c .before .if3 .taken)))
+    c .moved2 .ensures ∙ with-best _
+    (not-larger s _ (live-there w) _ (w .width .ensures) (c .before .before .before .if2 .taken) (omega (arith, c .before .if3 .taken)))
 
 returns-3 : tie.Need-returns-3
 returns-3 c =

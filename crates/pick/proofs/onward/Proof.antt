@@ -63,7 +63,8 @@ returns-3 : tie.Need-returns-3
 returns-3 c =
     let k = c .before .before in
     let a = k .before .args in
-    at-root (view (a .s)) (a .n) (a .p) (k .if1 .left) (c .if3 .taken) (ap (λ (b : Bool). record { at = a .s .at; down = b; over = true; best = view (a .s) .best }) (k .if1 .left))
+    at-root (view (a .s)) (a .n) (a .p) (k .if1 .left) (c .if3 .taken)
+    (ap (λ (b : Bool). record { at = a .s .at; down = b; over = true; best = view (a .s) .best }) (k .if1 .left))
 
 add-moved-2 : tie.Need-add-moved-2
 add-moved-2 c = search needs

@@ -25,15 +25,15 @@ use Rattle.dtree.proofs.refining.refine_good.Statement.{statement}
 use Rattle.dtree.proofs.refining.refine_good.Tie as tie
 
 -- Where the call began, seen from the leaf's search.
-abbrev start : tie.After-leaf-at → tie.Start
-start c = c .before .before .before .before .before .before
+abbrev entry : tie.After-leaf-at → tie.Start
+entry c = c .before .before .before .before .before .before
 
 -- The table and the tree.
-abbrev tableOf : tie.Start → Table
-tableOf s = table (s .args .weights .now) (s .args .present .now) (s .args .absent .now)
+abbrev given : tie.Start → Table
+given s = table (s .args .weights .now) (s .args .present .now) (s .args .absent .now)
 
-abbrev given : tie.Start → Tree
-given s = treeOf (s .args .tree .now)
+abbrev lent : tie.Start → Tree
+lent s = treeOf (s .args .tree .now)
 
 -- What the answer `leaf_at` gave tells: a leaf that can be refined, or the number that refuses.
 module _ (t : Table) (x : Tree) (bs : List ℕ) (k : Kind) (r : Named) (told : Tells (wordTable (t .present) (t .absent)) x bs k r) where
@@ -53,7 +53,7 @@ module _ (t : Table) (x : Tree) (bs : List ℕ) (k : Kind) (r : Named) (told : T
 leaf-at-requires : tie.Need-leaf-at-requires
 leaf-at-requires c κs =
     let s = c .before .before .before .before .before in
-    (few-ways (tableOf s) (s .pre .0), (sym (paired-words (tableOf s) (s .pre .0)), s .pre .1 .1))
+    (few-ways (given s) (s .pre .0), (sym (paired-words (given s) (s .pre .0)), s .pre .1 .1))
 
 enum-known-n : tie.Need-enum-known-n
 enum-known-n c = search needs
@@ -65,15 +65,25 @@ refine-leaf-requires : tie.Need-refine-leaf-requires
 refine-leaf-requires c κs =
     let j = c .before .before in
     let l = j .before .before in
-    let s = start l in
-    (s .pre .0, (s .pre .1 .0, (s .pre .1 .1, refinable (tableOf s) (given s) (s .args .place .now) (s .args .kind) (l .leaf-at .result) (l .leaf-at .ensures) _ (j .j .given .1))))
+    let s = entry l in (
+      s .pre .0,
+      (
+        s .pre .1 .0,
+        (
+          s .pre .1 .1,
+          refinable (given s) (lent s) (s .args .place .now) (s .args .kind) (l .leaf-at .result) (l .leaf-at .ensures)
+              _ (j .j .given .1),
+        ),
+      ),
+    )
 
 returns : tie.Need-returns
 returns c =
     let n = c .before in
     let l = n .before .before in
-    let s = start l in
-    refused (tableOf s) (given s) (s .args .place .now) (s .args .kind) (l .leaf-at .result) (l .leaf-at .ensures) (s .pre .0) (s .pre .1 .0) _ (n .n .given .1)
+    let s = entry l in
+    refused (given s) (lent s) (s .args .place .now) (s .args .kind) (l .leaf-at .result) (l .leaf-at .ensures) (s .pre .0) (s .pre .1 .0) _
+    (n .n .given .1)
 
 returns-2 : tie.Need-returns-2
 returns-2 c = c .refine-leaf .ensures

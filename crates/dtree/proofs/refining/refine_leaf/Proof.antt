@@ -26,15 +26,15 @@ use Rattle.dtree.proofs.refining.refine_leaf.Statement.{statement}
 use Rattle.dtree.proofs.refining.refine_leaf.Tie as tie
 
 -- Where the call began, seen from the leaf's record.
-abbrev start : tie.After-record-at → tie.Start
-start c = c .before .before .before .before .before .before
+abbrev entry : tie.After-record-at → tie.Start
+entry c = c .before .before .before .before .before .before
 
 -- The table and the tree.
-abbrev tableOf : tie.Start → Table
-tableOf s = table (s .args .weights .now) (s .args .present .now) (s .args .absent .now)
+abbrev given : tie.Start → Table
+given s = table (s .args .weights .now) (s .args .present .now) (s .args .absent .now)
 
-abbrev given : tie.Start → Tree
-given s = treeOf (s .args .tree .now)
+abbrev lent : tie.Start → Tree
+lent s = treeOf (s .args .tree .now)
 
 -- What the contract says of the tree y that is left, where `top` is its root's record.
 made-so : (t : Table) (x : Tree) (bs : List ℕ) (k : Kind) (j : ℕ) → Accepted t → Good t x → Refinable (wordTable (t .present) (t .absent)) x bs k j
@@ -48,19 +48,19 @@ record-at-requires : tie.Need-record-at-requires
 record-at-requires c κs = c .before .before .before .before .before .pre .1 .1 .1 .inside
 
 ways-of-requires : tie.Need-ways-of-requires
-ways-of-requires c κs = let s = start c in (few-ways (tableOf s) (s .pre .0), sym (paired-words (tableOf s) (s .pre .0)))
+ways-of-requires c κs = let s = entry c in (few-ways (given s) (s .pre .0), sym (paired-words (given s) (s .pre .0)))
 
 grow-requires : tie.Need-grow-requires
 grow-requires c κs =
     let w = c .before in
     let n = w .before in
-    let s = start n in
+    let s = entry n in
     let g = s .pre .1 .0 in
     let r = s .pre .1 .1 .1 in (
       s .pre .0,
       (
         ways-there (s .args .present .now) (s .args .absent .now) _ _ _ (n .record-at .ensures) (w .ways-of .ensures),
-        (r .fault, (s .pre .1 .1 .0, ((r .inside, odd-room (tableOf s) (given s) g (r .room)), lean-at (tableOf s) (given s) g (s .args .j)))),
+        (r .fault, (s .pre .1 .1 .0, ((r .inside, odd-room (given s) (lent s) g (r .room)), lean-at (given s) (lent s) g (s .args .j)))),
       ),
     )
 
@@ -70,8 +70,8 @@ record-at-requires-2 c κs = search needs
 returns : tie.Need-returns
 returns c =
     let g = c .before .before in
-    let s = start (g .before .before .before) in
-    made-so (tableOf s) (given s) (s .args .place .now) (s .args .kind) (s .args .j) (s .pre .0) (s .pre .1 .0) (s .pre .1 .1 .1) _ (g .grow .ensures) _
+    let s = entry (g .before .before .before) in
+    made-so (given s) (lent s) (s .args .place .now) (s .args .kind) (s .args .j) (s .pre .0) (s .pre .1 .0) (s .pre .1 .1 .1) _ (g .grow .ensures) _
     (c .record-at2 .ensures)
 
 pub refine-leaf-spec : {M : Type 1} → statement M

@@ -13,7 +13,8 @@ use Rattle.dtree.proofs.sixteen.is_good.Statement.{statement}
 use Rattle.dtree.proofs.sixteen.is_good.Tie as tie
 
 abbrev Inv-loop : tie.InvT-loop
-Inv-loop weights present absent tree used y₀ left₀ y left = Answers (record { weights = weights; present = present; absent = absent }) (treeOf tree) (treeOf y) left
+Inv-loop weights present absent tree used y₀ left₀ y left =
+    Answers (record { weights = weights; present = present; absent = absent }) (treeOf tree) (treeOf y) left
 
 abbrev μ-loop : tie.MeasureT-loop
 μ-loop weights present absent tree used y₀ left₀ y left = left

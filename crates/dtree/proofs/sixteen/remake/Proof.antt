@@ -17,8 +17,8 @@ use Rattle.dtree.proofs.sixteen.remake.Statement.{statement}
 use Rattle.dtree.proofs.sixteen.remake.Tie as tie
 
 -- The places before: where the call began, seen from the count; the count, seen from the next left child; and that child, seen from the leaf's record.
-abbrev start : tie.After-used-in → tie.Start
-start c = c .before .before .before .before .before
+abbrev entry : tie.After-used-in → tie.Start
+entry c = c .before .before .before .before .before
 
 abbrev counted : tie.After-record-at → tie.After-used-in
 counted c = c .before .before
@@ -27,8 +27,8 @@ abbrev at-child : tie.After-record-at3 → tie.After-record-at
 at-child c = c .before .before .before .before .before
 
 -- The table and the two trees.
-abbrev tableOf : tie.Start → Table
-tableOf s = table (s .args .weights .now) (s .args .present .now) (s .args .absent .now)
+abbrev given : tie.Start → Table
+given s = table (s .args .weights .now) (s .args .present .now) (s .args .absent .now)
 
 abbrev told-by : tie.Start → Tree
 told-by s = treeOf (s .args .x .now)
@@ -41,8 +41,9 @@ seen : (c : tie.After-may)
     → let l = c .before .before in
     let d = at-child l in
     let u = counted d in
-    let s = start u in
-    Read (tableOf s) (told-by s) (built s) (u .used-in .result) (d .record-at .result) (l .before .before .kind-of .result) (l .record-at3 .result) (c .may .result)
+    let s = entry u in
+    Read (given s) (told-by s) (built s) (u .used-in .result) (d .record-at .result) (l .before .before .kind-of .result) (l .record-at3 .result)
+    (c .may .result)
 seen c =
     let l = c .before .before in
     let d = at-child l in
@@ -52,14 +53,14 @@ seen c =
       child-is = d .record-at .ensures;
       kind-is = k .kind-of .ensures ∙ ap kindOf (k .before .record-at2 .ensures);
       leaf-is = l .record-at3 .ensures;
-      may-is = c .may .ensures .0 (start (counted d) .args .weights .now);
+      may-is = c .may .ensures .0 (entry (counted d) .args .weights .now);
     }
 
 used-in-requires : tie.Need-used-in-requires
 used-in-requires c κs = search needs
 
 returns : tie.Need-returns
-returns c = let s = start (c .before) in full (tableOf s) (told-by s) (built s) _ _ (c .before .used-in .ensures) (c .if1 .taken)
+returns c = let s = entry (c .before) in full (given s) (told-by s) (built s) _ _ (c .before .used-in .ensures) (c .if1 .taken)
 
 record-at-requires : tie.Need-record-at-requires
 record-at-requires c κs = search needs
@@ -68,8 +69,8 @@ returns-2 : tie.Need-returns-2
 returns-2 c =
     let d = c .before in
     let u = counted d in
-    let s = start u in
-    beyond (tableOf s) (told-by s) (built s) _ _ (u .used-in .ensures) _ (d .record-at .ensures) (c .if2 .taken)
+    let s = entry u in
+    beyond (given s) (told-by s) (built s) _ _ (u .used-in .ensures) _ (d .record-at .ensures) (c .if2 .taken)
 
 record-at-requires-2 : tie.Need-record-at-requires-2
 record-at-requires-2 c κs = search needs
@@ -82,8 +83,8 @@ record-at-requires-3 c κs = search needs
 
 ways-of-requires : tie.Need-ways-of-requires
 ways-of-requires c κs =
-    let s = start (counted (at-child c)) in
-    (few-ways (tableOf s) (s .pre .0), sym (paired-words (tableOf s) (s .pre .0)))
+    let s = entry (counted (at-child c)) in
+    (few-ways (given s) (s .pre .0), sym (paired-words (given s) (s .pre .0)))
 
 may-requires : tie.Need-may-requires
 may-requires c κs = search needs
@@ -99,7 +100,7 @@ grow-requires c κs =
     let l = w .before in
     let d = at-child l in
     let u = counted d in
-    let s = start u in
+    let s = entry u in
     let room = d .before .if1 .left in
     let inside = l .before .before .before .before .if2 .left in (
       s .pre .0,
@@ -111,7 +112,7 @@ grow-requires c κs =
             s .pre .1 .0,
             (
               (omega (arith, room, inside), omega (arith, room, u .used-in .ensures, s .pre .1 .1 .0)),
-              lean-at (tableOf s) (built s) (s .pre .1 .1 .1) _,
+              lean-at (given s) (built s) (s .pre .1 .1 .1) _,
             ),
           ),
         ),
@@ -124,8 +125,9 @@ returns-4 c =
     let m = i .before in
     let l = m .before .before in
     let d = at-child l in
-    let s = start (counted d) in
-    can _ _ _ _ _ _ _ _ _ (seen m) (not-false _ (i .if3 .left)) (d .before .if1 .left) (l .before .before .before .before .if2 .left) (s .pre .0) (s .pre .1 .1 .1)
+    let s = entry (counted d) in
+    can _ _ _ _ _ _ _ _ _ (seen m) (not-false _ (i .if3 .left)) (d .before .if1 .left) (l .before .before .before .before .if2 .left) (s .pre .0)
+    (s .pre .1 .1 .1)
     (c .grow .ensures)
 
 pub remake-spec : {M : Type 1} → statement M

@@ -57,7 +57,8 @@ module _ (t : Table) (u v : Tree) (x : Node) (c : Clauses) (k : Kind) (j next : 
     refined-here =
         let m : Branched (t .weights) (recordIn (u .nodes) j) (waysOf (t .present) (t .absent) c) k j (u .used) b = rw (x-is, next-is) at made in
         rw (put, next-is)
-        (three-refined t (u .nodes) (u .used) j k (waysOf (t .present) (t .absent) c) (leaf .ways-are (t .weights)) (b .node) (b .left) (b .right) (m .node-is) (m .left-is) (m .right-is))
+        (three-refined t (u .nodes) (u .used) j k (waysOf (t .present) (t .absent) c) (leaf .ways-are (t .weights)) (b .node) (b .left) (b .right)
+        (m .node-is) (m .left-is) (m .right-is))
 
     -- And v is raised, which gives w.
     grown : (w : Tree) → (w .nodes ≡ raise (t .weights) 64 (v .nodes) j) × (w .used ≡ v .used) × Safe (w .nodes)
@@ -116,7 +117,8 @@ raise-requires c κs =
     let q = s .pre .1 .1 .1 in (
       light (tableOf s) (s .pre .0),
       (
-        safe-put (tableOf s) (given s) _ _ (a .c) (a .k) (a .j) _ _ (c .before .before .before .branch-of .ensures) (c .before .put-branch .ensures) (long _) (q .1 .0 .0) (room _ _ (p .used-in .ensures) (q .1 .0 .1)) (q .0),
+        safe-put (tableOf s) (given s) _ _ (a .c) (a .k) (a .j) _ _ (c .before .before .before .branch-of .ensures) (c .before .put-branch .ensures) (long _)
+            (q .1 .0 .0) (room _ _ (p .used-in .ensures) (q .1 .0 .1)) (q .0),
         q .1 .0 .0,
       ),
     )

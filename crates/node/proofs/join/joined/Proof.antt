@@ -46,7 +46,8 @@ returns c =
     let high = c .before .before in
     let low = high .before in
     let k = low .before in
-    both-ends _ _ _ _ _ _ _ _ _ (k .kind-of .ensures) (low .combined .ensures .0) (high .combined2 .ensures .0) (c .before .overlap .ensures) (c .overlap2 .ensures)
+    both-ends _ _ _ _ _ _ _ _ _ (k .kind-of .ensures) (low .combined .ensures .0) (high .combined2 .ensures .0) (c .before .overlap .ensures)
+    (c .overlap2 .ensures)
     (k .before .before .pre .1 .0)
 
 pub joined-spec : {M : Type 1} → statement M
