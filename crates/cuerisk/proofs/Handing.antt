@@ -19,7 +19,7 @@ use Rattle.rules.proofs.Members.{In}
 use Rattle.rules.proofs.CueTables.{read-cue-accepted}
 use Rattle.rules.proofs.ReaderCalls.{cues-decoded, hands-over}
 use Rattle.sheet.specs.Handed.{sized, tableAt}
-use Rattle.sheet.specs.declared.table.CueTable.{CueTable as TableArrays}
+use Rattle.sheet.specs.declared.table.TableArrays.{TableArrays}
 use Rattle.sheet.proofs.Sized.{length-sized}
 use Rattle.sheet.proofs.Tables.{partsOf, entry-parts}
 use Rattle.cuerisk.specs.Numbers.{noTable, flatTable, tableBy, flatTableAt}

@@ -4,11 +4,10 @@ use mathlib.Core.Path.{_≡_, refl, ap, subst, _∙_}
 use mathlib.Core.List.{List}
 use mathlib.Core.Option.{none}
 use Prim.Native.Nat.{ℕ, zero, suc}
-use lib.ListN.{length}
-use Rattle.rules.specs.Answers.{Reply, countedBy, readReply, entryReply, writeReply}
+use Rattle.rules.specs.Answers.{Reply, countedBy, readReply, entryReply}
 use Rattle.rules.specs.Table.{Table}
 use Rattle.rules.specs.Calls.{Outcome, handed, ran}
-use Rattle.rules.specs.Sheet.{Lists, sheetOf, encode, readNumber, readAnswer, entryAnswer, writeNumber, writeAnswer, written}
+use Rattle.rules.specs.Sheet.{Lists, readNumber, readAnswer, entryAnswer}
 use Rattle.rules.specs.declared.Kind.{Kind}
 use Rattle.rules.specs.declared.Limits.{Limits}
 use Rattle.rules.specs.declared.Answer.{Answer}
@@ -19,6 +18,7 @@ use Rattle.rules.specs.declared.WriteAnswer.{WriteAnswer}
 use Rattle.records.specs.Library.{callOutcome}
 use Rattle.records.specs.declared.Tree.{Tree}
 use Rattle.dtree.specs.Promises.{Opening, Refining, Running}
+use Rattle.writer.specs.Promises.{Writing}
 use Rattle.cuerisk.specs.Numbers.{flat, flatAnswer, flatRun, flatWrite, flatSheet, flatEntry}
 use Rattle.cuerisk.specs.Told.{refineAnswer, runOnAnswer, OpeningTold, RefiningTold, RunningTold, ReadingTold, EntryTold, WritingTold}
 use Rattle.cuerisk.specs.declared.CueAnswer.{CueAnswer}
@@ -92,7 +92,6 @@ entry-told bs i a r p e =
 
 -- Writing told in numbers.
 pub writing-told : (x : Lists) (before : List ℕ) {after : List ℕ} {a : WriteAnswer} {r : CueAnswer}
-    → (a ≡ writeAnswer x (length before))
-    × ((writeReply a ≡ countedBy (writeNumber x (length before)) (length (encode (sheetOf x)))) × (after ≡ written x before))
-    → r ≡ flatWrite a → WritingTold x before after r
-writing-told x before p e = record { numbers = e ∙ ap flatWrite (p .0); counts = e ∙ ap (λ (y : Reply). flat y none) (p .1 .0); space = p .1 .1 }
+    → Writing x before after a → r ≡ flatWrite a → WritingTold x before after r
+writing-told x before p e =
+    record { numbers = e ∙ ap flatWrite (p .answer); counts = e ∙ ap (λ (y : Reply). flat y none) (p .reply); space = p .space }

@@ -156,7 +156,7 @@ pub fn of_entry(a: EntryAnswer) -> CueEntry
 }
 
 /// The numbers of a table that a sheet's reader hands over.
-pub fn of_table(t: sheet::table::CueTable) -> CueTable
+pub fn of_table(t: sheet::table::TableArrays) -> CueTable
     ensures { λ r. ⌜ r ≡ record {
       number = 0;
       past = 0;

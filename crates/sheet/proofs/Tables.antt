@@ -14,7 +14,7 @@ use Rattle.rules.specs.Refusals.{someAbove, crowded}
 use Rattle.rules.specs.Sheet.{Cue, tableOf, column, total, deal, sheetOf, listsIn, decode, faultsIn, cuesIn, numbersIn, countsIn, weightsIn, weightsStart, presentIn, absentIn, bodiesIn, readNumber, entryIn, bodyIn}
 use Rattle.rules.proofs.Booleans.{or-left, or-right}
 use Rattle.rules.proofs.Bytes.{length-column}
-use Rattle.sheet.specs.declared.table.CueTable.{CueTable}
+use Rattle.sheet.specs.declared.table.TableArrays.{TableArrays}
 use Rattle.sheet.specs.Handed.{sized, tableAt, bodyOr, bodyBy}
 use Rattle.sheet.proofs.Accepted.{Few, accepted-few}
 use Rattle.sheet.proofs.Entries.{column-part, starts-getD}
@@ -60,7 +60,7 @@ dealt (n ∷ ns) (k ∷ ks) ps qs (suc i) d h g =
 -- ---- the table
 
 -- The parts of a table are these weights and the words of this cue.
-pub record Holds (t : CueTable) (ws : List ℕ) (c : Cue) : Type 0 where
+pub record Holds (t : TableArrays) (ws : List ℕ) (c : Cue) : Type 0 where
   pub weights : take (t .faults) (t .weights) ≡ ws
   pub present : take (t .ways) (t .present) ≡ c .present
   pub absent : take (t .ways) (t .absent) ≡ c .absent
@@ -105,16 +105,16 @@ module _ (bs : List ℕ) (few : Few bs) (i : ℕ) (inside : i < cuesIn bs) where
       rw (le-leb (entryIn bs i .start + 16 * getD (countsIn bs) i 0) (length bs) (omega (arith, start, few .ends, total-front (countsIn bs) i)))
 
 -- The table that a caller takes from the arrays.
-abbrev pub partsOf : CueTable → Table
+abbrev pub partsOf : TableArrays → Table
 partsOf t = record { weights = take (t .faults) (t .weights); present = take (t .ways) (t .present); absent = take (t .ways) (t .absent) }
 
 module _ (bs : List ℕ) (accepted : readNumber bs ≡ 0) (i : ℕ) (inside : i < cuesIn bs) where
   -- THE TABLE OF THE i-TH ENTRY of accepted bytes holds the words of the i-th cue of the sheet that they give.
-  pub entry-table : (d : Cue) {t : CueTable} → t ≡ tableAt bs (entryIn bs i) → Holds t (weightsIn bs) (getD (decode bs .cues) i d)
+  pub entry-table : (d : Cue) {t : TableArrays} → t ≡ tableAt bs (entryIn bs i) → Holds t (weightsIn bs) (getD (decode bs .cues) i d)
   entry-table d e = rw e (holds bs (accepted-few bs accepted) i inside d)
 
   -- So its parts are that cue's table.
-  pub entry-parts : (d : Cue) {t : CueTable} → t ≡ tableAt bs (entryIn bs i) → partsOf t ≡ tableOf (decode bs .weights) (getD (decode bs .cues) i d)
+  pub entry-parts : (d : Cue) {t : TableArrays} → t ≡ tableAt bs (entryIn bs i) → partsOf t ≡ tableOf (decode bs .weights) (getD (decode bs .cues) i d)
   unfolding decode sheetOf listsIn
   entry-parts d e =
       let h = entry-table d e in

@@ -8,7 +8,7 @@ use lib.ListN.{length}
 use lib.Dec.{leb}
 use Rattle.rules.specs.Sheet.{column, faultsIn, weightsIn, bodyIn}
 use Rattle.rules.specs.declared.Entry.{Entry}
-use Rattle.sheet.specs.declared.table.CueTable.{CueTable}
+use Rattle.sheet.specs.declared.table.TableArrays.{TableArrays}
 
 unfoldable pub bodyBy : Bool → List ℕ → List ℕ
 bodyBy true body = body
@@ -25,7 +25,7 @@ sized (suc m) [] = 0 ∷ sized m []
 sized (suc m) (x ∷ xs) = x ∷ sized m xs
 
 -- The sheet's weights and the words of an entry's body: at most 64 and 128, and 0 behind them.
-unfoldable pub tableAt : List ℕ → Entry → CueTable
+unfoldable pub tableAt : List ℕ → Entry → TableArrays
 tableAt bs e =
     record {
       weights = sized 64 (weightsIn bs);
@@ -36,7 +36,7 @@ tableAt bs e =
     }
 
 -- A table handed over for an entry: which it is, and what a caller has to know to take parts of its arrays.
-pub record HandedOver (bs : List ℕ) (e : Entry) (t : CueTable) : Type 0 where
+pub record HandedOver (bs : List ℕ) (e : Entry) (t : TableArrays) : Type 0 where
   pub table : t ≡ tableAt bs e
   pub faults : t .faults ≤ 64
   pub ways : t .ways ≤ 128

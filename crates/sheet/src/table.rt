@@ -8,7 +8,7 @@ use super::head::faults_in;
 use rules::Entry;
 
 /// A cue's table: the first `faults` weights, the first `ways` words of each kind, and zeros behind them.
-pub struct CueTable {
+pub struct TableArrays {
     pub weights: [u32; 64],
     pub faults: usize,
     pub present: [u64; 128],
@@ -17,7 +17,7 @@ pub struct CueTable {
 }
 
 /// The table of an entry, whether or not the entry comes from the sheet.
-pub fn table(s: &[u8], e: Entry) -> CueTable
+pub fn table(s: &[u8], e: Entry) -> TableArrays
     ensures table { λ r. ⌜ HandedOver (now (s .entry)) e r ⌝ }
 {
     let start = e.start as usize;
@@ -25,7 +25,7 @@ pub fn table(s: &[u8], e: Entry) -> CueTable
     let weights = weights(s);
     let present = words(s, start, rows);
     let absent = words(s, start + 8, rows);
-    CueTable {
+    TableArrays {
         weights,
         faults: at_most(faults_in(s), 64),
         present,

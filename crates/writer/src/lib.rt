@@ -20,7 +20,7 @@ pub fn write(
     limits: Limits,
     space: &mut [u8],
 ) -> WriteAnswer
-    ensures writing { λ r. ⌜ Writing (given (now (weights .entry)) (now (numbers .entry)) (now (counts .entry)) (now (present .entry))
+    ensures promise { λ r. ⌜ Writing (given (now (weights .entry)) (now (numbers .entry)) (now (counts .entry)) (now (present .entry))
         (now (absent .entry)) limits) (now (space .entry)) (now (space .exit)) r ⌝ }
 {
     let number = write_number(
