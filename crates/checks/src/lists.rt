@@ -32,7 +32,7 @@ pub fn overweight(weights: &[u32]) -> bool
     false
 }
 
-/// 6: a cue counts more than 128 ways.
+/// 6: a way count is above 128.
 pub fn crowded(counts: &[u16]) -> bool
     ensures { λ r. ⌜ r ≡ Refusals.crowded (now (counts .entry)) ⌝ }
 {
@@ -46,7 +46,7 @@ pub fn crowded(counts: &[u16]) -> bool
     false
 }
 
-/// 5: a cue number is 0 or not above the one before it.
+/// 5: the first cue number is 0, or some number is not above the one before it.
 pub fn not_rising(numbers: &[u16]) -> bool
     ensures { λ r. ⌜ r ≡ Refusals.notRising (now (numbers .entry)) ⌝ }
 {

@@ -36,14 +36,14 @@ fn beyond(n: usize, word: u64) -> bool
     word >> n != 0
 }
 
-/// 11: more than 128 ways, or present and absent words in different numbers.
+/// 11: more than 128 present words, or not as many absent words.
 pub fn words_amiss(present: &[u64], absent: &[u64]) -> bool
     ensures { λ r. ⌜ r ≡ wordsAmiss (now (present .entry)) (now (absent .entry)) ⌝ }
 {
     128 < present.len() || present.len() != absent.len()
 }
 
-/// 12: a way names a fault at or above n, the number of faults.
+/// 12: a way names a fault numbered n or above, where n is how many there are.
 pub fn names_beyond(n: usize, present: &[u64], absent: &[u64]) -> bool
     requires { ⌜ n ≤ 64 ⌝ }
     ensures { λ r. ⌜ r ≡ namesBeyond n (rows 0 (now (present .entry)) (now (absent .entry))) ⌝ }
@@ -62,7 +62,7 @@ pub fn names_beyond(n: usize, present: &[u64], absent: &[u64]) -> bool
     false
 }
 
-/// 13: a way names one fault both present and absent.
+/// 13: a way names a fault in both senses.
 pub fn names_both(present: &[u64], absent: &[u64]) -> bool
     ensures { λ r. ⌜ r ≡ namesBoth (rows 0 (now (present .entry)) (now (absent .entry))) ⌝ }
 {

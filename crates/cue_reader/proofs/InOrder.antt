@@ -1,4 +1,4 @@
--- A reader that is called again and again hands over the cues of its sheet in order, one at each call (01, "The sheet").
+-- A reader that is called again and again hands over the cues of its sheet in order, one at each call (RULES 7.12).
 -- Rests on `rules`, ReaderCalls, and on Moved.antt: what a call at each position gives.
 use mathlib.Core.Path.{_≡_, refl, sym, ap, _∙_}
 use mathlib.Core.List.{List}

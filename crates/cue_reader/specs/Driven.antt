@@ -1,4 +1,4 @@
--- A reader that is opened on bytes and called again and again (01, "The sheet").
+-- A reader that is opened on bytes and called again and again (RULES 7.12).
 -- Rests on `rules`, Answers for the place after a call and Sheet for its answer.
 use mathlib.Core.List.{List}
 use Prim.Native.Nat.{ℕ, zero, suc}

@@ -1,4 +1,4 @@
--- What a reader's call promises, in the words of 01, "The sheet".
+-- What a reader's call promises (RULES 7.11, 7.12).
 -- Rests on `rules`, Answers for what each answer says and Sheet for the answer itself.
 use mathlib.Core.Path.{_≡_}
 use mathlib.Core.List.{List}
@@ -17,13 +17,13 @@ HasCue bs i = (readNumber bs ≡ 0) × (i < cuesIn bs)
 pub record ReaderCalled (d : Reader) (a : EntryAnswer) (x : Reader) : Type 0 where
   -- The answer is the rules' answer at the reader's place.
   pub answer-is : a ≡ entryAnswer (now (d .sheet)) (d .at)
-  -- "A reader keeps the sheet it was opened on ..
+  -- The sheet stays.
   pub sheet-is : x .sheet ≡ d .sheet
-  -- .. and its place in the contents": one further for a cue, else as it was.
+  -- The position moves on by one for a cue, else it stays.
   pub place-is : x .at ≡ placeAfter (d .at) a
-  -- "On a sheet that reading would refuse, the call gives that number", and else number 0.
+  -- The number is that of reading the sheet, 0 if it is not refused.
   pub numbered : entryReply a ≡ countedBy (readNumber (now (d .sheet))) 0
-  -- "Each call hands over one cue": the one at the reader's place, which moves on.
+  -- A cue is handed over: the one at the reader's position, which moves on.
   pub hands-over : HasCue (now (d .sheet)) (d .at) → (a ≡ EntryAnswer.Cue (entryIn (now (d .sheet)) (d .at))) × (x .at ≡ suc (d .at))
-  -- "Refused or past the last, it hands over cue 0 with 0 ways and keeps its place."
+  -- Refused or past the last cue: cue 0 without ways, and the position stays.
   pub keeps : (HasCue (now (d .sheet)) (d .at) → ⊥) → (handedOver a .cue ≡ 0) × ((handedOver a .ways ≡ 0) × (x .at ≡ d .at))

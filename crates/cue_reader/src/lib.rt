@@ -1,4 +1,4 @@
-//! A reader of a sheet: it keeps the sheet it was opened on and its place in the contents (01, "The sheet").
+//! A reader of a sheet: it holds a sheet and a position in its contents (RULES 7.12).
 //! The work is `call_at`'s, on a slice and a number. Whatever takes or makes a `Reader`, which holds a reference, is proved by hand.
 ghost use mathlib.Core.Path.{_≡_};
 ghost use Rattle.rules.specs.Answers.{placeAfter};

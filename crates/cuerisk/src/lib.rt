@@ -132,7 +132,7 @@ pub extern "C" fn cue_run(
     of_run(dtree::runs::run(weights, present, absent, tree, Limits { allowance, budget }))
 }
 
-/// The first position with the widest open leaf in any records.
+/// Where the widest open leaf stands in any records, the first of equally wide ones.
 #[no_mangle]
 pub extern "C" fn cue_widest(records: &[Node]) -> CueSpot
     ensures promise { λ r. ⌜ SearchTold (now (records .entry)) r ⌝ }

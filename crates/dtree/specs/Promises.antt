@@ -129,7 +129,7 @@ pub record OneMore (x : Tree) (bs : List ℕ) (k : Kind) (y : Tree) : Type 0 whe
   pub records-more : y .used ≡ x .used + 2
   pub left-leaf : LeafSeen y (place ++ (left ∷ []))
   pub right-leaf : LeafSeen y (place ++ (right ∷ []))
-  -- What was done at any other place stays, and every place that is neither on the path to it nor below it keeps its interval.
+  -- RULES 4.11: what was done at any other place stays, and so does the interval of every place off the path to it and not below it.
   pub kinds-stay : (q : Place) → (q ≡ place → ⊥) → treeKind y q ≡ treeKind x q
   pub intervals-stay : (q : Place) → onPath q place ≡ false → onPath place q ≡ false → treeInterval y q ≡ treeInterval x q
 

@@ -50,7 +50,7 @@ fn leaf_low(weights: &[u32], present: &[u64], absent: &[u64], c: Clauses) -> u64
     low
 }
 
-/// Leaf high: the sum of the high chances, or S if that is less.
+/// The high end of a leaf: the sum of the high chances, at most S.
 fn leaf_high(weights: &[u32], present: &[u64], absent: &[u64], c: Clauses) -> u64
     requires { ⌜ length (now weights) ≤ 64 ⌝ }
     requires { ⌜ overweight (now weights) ≡ false ⌝ }

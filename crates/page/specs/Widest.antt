@@ -1,4 +1,4 @@
--- The first position with the widest open leaf in any list of records (01, "Refining": "The page that draws the tree ..").
+-- At which position the widest open leaf stands, in any list of records (RULES 10).
 -- First the search, then the law that it obeys, which speaks of no search. Rests on the records.
 use mathlib.Core.Path.{_≡_}
 use mathlib.Core.Bool.{Bool, true, false, _&&_}

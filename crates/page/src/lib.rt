@@ -1,4 +1,4 @@
-//! The search for the page that draws the tree: the first position with the widest open leaf in lent records, whatever they hold.
+//! The search for the page that draws the tree: at which position the widest open leaf stands in lent records, whatever they hold (RULES 10).
 //! Rests on the records of `records`, read by `node`. specs/ has the search as a definition and what it finds; proofs/ what that says of a tree.
 ghost use mathlib.Core.Path.{_≡_};
 ghost use Rattle.page.specs.Widest.{countedWidth, noneYet, betterOf, answerOf, widestOf, WidestLaw};
@@ -57,7 +57,7 @@ fn answer(best: Best) -> Spot
     }
 }
 
-/// The first position with the widest open leaf in lent records, or that there is none.
+/// Where the widest open leaf stands in lent records, the first of equally wide ones, or that there is none.
 pub fn widest(records: &[Node]) -> Spot
     ensures answer { λ r. ⌜ r ≡ widestOf (now (records .entry)) ⌝ }
     ensures law { λ r. ⌜ WidestLaw (now (records .entry)) r ⌝ }

@@ -1,5 +1,5 @@
-//! A test: a reader is driven past the last cue of 01's sheet, which standard input has, and over that sheet cut short or changed in one byte.
-//! A line for each call: number, 1 past the last, cue, ways, start of the body. Each expected line follows from 01, as said beside its sheet.
+//! A test: a reader is driven past the last cue of the sheet of RULES 11.7, which standard input has, and over that sheet cut short or changed in one byte.
+//! A line for each call: number, 1 past the last, cue, ways, start of the body. Each expected line follows from RULES 7 and 8, as said beside its sheet.
 mod lines;
 
 ghost use Prim.Native.Nat.{_<_, _≤_};
@@ -33,7 +33,7 @@ fn changed(s: [u8; 72], at: usize, byte: u8)
 
 /// Sheets that are refused before their contents are looked at. The second call gives the number again.
 fn refused_early(s: [u8; 72]) {
-    // 1: "An 11-byte sheet is refused 1."
+    // 1: 11 bytes (RULES 11.9).
     cut(s, 11);
     // 2: 65 faults; no cues.
     changed(s, 0, 65);

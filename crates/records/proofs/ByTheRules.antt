@@ -16,7 +16,7 @@ use Rattle.records.specs.declared.Tree.{Tree}
 use Rattle.records.proofs.History.{history-layout}
 use Rattle.records.proofs.Sixteen.{layout-good}
 
--- An accepted opening gives the root leaf alone.
+-- The tree of an accepted opening is the leaf at the root alone (RULES 5.2).
 pub opened : (t : Table) → Accepted t → openTree t ≡ layout t []
 unfolding openTree openBy
 opened t ok = ap (λ (n : ℕ). openBy n t) ok

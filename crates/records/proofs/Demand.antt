@@ -33,12 +33,12 @@ pub record Shared (t : Table) (cs cs′ : List Call) : Type 0 where
   -- the interval at every place, and what was done there
   pub intervals : (p : Place) → treeInterval (after t cs) p ≡ treeInterval (after t cs′) p
   pub kinds : (p : Place) → treeKind (after t cs) p ≡ treeKind (after t cs′) p
-  -- the count of refinements: the number of the noted places, and the sum of what either list's calls reported
+  -- the number of refinements: how many are noted, and for either list the sum of its counts
   pub count : treeCount (after t cs) ≡ treeCount (after t cs′)
   pub places : treeCount (after t cs) ≡ length (noted t cs)
   pub reported : treeCount (after t cs) ≡ reports (said t cs)
   pub reported′ : treeCount (after t cs) ≡ reports (said t cs′)
-  -- the outcome of every further run, refused ones included: its answer, and then the places, what was done at each and their intervals
+  -- the outcome of every further run, refused ones included (RULES 5.13): its answer, and then every place with its kind and its interval
   pub answers : (m : Limits) → callOutcome t (after t cs) (byRun m) ≡ callOutcome t (after t cs′) (byRun m)
   pub then-intervals : (m : Limits) (p : Place) → treeInterval (callTree t (after t cs) (byRun m)) p ≡ treeInterval (callTree t (after t cs′) (byRun m)) p
   pub then-kinds : (m : Limits) (p : Place) → treeKind (callTree t (after t cs) (byRun m)) p ≡ treeKind (callTree t (after t cs′) (byRun m)) p
@@ -52,11 +52,8 @@ pub record RootWithin (x y : Tree) : Type 0 where
   pub low-rises : was .low ≤ now .low
   pub high-falls : now .high ≤ was .high
 
--- DEMAND 3. "Two operators work from one accepted table, each from its fresh opening. For every two lists of hand refinements and runs,
--- refused ones included, in whatever orders: if both end with the same places refined and the same thing done at each, they share
--- the interval at every place, the count of refinements (the number of those places, and the sum of what either list's calls
--- reported), and the outcome of every further run on equal allowance and budget. Along every such list no refinement, by hand or
--- within a run, widens the interval at the root: its low end never falls, its high end never rises."
+-- DEMAND 3 (RULES 5.14, 5.15, 4.13), of the library's trees: two lists of calls that note the same refinements in the end, in whatever order, share every
+-- interval, the number of refinements and the outcome of every further run; and along a list no refinement widens the root.
 pub record Demand-3-library (t : Table) : Type 0 where
   -- A. after every list the tree is that of the refinements noted by the rules, each call has said what the rules say, and 16 does not apply
   pub goes-by-the-rules : (cs : List Call) → ByTheRules t cs

@@ -119,7 +119,7 @@ layout-is-good t ns h = rw (history-layout t ns h) (and-both (series t ns) _ h (
 pub good-all : (t : Table) (x : Tree) → Good t x → isGood t x ≡ true
 good-all t x g = ap (isGood t) (g .is) ∙ layout-is-good t (g .made) (g .accepted)
 
--- 16 AS THE DOCUMENT SAYS IT: the trees to which it does not apply are exactly those that this table and some series of accepted refinements give.
+-- 16 AS RULES 6.8 SAYS IT: the trees to which it does not apply are exactly those that some series of acceptable refinements gives.
 pub sixteen : (t : Table) (x : Tree) → (bad t x ≡ false) ↔ Good t x
 unfolding bad
 sixteen t x = (λ h. good-sure t x (not-false (isGood t x) h), λ g. ap not (good-all t x g))

@@ -1,5 +1,5 @@
 -- What the records of a tree hold: `layout` of a series of refinements, and `history`, the series read back off any records.
--- This names what 01 leaves free: which record holds a place, the blank, and the codes. Rests on the rules alone.
+-- RULES 6: which record holds a place, the blank, and the codes. Rests on the rules alone.
 use mathlib.Core.Path.{_≡_}
 use mathlib.Core.Bool.{Bool, true, false, not, _&&_}
 use mathlib.Core.List.{List, [], _∷_, _++_, map}
@@ -223,11 +223,11 @@ sameTree x y = eqb (x .used) (y .used) && sameNodes (x .nodes) (y .nodes)
 unfoldable pub isGood : Table → Tree → Bool
 isGood t x = series t (history x) && sameTree x (layout t (history x))
 
--- 16: the tree, records and stored intervals included, is not one that this table and some series of accepted refinements gives.
+-- 16: the tree, with all that its records hold, is not good for the table (RULES 6.8).
 unfoldable pub bad : Table → Tree → Bool
 bad t x = not (isGood t x)
 
--- The document's words for a good tree: some series of accepted refinements from a single root leaf gives it.
+-- A good tree (RULES 6.8): some series of acceptable refinements of the root leaf gives it.
 pub record Good (t : Table) (x : Tree) : Type 0 where
   pub made : List Refinement
   pub accepted : series t made ≡ true

@@ -186,17 +186,17 @@ pub record Share (t : Table) (cs cs′ : List Call) : Type 0 where
   -- the interval at every place, and what was done there
   pub intervals : (p : Place) → intervalAt t p (tree (noted t cs)) ≡ intervalAt t p (tree (noted t cs′))
   pub kinds : (p : Place) → kindAt p (tree (noted t cs)) ≡ kindAt p (tree (noted t cs′))
-  -- the count of refinements: the number of the noted places, and the sum of what either list's calls reported
+  -- the number of refinements: how many are noted, and for either list the sum of its counts
   pub count : inners (tree (noted t cs)) ≡ inners (tree (noted t cs′))
   pub places : inners (tree (noted t cs)) ≡ length (noted t cs)
   pub reported : inners (tree (noted t cs)) ≡ reports (outcomes t cs)
   pub reported′ : inners (tree (noted t cs)) ≡ reports (outcomes t cs′)
-  -- the outcome of every further run, refused ones included: number, verdict and report, then the places, what was done at each and their intervals
+  -- the outcome of every further run, refused ones included (RULES 5.13): number, verdict and count, then every place with its kind and its interval
   pub answers : (m : Limits) → outcome t (tree (noted t cs)) (byRun m) ≡ outcome t (tree (noted t cs′)) (byRun m)
   pub then-kinds : (m : Limits) (p : Place) → kindAt p (afterRun t (tree (noted t cs)) m) ≡ kindAt p (afterRun t (tree (noted t cs′)) m)
   pub then-intervals : (m : Limits) (p : Place) → intervalAt t p (afterRun t (tree (noted t cs)) m) ≡ intervalAt t p (afterRun t (tree (noted t cs′)) m)
 
--- DEMAND 3, B: if both lists end with the same places refined and the same thing done at each, they share all of this.
+-- DEMAND 3, B: lists that note the same refinements in the end share all of this (RULES 5.15).
 pub same-share : (t : Table) → Accepted t → (cs cs′ : List Call) → Same (noted t cs) (noted t cs′) → Share t cs cs′
 same-share t ok cs cs′ e =
     record {

@@ -1,4 +1,4 @@
--- WHERE TO LOOK FIRST: what is shown of the rules, each claim under the words of the document that it settles.
+-- WHERE TO LOOK FIRST: what is shown of the rules, each claim under the clauses of docs/RULES.md that it settles.
 -- Every claim here is about the definitions in specs/; the contracts of the code say that its results equal those definitions.
 use mathlib.Core.Path.{_≡_, sym, ap, _∙_, subst}
 use mathlib.Core.Bool.{true, false}
@@ -35,22 +35,22 @@ use Rattle.rules.proofs.CueTables.{LineCertain, printed-certain}
 use Rattle.rules.proofs.RoundTrip.{bytesOf, OfSheet, write-exactly, Put, write-read, read-write}
 use Rattle.rules.proofs.Sheets.{IsSheet, accepted-exactly, accepts-encoded, decode-encode, encode-decode, within-decoded, longest, attained, first-bytes}
 
--- ---- "The interval at each point of the tree .. always contains the exact weighted sum over all combinations of faults that satisfy some way of that point."
+-- ---- RULES 4.12: the interval at every place encloses the exact sum of the ways there.
 
 -- What holds at a place of a tree that a series of acceptable refinements grew.
 pub record AtPlace (t : Table) (p : Place) (x : Subtree) : Type 0 where
   -- Its interval encloses the exact sum over its remaining ways, low ≤ high, and high is at most S.
   pub interval-certain : CertainAt (t .weights) x
-  -- Its remaining ways are what stays of those of its set that no fixed fault contradicts, with the fixed faults dropped.
+  -- RULES 3.5: its ways are what stays of those of its set that no fixed fault contradicts, without the fixed faults.
   pub ways-remaining : Handed (ways t) (x .node)
-  -- (02, a) "an interval still encloses the exact sum over all ways that remained before any was left out"
+  -- RULES 3.7: it also encloses the exact sum of all that remained there, left out or not.
   pub over-all : Encloses (t .weights) (remaining (x .node .present) (x .node .absent) (ofSet (x .node .set) (ways t)))
       (interval (t .weights) x .low) (interval (t .weights) x .high)
-  -- (02, a) "This comes first at every leaf": of what a place has, nothing can be left out.
+  -- RULES 3.4: of what a place has, nothing can be left out.
   pub nothing-new : Lean (x .node .ways)
   -- They stand in number order.
   pub in-order : Rising 0 (x .node .ways)
-  -- "Each refinement removes a fault from both sides, so there are at most 64 levels."
+  -- RULES 4.9: no place is longer than 64 steps.
   pub level : length p ≤ 64
 
 pub at-place : (t : Table) → Accepted t → (ns : List Refinement) → series t ns ≡ true → (p : Place) (x : Subtree) → subtree t p (tree ns) ≡ some x
@@ -69,12 +69,11 @@ at-place t ok ns h p x e =
       level = levels t ok ns h p (subtree-has p (root t) (tree ns) x e);
     }
 
--- "At most 255 refinements, so at most 511 nodes."
+-- RULES 4.10: a tree has at most 511 nodes.
 pub at-most-511 : (t : Table) (ns : List Refinement) → series t ns ≡ true → nodes (tree ns) ≤ 511
 at-most-511 = few-nodes
 
--- ---- "It makes that one refinement at that leaf and no other, count 1: the tree gains one inner node with its two leaves, and every place that is
--- ---- neither on the path to it nor below it keeps what it had." "No refinement .. widens the interval at the root."
+-- ---- RULES 4.11, 4.13, 5.5: what one refinement changes in a tree, and that it widens no place.
 
 -- What one acceptable refinement n changes in the tree s.
 pub record OneRefinement (t : Table) (s : DTree) (n : Refinement) : Type 0 where
@@ -114,18 +113,18 @@ one-refinement t s n a =
     stays : (q : Place) → onPath q (n .place) ≡ false → onPath (n .place) q ≡ false → subtree t q (refine n s) ≡ subtree t q s
     stays q g h = elsewhere q (n .place) (n .kind) (root t) s g h
 
--- ---- "A run just those its rule picks, and each reports their number; 'met' is said only if the root is as narrow as the allowance asks."
+-- ---- RULES 5.7 to 5.12: what a run makes, why it stops and what it reports.
 
 -- What a run with this allowance and budget does to the tree s.
 pub record OneRunOf (t : Table) (allowance budget : ℕ) (s : DTree) : Type 0 where
-  -- "A run reports the refinements it made, which is the number of inner nodes after it less the number before."
+  -- RULES 5.10: it reports the inner nodes after it less those before it.
   pub report : length (picks t allowance budget s) ≡ inners (ran t allowance budget s) - inners s
   pub in-budget : length (picks t allowance budget s) ≤ budget
-  -- "It stops with the first that applies": met, done, full, spent.
+  -- RULES 5.7: the verdict is the first of met, done, full, spent that applies.
   pub stops : Exactly t allowance (ran t allowance budget s) (verdict t allowance budget s)
-  -- "Two runs with the same allowance and budgets a then b .. leave the tree and verdict of one run with a + b."
+  -- RULES 5.12: two runs in a row are one run with both budgets together.
   pub cut : (more : ℕ) → OneRun t allowance budget more s
-  -- Budget 1, on a tree that does not start out met, done or full: one inner node and no more.
+  -- RULES 5.11: budget 1, on a tree that is not met, done or full at the start: one inner node and no more.
   pub single : (n : Refinement) → TooWide t allowance s → next t s ≡ some n → inners s < 255 → picks t allowance 1 s ≡ n ∷ []
 
 pub one-run : (t : Table) → Accepted t → (allowance budget : ℕ) (s : DTree) → OneRunOf t allowance budget s
@@ -138,7 +137,7 @@ one-run t ok a b s =
       single = one-step t a s;
     }
 
--- ---- "The interval handed back .." of every call after an accepted opening that is not refused.
+-- ---- RULES 5.1: the interval that every accepted call after an opening hands back.
 
 -- It encloses the exact sum over the table's ways, stands in order, is at most S, lies within the one before, and its count is inner nodes after less before.
 pub every-answer : (t : Table) → Accepted t → (ns : List Refinement) → series t ns ≡ true → (c : Call) → callNumber t (tree ns) c ≡ 0 → HandsBack t (tree ns) c
@@ -148,7 +147,7 @@ every-answer = hands-back
 pub by-hand-one : (t : Table) → Accepted t → (s : DTree) (bs : List ℕ) (k : Kind) → handNumber t false s bs k ≡ 0 → HandMade t s bs k
 by-hand-one = hand-made
 
--- ---- "Every table .. inside the listed limits is accepted .. All others are refused."
+-- ---- RULES 2.10: a table is accepted exactly if it is in order.
 
 pub inside-exactly : (t : Table) → Accepted t ↔ Inside t
 inside-exactly t = (accepted-inside t, inside-accepted t)
@@ -165,10 +164,8 @@ within-cues = cue-inside
 pub writes-exactly : (x : Lists) (n : ℕ) → AllBelow 65536 (x .numbers) → (writeNumber x n ≡ 0) ↔ OfSheet x n
 writes-exactly = write-exactly
 
--- ---- DEMAND 3. "Two operators work from one accepted table, each from its fresh opening. For every two lists of hand refinements and runs, refused ones
--- ---- included, in whatever orders: if both end with the same places refined and the same thing done at each, they share the interval at every place, the
--- ---- count of refinements .., and the outcome of every further run on equal allowance and budget. Along every such list no refinement, by hand or within a
--- ---- run, widens the interval at the root: its low end never falls, its high end never rises."
+-- ---- DEMAND 3 (RULES 5.14, 5.15, 4.13): two lists of calls that note the same refinements in the end, in whatever order, share every interval, the number
+-- ---- of refinements and the outcome of every further run; and along a list no refinement widens the root.
 
 pub record Demand-3 (t : Table) : Type 0 where
   pub share : (cs cs′ : List Call) → Same (noted t cs) (noted t cs′) → Share t cs cs′
@@ -185,7 +182,7 @@ demand-3 t ok =
       once = λ cs a b n m e i q. places-differ t (noted t cs) a b n m (noted-series t ok cs) e i q;
     }
 
--- ---- "A sheet written and read is the same sheet, from either end." "The longest sheet has 49,612 bytes."
+-- ---- RULES 7.8, 7.18: which bytes reading accepts, how many they are, and that what is written and read is the same.
 
 pub record SheetBytes (bs : List ℕ) : Type 0 where
   -- Reading accepts a list of bytes exactly if it is the encoding of a sheet within the limits.
@@ -217,7 +214,7 @@ same-sheet s w = (accepts-encoded s w, decode-encode s w)
 pub longest-sheet : (s : Sheet) × Within s × (length (encode s) ≡ 49612)
 longest-sheet = attained
 
--- ---- "A sheet written and read is the same sheet, from either end", of the calls: what is written and read is what was given, and what is read and written is
+-- ---- RULES 7.18, of the calls: what is written and read is what was given, and what is read and written is
 -- ---- the same bytes.
 
 pub written-read : (x : Lists) (space : List ℕ) → AllBelow 65536 (x .numbers) → writeNumber x (length space) ≡ 0
@@ -228,7 +225,7 @@ pub read-written : (bs : List ℕ) → AllBelow 256 bs → readNumber bs ≡ 0 �
     → (writeNumber (listsIn bs) (length space) ≡ 0) × Put (listsIn bs) bs space
 read-written = read-write
 
--- ---- "The program .. prints an interval for each cue": every printed line is certain.
+-- ---- RULES 9.3: every printed line is certain.
 
 -- Each cue of an accepted sheet is an accepted table, its printed interval encloses the exact sum over its ways, and met is printed exactly if it is
 -- narrow enough.

@@ -1,4 +1,4 @@
--- THE WAYS THAT A TREE HANDS DOWN are the remaining ways as 01 words them: by the node's set of ways and its fixed faults.
+-- THE WAYS THAT A TREE HANDS DOWN are those of RULES 3.2 to 3.5: by the node's set of ways and its fixed faults.
 -- By induction over the path, from the laws of each kind (KindLaws.antt), with what a record tells: the ways by their own numbers.
 use mathlib.Core.Path.{_≡_, sym, ap, _∙_, subst}
 use mathlib.Core.Bool.{true, not}

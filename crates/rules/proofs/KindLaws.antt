@@ -78,7 +78,7 @@ some-occurs n (v ∷ vs) h e o =
 abbrev pub ByNumbers : List Way → Node → Type 0
 ByNumbers all x = remaining (x .present) (x .absent) (ofSet (x .ways) all) ≡ x .ways
 
--- A node's ways by its set, as 01 words them: what stays of the table's ways in the set that no fixed fault contradicts, with the fixed faults dropped.
+-- A node's ways by its set (RULES 3.2 to 3.5): what stays of the table's ways in the set that no fixed fault contradicts, without the fixed faults.
 abbrev pub Handed : List Way → Node → Type 0
 Handed all x = x .ways ≡ minimal (remaining (x .present) (x .absent) (ofSet (x .set) all))
 

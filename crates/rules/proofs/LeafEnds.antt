@@ -1,5 +1,5 @@
 -- The ends of a leaf: leaf low and leaf high bound the exact sum of its ways, and are at most S.
--- Rests on Chance.antt, Rounding.antt and, for the kept ways, on independence (003, Definition 2).
+-- Rests on Chance.antt, Rounding.antt and, for the kept ways, on independence (RULES 3.9, 3.10).
 use mathlib.Core.Path.{_≡_, refl, sym, _∙_}
 use mathlib.Core.Bool.{Bool, true, false, not, true≢false}
 use mathlib.Core.List.{List, [], _∷_}

@@ -1,4 +1,4 @@
--- AT MOST 64 LEVELS: each refinement removes a fault from both sides, so an open leaf lies above level n, the number of faults.
+-- AT MOST 64 LEVELS (RULES 4.9): a child names fewer faults than its parent, so an open leaf lies above level n, the number of faults.
 -- Counted by the faults that occur in the remaining ways; rests on the laws of each kind (KindLaws.antt).
 use mathlib.Core.Path.{_≡_, refl, sym, ap, _∙_, subst}
 use mathlib.Core.Bool.{Bool, true, false, not, true≢false}

@@ -1,4 +1,4 @@
--- The theorems about document 01's definitions. Demands.antt is where to look first: each headline claim under the words that it settles.
+-- The theorems about the rules. Demands.antt is where to look first: each headline claim under the clauses of docs/RULES.md that it settles.
 -- Below it, from the bottom up: words and tests; the exact sum; leaves; kinds of nodes; trees and series; runs; lists of calls; sheets.
 pub mod Members
 pub mod Booleans

@@ -200,7 +200,7 @@ unfolding any
 happens-any [] a = refl
 happens-any (v ∷ vs) a = ap (λ (b : Bool). satisfies v a || b) (happens-any vs a)
 
--- THE SAME ASSIGNMENTS satisfy what stays as satisfy the whole list (02, a).
+-- THE SAME ASSIGNMENTS satisfy what stays as satisfy the whole list (RULES 3.7).
 pub minimal-happens : (vs : List Way) (a : Assignment) → happens (minimal vs) a ≡ happens vs a
 unfolding minimal
 minimal-happens vs a = happens-any (minimal vs) a ∙ same-test (any f (minimal vs)) (any f vs) fewer all ∙ sym (happens-any vs a)

@@ -1,5 +1,5 @@
--- The cases on paper (01, "On paper first"): P1 to P9 as one list with one claim about the list, the runs that 01 names, A1 to A10 on ways that
--- say nothing new (02, a), and the whole sheet that 01 prints. Each list of cases stands above the claim that settles it.
+-- The cases on paper (RULES 11): P1 to P9 as one list with one claim about the list, the runs that RULES 11.6 names, A1 to A10 on ways that
+-- say nothing new (RULES 3.4), and the whole sheet of RULES 11.7 with its lines. Each list of cases stands above the claim that settles it.
 -- The checker computes all of them from the definitions. Rests on Computing.antt, which names those.
 use mathlib.Core.Path.{_≡_, refl}
 use mathlib.Core.Bool.{Bool, true, false, _&&_, Bool·beq}
@@ -82,7 +82,7 @@ pub on-paper : allHold cases ≡ true
 unfolding of-trees of-refusals
 on-paper = refl
 
--- ---- runs that 01 names: P3 with allowance 0 is done, with 1 is met, 0 refinements each; P4 with the printed sheet's limits
+-- ---- runs (RULES 11.6): P3 with allowance 0 and with 1, P4 with the printed sheet's limits
 
 abbrev p3 : Table
 p3 = table (333333333 ∷ 333333333 ∷ []) (3 ∷ []) (0 ∷ [])
@@ -113,7 +113,7 @@ pub runs-on-paper : AllEqual runs
 unfolding of-calls
 runs-on-paper = (refl, (refl, (refl, (refl, (refl, (refl, (refl, tt)))))))
 
--- ---- ways that say nothing new: A1 to A10 (02, a)
+-- ---- ways that say nothing new: A1 to A10 (RULES 11.3)
 
 -- What is stated of a table, and of a call on its opened tree: the numbers of the ways that stay at the root, what the opening answers, whether the
 -- root leaf is open, and what the call hands back.

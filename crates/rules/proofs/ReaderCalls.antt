@@ -1,4 +1,4 @@
--- The reader's calls: each hands over the cue at its position of the sheet that the bytes give, with that cue's own bytes (01, "The sheet").
+-- The reader's calls: each hands over the cue at its position of the sheet that the bytes give, with that cue's own bytes (RULES 7.11).
 -- A refused sheet is refused at every position; at and past the last cue of an accepted one there is nothing to hand over.
 -- Rests on RoundTrip.antt for the lists found in bytes, on Laid.antt for where the bodies lie.
 use mathlib.Core.Path.{_≡_, refl, sym, ap, ap₂, _∙_}

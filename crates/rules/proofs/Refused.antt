@@ -1,5 +1,5 @@
--- Which refusals concern which call, in 01's order, and what each says of an input that it is for: worked examples as one list with one claim.
--- The checker computes both from the definitions (01, "Refused, by number"). Rests on Computing.antt, which names those, and on Paper.antt for the sheet.
+-- Which refusals each call tries, in the order of RULES 8.3, and what each says of an input that it is for: worked examples as one list with one claim.
+-- The checker computes both from the definitions (RULES 8). Rests on Computing.antt, which names those, and on Paper.antt for the sheet.
 use mathlib.Core.Path.{_≡_, refl}
 use mathlib.Core.Bool.{Bool, true, _&&_}
 use mathlib.Core.List.{List, [], _∷_, _++_}
@@ -17,8 +17,7 @@ use Rattle.rules.specs.declared.Limits.{Limits}
 use Rattle.rules.proofs.Computing.{of-reading, of-writing}
 use Rattle.rules.proofs.Paper.{show}
 
--- ---- "Reading a sheet concerns 1 to 8, 10, 12 to 15; opening a table 9 to 13; refining by hand 9 to 13 and 16 to 20; a run 9 to 16;
--- ---- writing a sheet 2, 5, 6, 10, 12 to 15, 21, 22."
+-- ---- the refusals that each call tries, in order (RULES 8.3)
 
 abbrev numbers : List Refusal → List ℕ
 numbers [] = []
@@ -62,7 +61,7 @@ abbrev allRight : List Example → Bool
 allRight [] = true
 allRight (x ∷ xs) = right x && allRight xs
 
--- The sheet that 01 prints, with the bytes at position i replaced.
+-- The sheet of RULES 11.7, with the bytes at position i replaced.
 abbrev changed : ℕ → List ℕ → List ℕ
 changed i new = take i (encode (show 40)) ++ (new ++ drop (length new) (drop i (encode (show 40))))
 
@@ -88,7 +87,7 @@ examples =
     ∷ opening (1000000001 ∷ []) (replicate 129 1) (replicate 129 0) 10
     ∷ opening (1 ∷ 1 ∷ []) (1 ∷ 4 ∷ []) (1 ∷ 0 ∷ []) 12
     ∷ opening (1 ∷ 1 ∷ []) (1 ∷ 2 ∷ []) (0 ∷ 2 ∷ []) 13
-    -- The sheet that 01 prints, whole, cut short and with single fields changed.
+    -- The sheet of RULES 11.7, whole, cut short and with single fields changed.
     ∷ reading (encode (show 40)) 0
     ∷ reading (take 11 (encode (show 40))) 1
     ∷ reading (changed 0 (65 ∷ [])) 2

@@ -1,4 +1,4 @@
--- What the answers of reading, of a reader's call and of the writer say in 01's terms, for every input.
+-- What the answers of reading, of a reader's call and of the writer say in number, interval and count (RULES 8.4, 8.6), for every input.
 -- Rests on the definitions of Answers.antt and Sheet.antt.
 use mathlib.Core.Path.{_≡_, refl}
 use mathlib.Core.Bool.{Bool, true, false}

@@ -1,4 +1,4 @@
--- What is written and read is what was given, and what is read and written is what was there (01, "The sheet").
+-- What is written and read is what was given, and what is read and written is what was there (RULES 7.18).
 -- The writer puts the bytes of a sheet at the front of a lent space and leaves all else in it as it was.
 -- Rests on Sheets.antt and WithinLimits.antt for a sheet's bytes and limits, on First.antt for the refusals.
 use mathlib.Core.Path.{_≡_, refl, sym, ap, _∙_}

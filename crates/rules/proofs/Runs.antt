@@ -159,7 +159,7 @@ verdict-add t a (suc b) c s = rw suc-add (by (turn t a s) refl (λ n. verdict-ad
     by (stop v) e ih = stays-stopped t a c s v e
     by (go n) e ih = ih n
 
--- TWO RUNS with the same allowance and budgets b then c leave the tree and verdict of one run with b + c, and their reports add up to its report.
+-- TWO RUNS in a row, with one allowance and the budgets b and c, are one run with b + c: tree, verdict and the sum of the reports (RULES 5.12).
 pub record OneRun (t : Table) (a b c : ℕ) (s : DTree) : Type 0 where
   pub tree : ran t a c (ran t a b s) ≡ ran t a (b + c) s
   pub verdicts : verdict t a c (ran t a b s) ≡ verdict t a (b + c) s

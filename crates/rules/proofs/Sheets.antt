@@ -1,4 +1,4 @@
--- The sheet as a value and as bytes: the accepted bytes are exactly those of the sheets within the limits, each written in one way only (01, "The sheet").
+-- The sheet as a value and as bytes: the accepted bytes are exactly those of the sheets within the limits, each written in one way only (RULES 7).
 -- Rests on Laid.antt for the bytes, on WriterLists.antt for the refusals and on WithinLimits.antt for the limits in plain terms.
 use mathlib.Core.Path.{_≡_, refl, sym, ap, ap₂, _∙_, subst}
 use mathlib.Core.Logic.{_↔_}

@@ -1,5 +1,5 @@
 -- The exact sum to prove with: an expectation by recursion over the faults, equal to the literal sum over all assignments, and its laws.
--- Independence is "no fault is looked at by both" (003, Definition 2). Rests on specs/Table.antt alone.
+-- Independence is "no fault is looked at by both" (RULES 3.9). Rests on specs/Table.antt alone.
 use mathlib.Core.Path.{_≡_, refl, sym, ap, ap₂, _∙_, fun-ext}
 use mathlib.Core.Bool.{Bool, true, false, not, _&&_, _||_}
 use mathlib.Core.List.{List, [], _∷_, _++_, map}

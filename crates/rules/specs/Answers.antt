@@ -1,4 +1,4 @@
--- What each case of each answer says in 01's terms: number, low, high and count (01, "Refused, by number").
+-- What each case of each answer says: number, low, high and count (RULES 8.4, 8.6).
 -- Every contract speaks of its answer through these definitions.
 use mathlib.Core.Option.{Option, none, some}
 use Prim.Native.Nat.{ℕ, zero, suc}

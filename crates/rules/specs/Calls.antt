@@ -1,4 +1,4 @@
--- The calls on a tree: opening, hand refinement and run, and whole lists of calls (01, "Refining" and "Refused, by number").
+-- The calls on a tree: opening, hand refinement and run, and whole lists of calls (RULES 5, 8).
 -- Everything is worked out from the table, the series of refinements made so far and the call's arguments; nothing is read off records.
 use mathlib.Core.Bool.{Bool, true, false, not}
 use mathlib.Core.List.{List, [], _∷_, _++_}
@@ -49,7 +49,7 @@ leafNamed t s bs = elim (placeOf bs) as (λ o. Option (List Way)) [ none ↦ non
 
 -- ---- refusals
 
--- 17: the place named is longer than 64 or has no leaf.
+-- 17: the place has more than 64 steps, or no leaf is there.
 unfoldable pub noLeaf : List ℕ → Option (List Way) → Bool
 noLeaf bs none = true
 noLeaf bs (some vs) = ltb 64 (length bs)
@@ -68,7 +68,7 @@ leafRefusals t s bs k o =
     ∷ refusal 20 (ofLeaf (λ vs. not (possible k vs)) o)
     ∷ []
 
--- Refining by hand: 9 to 13, then 16 to 20. `bad` says that the tree is not one that this table and some series give (16).
+-- Refining by hand: 9 to 13, then 16 to 20. `bad` says that the tree is not good for this table (16).
 unfoldable pub handRefusals : Table → Bool → DTree → List ℕ → Kind → List Refusal
 handRefusals t bad s bs k = tableRefusals t ++ (refusal 16 bad ∷ leafRefusals t s bs k (leafNamed t s bs))
 
@@ -135,7 +135,7 @@ pub data Outcome : Type 0 where
   handed : Answer → Outcome
   ran : RunAnswer → Outcome
 
--- In 01's terms.
+-- As number, interval and count (RULES 8.4, 8.6).
 abbrev pub reply : Outcome → Reply
 reply (handed a) = answerReply a
 reply (ran a) = runReply a

@@ -1,4 +1,4 @@
--- Groups: the connected components of the ways under "shares a fault", followed through any chain (01, "Refining").
+-- Groups: the connected components of the ways under "shares a fault", followed through any chain (RULES 4.2).
 -- The group of the lowest numbered way is found by growing the word of its faults; proofs/Groups.antt shows that this is the component.
 use mathlib.Core.Bool.{Bool, true, false, not, Bool·beq}
 use mathlib.Core.List.{List, [], _∷_}

@@ -1,5 +1,5 @@
--- A leaf: its remaining ways and its interval (01, "A leaf and its interval"; 003, Definition 2 for the ways behind the low end).
--- 01 departs from 003: ways are kept in number order, the high end is a plain sum, and every product is rounded.
+-- A leaf: its remaining ways and its interval (RULES 3).
+-- Unlike published d-trees (RULES 12.2): ways are kept in number order, the high end is a plain sum, and every product is rounded.
 use mathlib.Core.Path.{_≡_}
 use mathlib.Core.Bool.{Bool, true, false, not, _&&_, _||_}
 use mathlib.Core.List.{List, [], _∷_}
@@ -41,14 +41,14 @@ without m w = w - bitAnd w m
 abbrev pub dropped : ℕ → Way → Way
 dropped m v = record { number = v .number; present = without m (v .present); absent = without m (v .absent) }
 
--- The remaining ways of a set: those that no fixed fault contradicts, with the fixed faults dropped.
+-- What remains of a set (RULES 3.2): the ways that no fixed fault contradicts, without the fixed faults.
 unfoldable pub remaining : ℕ → ℕ → List Way → List Way
 remaining present absent [] = []
 remaining present absent (v ∷ vs) =
     elim (contradicted present absent v) as (λ b. List Way)
     [ true ↦ remaining present absent vs | false ↦ dropped (bitOr present absent) v ∷ remaining present absent vs ]
 
--- ---- ways that say nothing new (02, a): they are left out at every leaf, once faults are fixed
+-- ---- ways that say nothing new (RULES 3.3, 3.4): they are left out at every leaf, once faults are fixed
 
 -- The ways of a list that pass a test.
 unfoldable pub sift : (Way → Bool) → List Way → List Way
@@ -63,7 +63,7 @@ subsumes u v = eqb (without (v .present) (u .present)) 0 && eqb (without (v .abs
 abbrev pub outdoes : Way → Way → Bool
 outdoes u v = subsumes u v && (not (subsumes v u) || ltb (u .number) (v .number))
 
--- Beside some way of the list it says nothing new (003: a redundant clause).
+-- Beside some way of the list it says nothing new (RULES 3.3; the standard term is redundant clause).
 unfoldable pub redundant : List Way → Way → Bool
 redundant vs v = any (λ u. outdoes u v) vs
 
@@ -104,7 +104,7 @@ abbrev pub keep : List Way → List Way → List Way
 keep before [] = []
 keep before (v ∷ vs) = elim (sharesAny v before) as (λ b. List Way) [ true ↦ keep before vs | false ↦ v ∷ keep (v ∷ before) vs ]
 
--- The kept ways: a maximal set of pairwise independent clauses (003, Definition 2), taken greedily in number order.
+-- The kept ways: a maximal set of pairwise independent clauses (RULES 3.10), taken greedily in number order.
 abbrev pub kept : List Way → List Way
 kept vs = keep [] vs
 
@@ -126,7 +126,7 @@ abbrev pub chances : List ℕ → List Way → ℕ
 chances ws [] = 0
 chances ws (v ∷ vs) = chance up ws v + chances ws vs
 
--- Leaf high: the sum of the high chances, or S if that is less.
+-- The high end of a leaf (RULES 3.12): the sum of the high chances, at most S.
 abbrev pub leafHigh : List ℕ → List Way → ℕ
 leafHigh ws vs = min S (chances ws vs)
 
@@ -143,6 +143,6 @@ leafWidth ws vs = leafHigh ws vs - leafLow ws vs
 abbrev pub isEmpty : Way → Bool
 isEmpty v = eqb (faults v) 0
 
--- A leaf is open: two or more remaining ways, none of them empty, and low below high. Otherwise it is closed.
+-- A leaf is open (RULES 3.13) if at least two ways stay, none is empty, and low is below high; else it is closed.
 unfoldable pub isOpen : List ℕ → List Way → Bool
 isOpen ws vs = leb 2 (length vs) && (not (any isEmpty vs) && ltb (leafLow ws vs) (leafHigh ws vs))

@@ -1,4 +1,4 @@
--- Document 01 as definitions, in its order. proofs/ has the theorems about them.
+-- The rules (docs/RULES.md) as definitions. proofs/ has the theorems about them.
 pub mod Members
 pub mod Rounding
 pub mod Table

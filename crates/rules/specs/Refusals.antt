@@ -1,4 +1,4 @@
--- The refusals 1 to 22, but for 16 to 18 and 20, which Calls.antt has: each a test over the whole input, defined once (01, "Refused, by number").
+-- The refusals 1 to 22, but for 16 to 18 and 20, which Calls.antt has: each a test over the whole input, defined once (RULES 8.2).
 -- A call's refusals are one ordered list of tests; the first that applies gives the number.
 use mathlib.Core.Path.{_≡_}
 use mathlib.Core.Bool.{Bool, true, false, not, _&&_, _||_}
@@ -45,11 +45,11 @@ unfoldable pub rising : ℕ → List ℕ → Bool
 rising n [] = true
 rising n (x ∷ xs) = ltb n x && rising x xs
 
--- 5: a cue number is 0 or not above the one before it.
+-- 5: the first cue number is 0, or some number is not above the one before it.
 unfoldable pub notRising : List ℕ → Bool
 notRising numbers = not (rising 0 numbers)
 
--- 6: a cue counts more than 128 ways.
+-- 6: a way count is above 128.
 unfoldable pub crowded : List ℕ → Bool
 crowded counts = someAbove 128 counts
 
@@ -57,15 +57,15 @@ crowded counts = someAbove 128 counts
 unfoldable pub overweight : List ℕ → Bool
 overweight weights = someAbove S weights
 
--- 11: more than 128 ways, or present and absent words in different numbers.
+-- 11: more than 128 present words, or not as many absent words.
 unfoldable pub wordsAmiss : List ℕ → List ℕ → Bool
 wordsAmiss present absent = ltb 128 (length present) || not (eqb (length present) (length absent))
 
--- 12: a way names a fault at or above n, the number of faults.
+-- 12: a way names a fault numbered n or above, where n is how many there are.
 unfoldable pub namesBeyond : ℕ → List Way → Bool
 namesBeyond n vs = any (λ v. leb (2 ^ n) (v .present) || leb (2 ^ n) (v .absent)) vs
 
--- 13: a way names one fault both present and absent.
+-- 13: a way names a fault in both senses.
 unfoldable pub namesBoth : List Way → Bool
 namesBoth vs = any (λ v. not (eqb (bitAnd (v .present) (v .absent)) 0)) vs
 

@@ -1,8 +1,8 @@
--- One billion, and division by it rounded down or up (01, "The table", "A leaf and its interval").
+-- One billion, and division by it rounded down or up (RULES 1).
 -- The direction is data, so that each fact about rounding is stated once for low and high ends. Rests on the native numbers.
 use Prim.Native.Nat.{ℕ, _+_, _/_, _≤_}
 
--- One billion, 01's S: weights, chances and intervals are counted in billionths.
+-- One billion (RULES 1.1): weights, chances and intervals are counted in billionths.
 abbrev pub S : ℕ
 S = 1000000000
 

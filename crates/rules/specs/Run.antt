@@ -1,5 +1,5 @@
--- A run: when it stops, which leaf it takes and what it does there (01, "Refining": "A run takes an allowance ..").
--- The allowance is an absolute error on the whole width: 01 does not double it as 003, Proposition 11 does.
+-- A run: when it stops, which leaf it takes and what it does there (RULES 5.6 to 5.10).
+-- The allowance is an absolute error on the whole width, which is not doubled (RULES 12.2).
 use mathlib.Core.Bool.{Bool, true, false}
 use mathlib.Core.List.{List, [], _∷_}
 use mathlib.Core.Option.{Option, none, some}
@@ -54,7 +54,7 @@ mostNamed (suc n) vs =
     let f = mostNamed n vs in
     elim (ltb (named f vs) (named n vs)) as (λ b. ℕ) [ true ↦ n | false ↦ f ]
 
--- By independence if the ways fall apart, else by the fault named in most of them.
+-- What is done there (RULES 5.9): by independence where the ways fall apart, else by the fault that most of them name.
 unfoldable pub choice : List ℕ → List Way → Kind
 choice ws vs = elim (fallApart vs) as (λ b. Kind) [ true ↦ IndependentOr | false ↦ Shannon (mostNamed (length ws) vs) ]
 

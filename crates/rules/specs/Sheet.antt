@@ -1,4 +1,4 @@
--- The sheet: as a value, as bytes, and what reading finds in any list of bytes (01, "The sheet").
+-- The sheet: as a value, as bytes, and what reading finds in any list of bytes (RULES 7).
 -- Where a body starts is defined by counting on from the weights; a stated place is only compared with that.
 use mathlib.Core.Path.{_≡_}
 use mathlib.Core.Bool.{Bool, true, false, not, _&&_, _||_}
@@ -275,7 +275,7 @@ bodyIn bs e = take (16 * e .ways) (drop (e .start) bs)
 
 -- ---- the writer
 
--- 21: the lists do not agree in length with each other or with the ways that the cues count.
+-- 21: the lists differ in length, or from what the way counts add up to.
 unfoldable pub disagree : Lists → Bool
 disagree x =
     not (eqb (length (x .numbers)) (length (x .counts)))

@@ -1,4 +1,4 @@
--- Tables, ways, assignments and the exact sum (01, "The table"; 003, equation (3)).
+-- Tables, ways, assignments and the exact sum (RULES 2).
 -- A table is a formula in disjunctive normal form over independent Boolean variables, the faults; a way is one of its clauses.
 use mathlib.Core.Bool.{Bool, true, false, not, _&&_, _||_}
 use mathlib.Core.List.{List, [], _∷_, _++_, map}
@@ -34,7 +34,7 @@ unfoldable pub absentRows : ℕ → List ℕ → List Way
 absentRows i [] = []
 absentRows i (q ∷ qs) = record { number = i; present = 0; absent = q } ∷ absentRows (suc i) qs
 
--- The ways that two lists of words give, numbered from i. A word that one of the lists lacks is 0 (01, "Refused, by number").
+-- The ways that two lists of words give, numbered from i. A word that one of the lists lacks is 0 (RULES 7.16).
 unfoldable pub rows : ℕ → List ℕ → List ℕ → List Way
 rows i [] qs = absentRows i qs
 rows i (p ∷ ps) [] = record { number = i; present = p; absent = 0 } ∷ rows (suc i) ps []
@@ -48,7 +48,7 @@ ways t = rows 0 (t .present) (t .absent)
 abbrev pub faults : Way → ℕ
 faults v = bitOr (v .present) (v .absent)
 
--- An assignment (003: a valuation) says of each fault, from fault 0 on, whether it is present.
+-- An assignment, the standard term is valuation, says of each fault, from fault 0 on, whether it is present.
 abbrev pub Assignment : Type 0
 Assignment = List Bool
 
@@ -100,7 +100,7 @@ sum f (x ∷ xs) = f x + sum f xs
 unfoldable pub weigh : List ℕ → (Assignment → Bool) → ℕ
 weigh ws F = sum (λ (a : Assignment). product ws a * indicator (F a)) (assignments (length ws))
 
--- The exact sum E (003, equation (3), scaled by S ^ n): over all assignments that satisfy at least one way.
+-- The exact sum E (RULES 2.8): over all assignments that satisfy at least one way.
 abbrev pub exact : List ℕ → List Way → ℕ
 exact ws vs = weigh ws (happens vs)
 

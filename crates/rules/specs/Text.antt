@@ -1,4 +1,4 @@
--- The text that the program prints for a list of bytes read as a sheet (01, "On paper first", the whole sheet).
+-- The text that the program prints for a list of bytes read as a sheet (RULES 9).
 -- Numbers are decimal, one blank stands between fields, a line feed after each line.
 use mathlib.Core.Bool.{true, false}
 use mathlib.Core.List.{List, [], _∷_, _++_}

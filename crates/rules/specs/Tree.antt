@@ -1,5 +1,5 @@
--- The decomposition tree: its refinements, the interval at each place, and which refinements are acceptable (01, "Refining").
--- 003, Definitions 6 to 8, with two departures of 01: every combination is rounded, and an inner node keeps the overlap with its own leaf interval.
+-- The decomposition tree: its refinements, the interval at each place, and which refinements are acceptable (RULES 4).
+-- A d-tree, but for two differences (RULES 12.2): every combination is rounded, and an inner node keeps the overlap with its own leaf interval.
 use mathlib.Core.Bool.{Bool, true, false, _&&_}
 use mathlib.Core.List.{List, [], _∷_}
 use mathlib.Core.Option.{Option, none, some}
@@ -50,7 +50,7 @@ child (Shannon f) right vs = minimal (remaining 0 (2 ^ f) vs)
 abbrev pub mean : Dir → ℕ → ℕ → ℕ → ℕ
 mean d w x y = over d (w * x + (S - w) * y)
 
--- The end that a node has from those of its children (003, Definition 7).
+-- The end that a node has from those of its children (RULES 4.6).
 unfoldable pub combine : Kind → Dir → List ℕ → ℕ → ℕ → ℕ
 combine IndependentOr d ws x y = either d x y
 combine (Shannon f) d ws x y = mean d (getD ws f 0) x y
@@ -89,7 +89,7 @@ refineAt (b ∷ p) k leaf = leaf
 refineAt (left ∷ p) k (inner j l r) = inner j (refineAt p k l) r
 refineAt (right ∷ p) k (inner j l r) = inner j l (refineAt p k r)
 
--- The number of refinements in a tree is its number of inner nodes.
+-- How many refinements a tree has: its inner nodes (RULES 4.10).
 unfoldable pub inners : DTree → ℕ
 inners leaf = 0
 inners (inner k l r) = suc (inners l + inners r)

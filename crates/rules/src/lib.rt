@@ -1,5 +1,5 @@
 //! The types that the rules and the code share: what a refinement does, a run's limits and verdict, the answer of each call.
-//! specs/ has document 01's definitions over these types, proofs/ the theorems about them. No code stands here.
+//! specs/ has the rules (docs/RULES.md) as definitions over these types, proofs/ the theorems about them. No code stands here.
 
 /// One billion: weights, chances and the allowance are in billionths.
 pub const S: u64 = 1000000000;
@@ -11,8 +11,8 @@ pub struct Way {
     pub absent: u64,
 }
 
-/// What a refinement does at a leaf, and so the kind of the inner node that it makes (003, Definition 6).
-/// `IndependentOr` is 01's "by independence"; `Shannon` is 01's "by a fault": the Shannon expansion on that fault.
+/// What a refinement does at a leaf, and so the kind of the inner node that it makes (RULES 4.1).
+/// `IndependentOr` is by independence (RULES 4.3); `Shannon` is by a fault (RULES 4.4): the Shannon expansion on that fault.
 pub enum Kind {
     IndependentOr,
     Shannon(u64),

@@ -11,7 +11,7 @@ use super::fields::u32_at;
 use super::head::bodies_in;
 use super::head::cues_in;
 
-/// 5: a cue number is 0 or not above the one before it.
+/// 5: the first cue number is 0, or some number is not above the one before it.
 pub fn not_rising(s: &[u8]) -> bool
     ensures { λ r. ⌜ r ≡ Refusals.notRising (numbersIn (now (s .entry))) ⌝ }
 {
@@ -29,7 +29,7 @@ pub fn not_rising(s: &[u8]) -> bool
     false
 }
 
-/// 6: a cue counts more than 128 ways.
+/// 6: a way count is above 128.
 pub fn crowded(s: &[u8]) -> bool
     ensures { λ r. ⌜ r ≡ Refusals.crowded (countsIn (now (s .entry))) ⌝ }
 {

@@ -45,7 +45,7 @@ fn rows_amiss(both: bool, n: usize, s: &[u8]) -> bool
     false
 }
 
-/// 12: a way names a fault at or above the number of faults.
+/// 12: a way names a fault that there is not.
 pub fn rows_beyond(s: &[u8]) -> bool
     requires { ⌜ faultsIn (now s) ≤ 64 ⌝ }
     ensures { λ r. ⌜ r ≡ namesBeyond (faultsIn (now (s .entry))) (rows 0 (presentIn (now (s .entry))) (absentIn (now (s .entry)))) ⌝ }
@@ -53,7 +53,7 @@ pub fn rows_beyond(s: &[u8]) -> bool
     rows_amiss(false, faults_in(s), s)
 }
 
-/// 13: a way names one fault both present and absent. How many faults there are plays no part.
+/// 13: a way names a fault in both senses. How many faults there are plays no part.
 pub fn rows_both(s: &[u8]) -> bool
     ensures { λ r. ⌜ r ≡ namesBoth (rows 0 (presentIn (now (s .entry))) (absentIn (now (s .entry)))) ⌝ }
 {

@@ -26,7 +26,7 @@ fn show_front(name: &[u8], s: &[u8], length: usize) {
     }
 }
 
-/// So many bytes of the paper's sheet and the zeros behind it, with two fields changed, each given by its position, its width and
+/// So many bytes of the sheet of RULES 11.7 and the zeros behind it, with two fields changed, each given by its position, its width and
 /// its value. A field of no width changes nothing.
 fn changed_twice(
     name: &[u8],
@@ -50,12 +50,12 @@ fn changed(name: &[u8], at: usize, width: usize, x: u64) {
     changed_twice(name, 72, at, width, x, 0, 0, 0);
 }
 
-/// The paper's sheet cut short, or with zeros behind it.
+/// The sheet of RULES 11.7 cut short, or with zeros behind it.
 fn cut(name: &[u8], length: usize) {
     changed_twice(name, length, 0, 0, 0, 0, 0, 0);
 }
 
-/// Accepted: the paper's own sheet, and its limits at the ends of what is allowed.
+/// Accepted: the sheet of RULES 11.7, and its limits at the ends of what is allowed.
 fn accepted_limits() {
     cut(b"paper", 72);
     changed(b"budget 1", 8, 2, 1);

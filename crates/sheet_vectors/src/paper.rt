@@ -1,4 +1,4 @@
-//! The sheet that document 01 has whole, of 72 bytes: 3 faults, cue 7 with two ways and cue 9 with none.
+//! The sheet of RULES 11.7, 72 bytes: 3 faults, cue 7 with two ways and cue 9 with none.
 //! Rests on `bytes`.
 use super::bytes::put;
 use super::bytes::put_entry;

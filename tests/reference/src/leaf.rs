@@ -32,9 +32,9 @@ impl Way {
     }
 }
 
-/// What stays of ways in number order: a way that names every fault of another, in the same sense, is left out; of equal
-/// ways the lowest numbered stays. Those that name fewest come first, so that a way is left out just if one that stays
-/// is inside it.
+/// What stays of ways in number order: a way that names all that another names, each in the same sense, goes; of equal
+/// ways the lowest numbered is kept (RULES 3.3, 3.4). Those that name fewest come first, so that a way is left out just
+/// if one that stays is inside it.
 pub fn staying(ways: &[Way]) -> Vec<Way> {
     let mut shortest_first = ways.to_vec();
     shortest_first.sort_by_key(|way| (way.literals().count_ones(), way.number));
@@ -122,7 +122,7 @@ pub fn leaf_interval(weights: &[u32], ways: &[Way]) -> Interval {
     }
 }
 
-/// Open: two or more remaining ways, none of them empty, and low below high.
+/// Open (RULES 3.13): at least two ways stay, none is empty, and low is below high.
 pub fn is_open(weights: &[u32], ways: &[Way]) -> bool {
     ways.len() >= 2
         && !ways.iter().any(Way::is_empty)

@@ -344,7 +344,7 @@ pub fn encode(sheet: &Sheet) -> Vec<u8> {
     bytes
 }
 
-/// Writing a sheet: fills the front of the space and leaves the rest; refused, it leaves all.
+/// Writing a sheet: the front of the space is filled and the rest stays; refused, all stays.
 pub fn write(sheet: &Sheet, space: &mut [u8]) -> Answer {
     match writing_number(sheet, space.len()) {
         0 => lay(&encode(sheet), space),

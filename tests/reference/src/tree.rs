@@ -264,7 +264,7 @@ impl Node {
 }
 
 impl Situation {
-    /// The ways of the set that no fixed fault contradicts, with the fixed faults dropped.
+    /// What remains of the set (RULES 3.2).
     fn before_leaving_out(&self, table: &Table) -> Vec<Way> {
         let ways = self.set.iter().filter_map(|&number| table.way(number));
         ways.filter_map(|way| self.fixed.iter().try_fold(way, without))
