@@ -14,7 +14,7 @@ use Rattle.rules.specs.Calls.{runNumber, runAnswerBy, runAnswer, runMakes, figu
 use Rattle.rules.specs.declared.Limits.{Limits}
 use Rattle.rules.specs.declared.RunAnswer.{RunAnswer}
 use Rattle.rules.proofs.LeafEnds.{leaf-le}
-use Rattle.records.specs.Records.{blank, noNodes, recordAt, faultCode, leftCode, position, above, places, samePlace, Good}
+use Rattle.records.specs.Records.{treeRecords, blank, noNodes, recordAt, faultCode, leftCode, position, above, places, samePlace, Good}
 use Rattle.records.specs.Library.{callOutcome}
 use Rattle.records.specs.declared.Tree.{Tree}
 use Rattle.records.proofs.ByTheRules.{call-outcome}
@@ -41,7 +41,7 @@ root-safe t =
 -- So is a tree of it alone.
 pub alone-safe : (t : Table) → Safe (oneRecord (recordAt t [] []) .nodes)
 unfolding oneRecord noNodes
-alone-safe t = safe-set (replicate 511 blank) 0 (recordAt t [] []) (simp length-replicate (omega arith)) (safe-blanks 511) (root-safe t)
+alone-safe t = safe-set (replicate treeRecords blank) 0 (recordAt t [] []) (simp length-replicate (omega arith)) (safe-blanks treeRecords) (root-safe t)
 
 -- That tree is good: no refinement gives it.
 pub alone-good : (t : Table) → Good t (oneRecord (recordAt t [] []))

@@ -12,7 +12,7 @@ use Rattle.rules.specs.declared.Kind.{Kind}
 use Rattle.rules.specs.declared.Limits.{Limits}
 use Rattle.rules.proofs.First.{none-applies, first-here, first-after, first-before, first-end}
 use Rattle.rules.proofs.Demand3.{run-number}
-use Rattle.records.specs.Records.{layout, isGood, bad, Good}
+use Rattle.records.specs.Records.{treeRecords, layout, isGood, bad, Good}
 use Rattle.records.specs.declared.Node.{Node}
 use Rattle.records.specs.declared.Tree.{Tree}
 use Rattle.records.proofs.Positions.{length-places}
@@ -94,7 +94,7 @@ module _ (t : Table) (x : Tree) (r : Bool) (e : r ≡ isGood t x) where
   not-bad h = ap not (sym e ∙ h)
 
 -- A good tree has room for two records or none.
-pub odd-room : (t : Table) (x : Tree) → Good t x → x .used < 511 → x .used + 1 < 511
+pub odd-room : (t : Table) (x : Tree) → Good t x → x .used < treeRecords → x .used + 1 < treeRecords
 unfolding layout
 odd-room t x g h = omega (arith, h, ap (λ (y : Tree). y .used) (g .is), length-places (g .made))
 

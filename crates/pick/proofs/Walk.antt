@@ -162,7 +162,7 @@ start xs used linked =
     }
 
 module _ {xs : List Node} {used i : ℕ} {best : Found} where
-  -- The record where the search is has a number below 511.
+  -- The record where the search is is one of the tree's.
   pub room : {down : Bool} → Walk xs used down i best → i < treeRecords
   room w = let h = w .inside in let f = w .linked .fits in omega arith
 

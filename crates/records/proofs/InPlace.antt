@@ -1,4 +1,4 @@
--- The records of a layout, position by position: the record of each place, blanks behind them, 511 in all.
+-- The records of a layout, position by position: the record of each place, blanks behind them, as many in all as a tree has.
 -- Rests on Positions.antt.
 use mathlib.Core.Path.{_≡_, refl, ap, _∙_}
 use mathlib.Core.Bool.{true}
@@ -17,11 +17,11 @@ use Rattle.records.specs.Records.{treeRecords, blank, places, position, 
 use Rattle.records.specs.declared.Node.{Node}
 use Rattle.records.proofs.Positions.{Held, position-lt, position-get, length-places}
 
--- A series has at most 511 places.
+-- A series has no more places than a tree has records.
 pub few-places : (t : Table) (ns : List Refinement) → series t ns ≡ true → length (places ns) ≤ treeRecords
 few-places t ns h = omega (arith, length-places ns, series-inners t ns h, series-room t ns h)
 
--- There are 511 records.
+-- There are as many records as a tree has.
 pub records-long : (t : Table) (ns : List Refinement) → series t ns ≡ true → length (recordsOf t ns) ≡ treeRecords
 unfolding recordsOf
 records-long t ns h =

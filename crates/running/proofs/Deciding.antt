@@ -12,7 +12,7 @@ use Rattle.rules.specs.Tree.{Refinement}
 use Rattle.rules.specs.Run.{narrow}
 use Rattle.rules.specs.declared.Limits.{Limits}
 use Rattle.rules.specs.declared.Verdict.the-variants.{Met, Done, Full}
-use Rattle.records.specs.Records.{blank}
+use Rattle.records.specs.Records.{treeRecords, blank}
 use Rattle.records.specs.declared.Node.{Node}
 use Rattle.records.specs.declared.Tree.{Tree}
 use Rattle.pick.specs.declared.Found.{Found}
@@ -39,17 +39,17 @@ module _ (t : Table) (ns : List Refinement) (m : Limits) (x : Tree) (made : ℕ)
   module _ (f : Found) (p : f ≡ pickOf (x .nodes)) where
     module _ (wide : narrow a (root .low) (root .high) ≡ false) where
       module _ (j v : ℕ) (q : f ≡ At j v) where
-        leaf-found : Dec (x .used ≡ 511) → Dec (made ≡ m .budget) → Outcome (withLeaf j (x .used) made (m .budget))
+        leaf-found : Dec (x .used ≡ treeRecords) → Dec (made ≡ m .budget) → Outcome (withLeaf j (x .used) made (m .budget))
         unfolding withLeaf
-        leaf-found (yes u) d = rw (eq-eqb (x .used) 511 u, withLeaf) (stopped t ns m x made w Full (is-full t x (w .good) a refl wide p j v q u))
+        leaf-found (yes u) d = rw (eq-eqb (x .used) treeRecords u, withLeaf) (stopped t ns m x made w Full (is-full t x (w .good) a refl wide p j v q u))
         leaf-found (no u) (yes e) =
-            rw (ne-eqb (x .used) 511 u, withLeaf, eq-eqb made (m .budget) e) (spent t ns m x made w j (goes t x (w .good) a refl wide p j v q u) e)
-        leaf-found (no u) (no e) = rw (ne-eqb (x .used) 511 u, withLeaf, ne-eqb made (m .budget) e) (goes t x (w .good) a refl wide p j v q u, e)
+            rw (ne-eqb (x .used) treeRecords u, withLeaf, eq-eqb made (m .budget) e) (spent t ns m x made w j (goes t x (w .good) a refl wide p j v q u) e)
+        leaf-found (no u) (no e) = rw (ne-eqb (x .used) treeRecords u, withLeaf, ne-eqb made (m .budget) e) (goes t x (w .good) a refl wide p j v q u, e)
 
       wide-root : (g : Found) → f ≡ g → Outcome (whenWide g (x .used) made (m .budget))
       unfolding whenWide
       wide-root Nothing q = stopped t ns m x made w Done (is-done t x (w .good) a refl wide p q)
-      wide-root (At j v) q = leaf-found j v q (ℕ-discrete (x .used) 511) (ℕ-discrete made (m .budget))
+      wide-root (At j v) q = leaf-found j v q (ℕ-discrete (x .used) treeRecords) (ℕ-discrete made (m .budget))
 
   pub means : {r : Step} → r ≡ decided a x made (m .budget) → Outcome r
   unfolding decided

@@ -17,7 +17,7 @@ use Rattle.rules.specs.declared.Verdict.the-variants.{Spent}
 use Rattle.rules.proofs.Booleans.{and-left}
 use Rattle.rules.proofs.Series.{grow-append, series-append}
 use Rattle.rules.proofs.Runs.{picks-series}
-use Rattle.records.specs.Records.{blank, places, recordWays, recordsOf, layout, history, Good}
+use Rattle.records.specs.Records.{treeRecords, blank, places, recordWays, recordsOf, layout, history, Good}
 use Rattle.records.specs.Growing.{grownAt}
 use Rattle.records.specs.declared.Tree.{Tree}
 use Rattle.records.proofs.Positions.{position-of, length-places, places-once}
@@ -141,7 +141,7 @@ module _ (t : Table) (ns : List Refinement) (m : Limits) (x : Tree) (made : ℕ)
           )
 
       -- There is room for it.
-      pub room : (j < 511) × (x .used + 1 < 511)
+      pub room : (j < treeRecords) × (x .used + 1 < treeRecords)
       room = (
         omega (arith, goes .inside, few-places t (history x) (whole t x (w .good))),
         omega (arith, few-places t ms longer, two-more),

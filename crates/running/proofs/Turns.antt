@@ -17,7 +17,7 @@ use Rattle.rules.specs.Group.{fallApart}
 use Rattle.rules.specs.Tree.{DTree, low, high, inners, roomy, Refinement, tree, descend, subtree, series}
 use Rattle.rules.specs.Run.{named, mostNamed, choice, next, narrow, stop, go, turn}
 use Rattle.rules.proofs.Series.{series-inners}
-use Rattle.records.specs.Records.{blank, places, recordWays, subtreeOr, recordAt, recordsOf, layout, history, Good}
+use Rattle.records.specs.Records.{treeRecords, blank, places, recordWays, subtreeOr, recordAt, recordsOf, layout, history, Good}
 use Rattle.records.specs.declared.Node.{Node}
 use Rattle.records.specs.declared.Tree.{Tree}
 use Rattle.records.proofs.Positions.{length-places}
@@ -129,13 +129,13 @@ module _ (t : Table) (x : Tree) (g : Good t x) where
   root-high = ap (λ (y : Node). y .high) root-is
 
   -- Where all records are in use there is no room.
-  all-used : x .used ≡ 511 → roomy (tree (history x)) ≡ false
+  all-used : x .used ≡ treeRecords → roomy (tree (history x)) ≡ false
   all-used e =
       le-ltb (inners (tree (history x))) 255
       (omega (arith, e, used-is, length-places (history x), series-inners t (history x) whole))
 
   -- And otherwise there is room.
-  some-left : (x .used ≡ 511 → ⊥) → roomy (tree (history x)) ≡ true
+  some-left : (x .used ≡ treeRecords → ⊥) → roomy (tree (history x)) ≡ true
   some-left q =
       lt-ltb (inners (tree (history x))) 255
       (omega (arith, q, used-is, few-places t (history x) whole, length-places (history x), series-inners t (history x) whole))
@@ -168,11 +168,11 @@ module _ (t : Table) (x : Tree) (g : Good t x) where
         picked = subst (Meant t (history x)) q meant
 
         -- With all records in use the rules' turn stops: full.
-        pub is-full : x .used ≡ 511 → turn t a (tree (history x)) ≡ stop Full
+        pub is-full : x .used ≡ treeRecords → turn t a (tree (history x)) ≡ stop Full
         is-full u = turn-full t a (tree (history x)) wide _ (picked .taken) (all-used u)
 
         -- With some left it refines that leaf.
-        pub goes : (x .used ≡ 511 → ⊥) → Goes t a x j
+        pub goes : (x .used ≡ treeRecords → ⊥) → Goes t a x j
         goes u =
             record {
               inside = picked .inside;

@@ -1,4 +1,4 @@
--- The tree of lent words: it has 511 records, and words whose records and count are those of a tree are that tree.
+-- The tree of lent words: it has all its records, and words whose records and count are those of a tree are that tree.
 -- So a store of the count, and words that are all 0, give the tree that they should. Rests on the definitions of Lent.antt and the kit's lists.
 use mathlib.Core.Path.{_≡_, refl, sym, ap, _∙_}
 use mathlib.Core.List.{List, [], _∷_}
@@ -36,17 +36,17 @@ nodes-at ws j zero i h = absurd (omega arith)
 nodes-at ws j (suc k) zero h = ap (nodeAt ws) (sym (add-zero j))
 nodes-at ws j (suc k) (suc i) h = nodes-at ws (suc j) k i (omega arith) ∙ ap (nodeAt ws) (omega arith)
 
--- The tree has 511 records.
+-- The tree has all its records.
 pub long : (ws : List ℕ) → length (treeOf ws .nodes) ≡ treeRecords
 unfolding treeOf
 long ws = nodes-long ws 0 treeRecords
 
--- Its record i is in the words from 13i on.
+-- Its record i is in the words from its first on.
 pub record-is : (ws : List ℕ) (i : ℕ) → i < treeRecords → recordIn (treeOf ws .nodes) i ≡ nodeAt ws i
 unfolding treeOf
 record-is ws i h = nodes-at ws 0 treeRecords i h ∙ ap (nodeAt ws) (omega arith)
 
--- Words whose records and count are those of a tree of 511 records are that tree.
+-- Words whose records and count are those of a tree with all its records are that tree.
 pub tree-is : (ws : List ℕ) (x : Tree) → length (x .nodes) ≡ treeRecords → ((i : ℕ) → i < treeRecords → nodeAt ws i ≡ recordIn (x .nodes) i)
     → getD ws countWord 0 ≡ x .used
     → treeOf ws ≡ x

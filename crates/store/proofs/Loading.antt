@@ -20,7 +20,7 @@ pub record Loading (ws : List ℕ) (xs : List Node) (i : ℕ) : Type 0 where
   pub whole : length xs ≡ treeRecords
   pub read : (k : ℕ) → k < i → recordIn xs k ≡ recordIn (treeOf ws .nodes) k
 
--- The first record, 511 times.
+-- The first record, as often as a tree has records.
 pub begun : (ws : List ℕ) (x : Node) → x ≡ recordIn (treeOf ws .nodes) 0 → Loading ws (replicate treeRecords x) 1
 begun ws x e =
     record {

@@ -2,7 +2,7 @@
 -- Rests on the laws of Lent.antt and the kit's lists.
 use mathlib.Core.Path.{_≡_, sym, ap, _∙_}
 use mathlib.Core.List.{List, [], _∷_}
-use Prim.Native.Nat.{ℕ, zero, suc, _+_, _*_, _/_, _%_, _<_}
+use Prim.Native.Nat.{ℕ, zero, suc, _+_, _-_, _*_, _/_, _%_, _<_}
 use native.Mathlib.Nat.{add-zero}
 use native.Mathlib.Decide.{decLt}
 use native.Mathlib.Omega.{arith}
@@ -28,11 +28,11 @@ run-at ws i k zero q h = absurd (omega arith)
 run-at ws i k (suc n) zero h = ap (λ p. getD ws (i + p) 0) (sym (add-zero k))
 run-at ws i k (suc n) (suc q) h = run-at ws i (suc k) n q (omega arith) ∙ ap (λ p. getD ws p 0) (omega arith)
 
--- The fields of record j are the 13 words from word 13j on.
+-- The fields of record j are its words, from its first on.
 field-at : (ws : List ℕ) (j q : ℕ) → q < recordFields → getD (fields (nodeAt ws j)) q 0 ≡ getD ws (firstWord j + q) 0
 unfolding run
 field-at ws j q h =
-    ap (λ p. getD (getD ws p 0 ∷ run ws (firstWord j) 1 12) q 0) (sym (add-zero (firstWord j))) ∙ run-at ws (firstWord j) 0 recordFields q h
+    ap (λ p. getD (getD ws p 0 ∷ run ws (firstWord j) 1 (recordFields - 1)) q 0) (sym (add-zero (firstWord j))) ∙ run-at ws (firstWord j) 0 recordFields q h
     ∙ ap (λ p. getD ws (firstWord j + p) 0) (omega arith)
 
 -- ---- the words of two trees

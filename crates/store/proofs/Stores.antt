@@ -1,4 +1,4 @@
--- A record's 13 words, stored one after the other, give the tree with that record.
+-- A record's words, stored one after the other, give the tree with that record.
 -- Rests on the laws of Lent.antt and the kit's laws of `set`.
 use mathlib.Core.Path.{_≡_, refl, sym, ap, _∙_}
 use mathlib.Core.List.{List, [], _∷_}
@@ -68,7 +68,7 @@ module _ (ws : List ℕ) (j : ℕ) (n : Node) (h : j < treeRecords) (e : length 
           ∙ ap (recordIn (set (treeOf ws .nodes) j n)) (sym z)
       by i l (no f) = elsewhere i f ∙ sym (record-is ws i l) ∙ sym (getD-set-other (treeOf ws .nodes) j i n blank f)
 
-  -- The same of the stores as the code makes them, the first at word 13j.
+  -- The same of the stores as the code makes them, the first at the record's first word.
   pub written : treeOf (stores (set ws (firstWord j) (n .kind)) (firstWord j) 1 (others n)) ≡ withRecord (treeOf ws) j n
   unfolding stores us
   written = ap (λ p. treeOf (stores (set ws p (n .kind)) (firstWord j) 1 (others n))) (sym (add-zero (firstWord j))) ∙ stored

@@ -51,7 +51,7 @@ use denote.Exit.{yes}
 use Rattle.records.specs.declared.Node.{Node}
 use Rattle.page.specs.declared.Best.{Best}
 use Rattle.page.specs.declared.Spot.{Spot}
-use Rattle.records.specs.Records.{blank}
+use Rattle.records.specs.Records.{recordFields, blank}
 use Rattle.page.specs.Widest.{noneYet, betterOf, answerOf, widestUpTo, widestOf, WidestLaw}
 use Rattle.walks.proofs.Turn.{Upto, Nearer, Nearer-wf, none, next, nearer, tests, says-both}
 use Rattle.page.proofs.Finds.{widest-told}
@@ -78,6 +78,10 @@ use Rattle.page.proofs.widest as f
 use Rattle.page.proofs.widest.Statement as stated
 use Rattle.page.proofs.widest.Code as code
 use Rattle.page.proofs.widest.Code.Mir as lowered
+
+-- The bytes of a record.
+abbrev recordBytes : ℕ
+recordBytes = 8 * recordFields
 
 -- ---- the definition, turn by turn
 
@@ -223,7 +227,7 @@ module _ {M : Type 1} (𝓤 : URA M) (H : Heap 𝓤) (A : Atoms 𝓤) (W : Given
         (store ! 11 refl (tt, record { fits = bytes l })) $
         assigns ! (bin ! (load ! (from ! (fld ! refl (stop !))) (look-in ! 17 (sub ! 0 refl (whole !)))) (load ! (from ! (stop !)) (look ! 11 refl)) tt)
         (from ! (stop !)) (init ! 7 refl (tt, tt)) $
-        rewrite ! 7 (λ (p : ℕ). ‵ (fat fullShare tyPtr l₆ 0 (vptr b p))) (sym (place-is 104 o (i .0))) refl $ move ! (2 ∷ 1 ∷ []) $
+        rewrite ! 7 (λ (p : ℕ). ‵ (fat fullShare tyPtr l₆ 0 (vptr b p))) (sym (place-is recordBytes o (i .0))) refl $ move ! (2 ∷ 1 ∷ []) $
         looks-slice ! tt T.the-row (Is T.the-row) (shows 𝓤 H A T.the-row) vals (LL.tells T.the-type T′.the-laws) (LL.copy T.the-type T′.the-copy 𝓤 H A W) ys b
         o (λ q′. elem-out ! T.the-row (Is T.the-row) (shows 𝓤 H A T.the-row) vals (LL.tells T.the-type T′.the-laws) q′ ys (i .0) blank b o l (λ g.
         -- [records[i]; what it owns; the others; what shuts; the fractured borrow; what the widest owns; res; the slice's fact; _7; ..; _6; ..]
@@ -274,7 +278,7 @@ module _ {M : Type 1} (𝓤 : URA M) (H : Heap 𝓤) (A : Atoms 𝓤) (W : Given
         best : Best
         best = widestUpTo ys (i .0)
 
-        bytes : i .0 < n → i .0 * 104 < 2 ^ 64
+        bytes : i .0 < n → i .0 * recordBytes < 2 ^ 64
         bytes l = omega (arith, gn .1)
 
         small : i .0 < n → i .0 < 2 ^ 64

@@ -1,4 +1,5 @@
--- `put_record` meets its contract: the 13 stores are those of Stores.antt, and where the tree is lent to `all_words` it is known to have all its words.
+-- `put_record` meets its contract: the stores, one for each field, are those of Stores.antt, and where the tree is lent to `all_words` it is known to have
+-- all its words.
 -- Rests on Stores.antt.
 use borrow.Author.Needs.{needs}
 use Rattle.store.proofs.Stores.{stores, written}

@@ -1,4 +1,4 @@
--- `record_at` meets its contract: the record is in the words from 13j on.
+-- `record_at` meets its contract: the record is in the words from its first on.
 -- Rests on Lent.antt.
 use mathlib.Core.Path.{sym}
 use borrow.Author.Needs.{needs}
