@@ -73,7 +73,8 @@ module _ (ps qs : List ℕ) (f : Way → Bool) (c : Clauses) where
   kept-ways w kept M e all h more = (
     ap (λ (m : ℕ). map (dropped m) (select (inWords (kept .waysa) (kept .waysb)) (rows 0 ps qs))) e
         ∙ select-passing (inWords (kept .waysa) (kept .waysb)) (inWords (c .waysa) (c .waysb)) f h (fixedOf c) M more (rows 0 ps qs)
-        (each-row (λ v. inWords (kept .waysa) (kept .waysb) (v .number) ≡ inWords (c .waysa) (c .waysb) (v .number) && f (dropped (fixedOf c) v)) 0 ps qs (w .paired)
+        (each-row (λ v. inWords (kept .waysa) (kept .waysb) (v .number) ≡ inWords (c .waysa) (c .waysb) (v .number) && f (dropped (fixedOf c) v))
+        0 ps qs (w .paired)
         (λ i k b e. let l : i ≡ k = omega arith in rw l (all k))),
     record {
       short = w .short;
@@ -84,7 +85,8 @@ module _ (ps qs : List ℕ) (f : Way → Bool) (c : Clauses) where
 
   -- In the midst of the loop: the kept numbers, and those left that pass, are those of the leaf that pass. The fixed faults stay.
   pub record Sifting (kept₀ kept left : Clauses) : Type 0 where
-    pub numbers : (i : ℕ) → inWords (kept .waysa) (kept .waysb) i || (inWords (left .waysa) (left .waysb) i && passes i) ≡ inWords (c .waysa) (c .waysb) i && passes i
+    pub numbers : (i : ℕ) → inWords (kept .waysa) (kept .waysb) i || (inWords (left .waysa) (left .waysb) i && passes i)
+        ≡ inWords (c .waysa) (c .waysb) i && passes i
     pub kept-present : kept .fixedpresent ≡ kept₀ .fixedpresent
     pub kept-absent : kept .fixedabsent ≡ kept₀ .fixedabsent
     pub left-present : left .fixedpresent ≡ c .fixedpresent
@@ -124,7 +126,8 @@ module _ (ps qs : List ℕ) (f : Way → Bool) (c : Clauses) where
             ap (λ (m : ℕ). f (dropped m (row ps qs (t .way .number)))) (sym (ap₂ bitOr (s .left-present) (s .left-absent)))
             ∙ sym (ap f (h .way-is)) ∙ e
 
-        at : (i : ℕ) → inWords (k .waysa) (k .waysb) i || (inWords (t .others .waysa) (t .others .waysb) i && passes i) ≡ inWords (c .waysa) (c .waysb) i && passes i
+        at : (i : ℕ) → inWords (k .waysa) (k .waysb) i || (inWords (t .others .waysa) (t .others .waysb) i && passes i)
+            ≡ inWords (c .waysa) (c .waysb) i && passes i
         at i =
             ap (λ (x : Bool). x || (inWords (t .others .waysa) (t .others .waysb) i && passes i)) (n i)
             ∙ one-over b (eqb i (t .way .number)) (inWords (kept .waysa) (kept .waysb) i) (inWords (t .others .waysa) (t .others .waysb) i) (passes i)

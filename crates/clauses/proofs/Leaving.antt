@@ -105,7 +105,8 @@ less-within ps qs c n o w h =
 
 -- The parts of a leaf, as the code makes them.
 pub divides : (ps qs : List ℕ) (c : Clauses) (m : ℕ) (n o : Clauses) (r : Way) → InTable ps qs c → InTable ps qs n
-    → waysOf ps qs n ≡ part true m (waysOf ps qs c) → n .fixedpresent ≡ c .fixedpresent → n .fixedabsent ≡ c .fixedabsent → Keeps ps qs (λ v. Bool·beq true (touches m v)) c n
+    → waysOf ps qs n ≡ part true m (waysOf ps qs c) → n .fixedpresent ≡ c .fixedpresent
+    → n .fixedabsent ≡ c .fixedabsent → Keeps ps qs (λ v. Bool·beq true (touches m v)) c n
     → ((i : ℕ) → inWords (o .waysa) (o .waysb) i ≡ inWords (c .waysa) (c .waysb) i && not (inWords (n .waysa) (n .waysb) i))
     → o .fixedpresent ≡ c .fixedpresent → o .fixedabsent ≡ c .fixedabsent → Covers ps qs o r → Divided ps qs c m (record { named = n; others = o; cover = r })
 divides ps qs c m n o r w u e x y k l p q v =
@@ -160,7 +161,8 @@ staying-is p q one vs lean us is = over vs (λ v i. i)
 
         by : (a : Bool) → touches m v ≡ a → (b : Bool) → contradicted p q v ≡ b → (d : Bool) → any (λ u. subsumes u v) us ≡ d
             → passing (stays p q us) (dropped m) ws ≡ sift g (remaining p q ws)
-            → _≡_ {A = List Way} (elim (elim a as (λ b. Bool) [ true ↦ not b | false ↦ not d ]) as (λ b. List Way) [ true ↦ dropped m v ∷ passing (stays p q us) (dropped m) ws | false ↦ passing (stays p q us) (dropped m) ws ])
+            → _≡_ {A = List Way} (elim (elim a as (λ b. Bool) [ true ↦ not b | false ↦ not d ]) as (λ b. List Way)
+            [ true ↦ dropped m v ∷ passing (stays p q us) (dropped m) ws | false ↦ passing (stays p q us) (dropped m) ws ])
             (sift g (elim b as (λ b. List Way) [ true ↦ remaining p q ws | false ↦ dropped m v ∷ remaining p q ws ]))
         by true n true e d k ih = ih
         by true n false e d k ih =
@@ -215,7 +217,8 @@ module _ (ps qs : List ℕ) (others shorter : Clauses) where
         none : (i : ℕ) → inWords (kept .waysa) (kept .waysb) i ≡ true → subsumes (t .way) (wayAt ps qs others i) ≡ false
         none i e = is-false _ (λ k. true≢false (sym (subsumes-through (t .way) (wayAt ps qs others i) r k (covered i (s .inside i e))) ∙ z))
 
-        by : (i : ℕ) (x : Bool) → inWords (kept .waysa) (kept .waysb) i ≡ x → (b : Bool) → x && not b ≡ x && not (subsumes (t .way) (wayAt ps qs others i) || b)
+        by : (i : ℕ) (x : Bool) → inWords (kept .waysa) (kept .waysb) i ≡ x
+            → (b : Bool) → x && not b ≡ x && not (subsumes (t .way) (wayAt ps qs others i) || b)
         by i true e b = ap (λ (y : Bool). not (y || b)) (sym (none i e))
         by i false e b = refl
 
@@ -237,7 +240,8 @@ module _ (ps qs : List ℕ) (others shorter : Clauses) where
       where
         subsumed : (i : ℕ) → inWords (out .waysa) (out .waysb) i ≡ inWords (kept .waysa) (kept .waysb) i && subsumes (t .way) (wayAt ps qs others i)
         subsumed i =
-            o i ∙ ap (λ (w : Way). inWords (kept .waysa) (kept .waysb) i && subsumes (t .way) w) (same-way ps qs kept others (s .kept-present) (s .kept-absent) i)
+            o i ∙ ap (λ (w : Way). inWords (kept .waysa) (kept .waysb) i && subsumes (t .way) w)
+            (same-way ps qs kept others (s .kept-present) (s .kept-absent) i)
 
         by : (x b a : Bool) → (x && not (x && b)) && not a ≡ x && not (b || a)
         by true true a = refl
@@ -266,7 +270,12 @@ module _ (ps qs : List ℕ) (c : Clauses) (p q : ℕ) (d : ByFault) (divided : D
     (kept : Clauses) (rest : Keeps ps qs (λ v. not (any (λ u. subsumes u v) (waysOf ps qs shorter))) (d .others) kept) where
   -- Both together.
   abbrev both : Clauses
-  both = record { waysa = bitOr (shorter .waysa) (kept .waysa); waysb = bitOr (shorter .waysb) (kept .waysb); fixedpresent = shorter .fixedpresent; fixedabsent = shorter .fixedabsent }
+  both = record {
+    waysa = bitOr (shorter .waysa) (kept .waysa);
+    waysb = bitOr (shorter .waysb) (kept .waysb);
+    fixedpresent = shorter .fixedpresent;
+    fixedabsent = shorter .fixedabsent;
+  }
 
   pub left-out : (waysOf ps qs both ≡ minimal (remaining p q (waysOf ps qs c))) × InTable ps qs both
       × (shorter .fixedpresent ≡ bitOr (c .fixedpresent) p) × (shorter .fixedabsent ≡ bitOr (c .fixedabsent) q)

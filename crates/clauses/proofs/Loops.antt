@@ -62,7 +62,8 @@ module _ (ps qs : List ℕ) (c : Clauses) where
   same-numbers : InTable ps qs c → (i : ℕ) → inWords (lowWord (waysOf ps qs c)) (highWord (waysOf ps qs c)) i ≡ chosen i
   unfolding waysOf
   same-numbers w i =
-      words-number (waysOf ps qs c) i ∙ dropped-number (fixedOf c) (select chosen (rows 0 ps qs)) i ∙ select-number chosen (rows 0 ps qs) i ∙ by (chosen i) refl
+      words-number (waysOf ps qs c) i ∙ dropped-number (fixedOf c) (select chosen (rows 0 ps qs)) i
+      ∙ select-number chosen (rows 0 ps qs) i ∙ by (chosen i) refl
     where
       by : (b : Bool) → chosen i ≡ b → hasNumber (rows 0 ps qs) i && b ≡ b
       by true e = and-true (hasNumber (rows 0 ps qs) i) ∙ rows-number 0 i ps qs (omega arith) (omega (arith, w .inside i e))

@@ -55,7 +55,8 @@ pub fn restrict(present: &[u64], absent: &[u64], c: Clauses, p: u64, q: u64) -> 
 pub fn remaining_of(present: &[u64], absent: &[u64], a: u64, b: u64, p: u64, q: u64) -> Clauses
     requires { ⌜ length (now present) ≤ 128 ⌝ }
     requires { ⌜ length (now absent) ≡ length (now present) ⌝ }
-    ensures { λ r. ⌜ (waysOf (now (present .entry)) (now (absent .entry)) r ≡ remaining p q (Leaf.select (inWords a b) (rows 0 (now (present .entry)) (now (absent .entry)))))
+    ensures { λ r. ⌜ (waysOf (now (present .entry)) (now (absent .entry)) r
+        ≡ remaining p q (Leaf.select (inWords a b) (rows 0 (now (present .entry)) (now (absent .entry)))))
         × InTable (now (present .entry)) (now (absent .entry)) r × (r .fixedpresent ≡ p) × (r .fixedabsent ≡ q) ⌝ }
 {
     restrict(present, absent, select(present, absent, a, b), p, q)

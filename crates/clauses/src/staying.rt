@@ -154,7 +154,8 @@ pub fn staying(present: &[u64], absent: &[u64], c: Clauses, d: ByFault, p: u64, 
     requires { ⌜ Divided (now present) (now absent) c (bitOr p q) d ⌝ }
     requires { ⌜ OneFault p q ⌝ }
     ensures { λ r. ⌜ (waysOf (now (present .entry)) (now (absent .entry)) r ≡ minimal (remaining p q (waysOf (now (present .entry)) (now (absent .entry)) c)))
-        × InTable (now (present .entry)) (now (absent .entry)) r × (r .fixedpresent ≡ bitOr (c .fixedpresent) p) × (r .fixedabsent ≡ bitOr (c .fixedabsent) q) ⌝ }
+        × InTable (now (present .entry)) (now (absent .entry)) r
+        × (r .fixedpresent ≡ bitOr (c .fixedpresent) p) × (r .fixedabsent ≡ bitOr (c .fixedabsent) q) ⌝ }
 {
     let shorter = restrict(present, absent, d.named, p, q);
     let all = d.cover;

@@ -40,7 +40,8 @@ in-order-by : (bs : List ℕ) (n : ℕ) → readNumber bs ≡ n → (k : ℕ) �
 unfolding callAnswer
 in-order-by bs zero accepted k =
     elim (decLe (cuesIn bs) k) as (λ _. entryAnswer bs (placeAt bs k) ≡ entryAnswer bs k) [
-      | yes late ↦ ap (entryAnswer bs) (past-stays bs accepted k late) ∙ past-the-last bs accepted (cuesIn bs) (le-refl _) ∙ sym (past-the-last bs accepted k late)
+      | yes late ↦ ap (entryAnswer bs) (past-stays bs accepted k late)
+          ∙ past-the-last bs accepted (cuesIn bs) (le-refl _) ∙ sym (past-the-last bs accepted k late)
       | no early ↦ ap (entryAnswer bs) (counts-calls bs accepted k (omega arith))
     ]
 in-order-by bs (suc n) refused k = refused-everywhere bs n refused (placeAt bs k) ∙ sym (refused-everywhere bs n refused k)

@@ -15,7 +15,8 @@ use prog.Wp.{Heap, Env, Calls, Loops}
 use ghost.Atoms.{Atoms}
 use contract.BorrowLft.{meet-⊑-right}
 use contract.Monad.{Fun, fact}
-use types.Kit.{Given, Item, Post, Seq, runs, lands, ‵, raw, _⊛_, ⋆, given, some, later, _$_, _∵_, !, qed, move, keep, use1, use2, use3, split, join, learn, pick, rewrite, fsplit, fjoin, check, frame, await, updating, now as at-once, show, done}
+use types.Kit.{Given, Item, Post, Seq, runs, lands, ‵, raw, _⊛_, ⋆, given, some, later, _$_, _∵_, !, qed, move, keep, use1, use2, use3}
+use types.Kit.{split, join, learn, pick, rewrite, fsplit, fjoin, check, frame, await, updating, now as at-once, show, done}
 use types.Tokens.{lft-new}
 use types.Run.{Opds}
 use types.SemTy.{Body}
@@ -68,7 +69,8 @@ module _ {M : Type 1} (𝓤 : URA M) (H : Heap 𝓤) (A : Atoms 𝓤) (at-mem : 
   abbrev pub Next : Contract 𝓤
   Next = tripleOf 𝓤 H A next.signature (next.spec 𝓤 H A at-mem run)
 
-module _ {M : Type 1} (𝓤 : URA M) (H : Heap 𝓤) (A : Atoms 𝓤) (W : Given 𝓤 H A) (at-mem : Memory → SProp 𝓤) (run : Routine → Fun 𝓤) (κ : Lft) (q : Share) (l : ℕ) where
+module _ {M : Type 1} (𝓤 : URA M) (H : Heap 𝓤) (A : Atoms 𝓤) (W : Given 𝓤 H A)
+    (at-mem : Memory → SProp 𝓤) (run : Routine → Fun 𝓤) (κ : Lft) (q : Share) (l : ℕ) where
   abbrev R : RattleType
   R = Row κ
 
@@ -93,10 +95,13 @@ module _ {M : Type 1} (𝓤 : URA M) (H : Heap 𝓤) (A : Atoms 𝓤) (W : Given
   abbrev Kept : ℕ → GName → Item 𝓤
   Kept a γ = ‵ (flent (a ∷ κ) (Body (mem R) l 0 γ)) ⊛ raw (Rest 𝓤 H A W a for-loan)
 
-  asked : (a : ℕ) (γ : GName) (d : Reader) → ent 𝓤 (⋆ 𝓤 H A (‵ (flft (a ∷ κ) for-loan) ∷ ‵ (flft κ for-sheet) ∷ ‵ (MutRef (named 0) (a ∷ κ) R .own (lent γ d) (vptr l 0 ∷ [])) ∷ [])) (Next 𝓤 H A at-mem run .pre (to-next a γ d))
+  asked : (a : ℕ) (γ : GName) (d : Reader)
+      → ent 𝓤 (⋆ 𝓤 H A (‵ (flft (a ∷ κ) for-loan) ∷ ‵ (flft κ for-sheet) ∷ ‵ (MutRef (named 0) (a ∷ κ) R .own (lent γ d) (vptr l 0 ∷ [])) ∷ []))
+      (Next 𝓤 H A at-mem run .pre (to-next a γ d))
   asked a γ d =
       qed W (‵ (flft (a ∷ κ) for-loan) ∷ ‵ (flft κ for-sheet) ∷ ‵ (MutRef (named 0) (a ∷ κ) R .own (lent γ d) (vptr l 0 ∷ [])) ∷ []) ∵
-      nothing ! $ move ! (2 ∷ 0 ∷ []) $ join ! $ move ! (1 ∷ 0 ∷ []) $ join ! $ nothing ! $ move ! (2 ∷ 0 ∷ []) $ fjoin ! $ move ! (1 ∷ 0 ∷ []) $ join ! $ frame ! $ done !
+      nothing ! $ move ! (2 ∷ 0 ∷ []) $ join ! $ move ! (1 ∷ 0 ∷ []) $
+      join ! $ nothing ! $ move ! (2 ∷ 0 ∷ []) $ fjoin ! $ move ! (1 ∷ 0 ∷ []) $ join ! $ frame ! $ done !
 
   abbrev Loan : Reader → ℕ × GName → SProp 𝓤
   Loan d p = sep 𝓤 (Next 𝓤 H A at-mem run .pre (to-next (p .0) (p .1) d)) (sep 𝓤 (A .lent (p .0 ∷ κ) (Body (mem R) l 0 (p .1))) (Rest 𝓤 H A W (p .0) for-loan))
@@ -109,19 +114,26 @@ module _ {M : Type 1} (𝓤 : URA M) (H : Heap 𝓤) (A : Atoms 𝓤) (W : Given
       lft-new ! tt (λ a. move ! (2 ∷ []) $ use1 W (‵ (flft κ for-sheet) ⊛ ‵ (flft κ for-loan)) (W .lfts .lft-split κ q) $ split ! $
       move ! (2 ∷ 1 ∷ []) $ use2 W (‵ (flft (a ∷ κ) for-loan) ⊛ raw (Rest 𝓤 H A W a for-loan)) (within-token 𝓤 H A W a κ for-loan) $ split ! $
       -- [the loan's token; the way back to a's whole token; the sheet's token; the reader in memory]
-      move ! (3 ∷ []) $ use1 W (later (some (λ (γ : GName). ‵ (MutRef (named 0) (a ∷ κ) R .own (lent γ d) (vptr l 0 ∷ [])) ⊛ ‵ (flent (a ∷ κ) (Body (mem R) l 0 γ))))) (lends-ref 𝓤 H A W R (named 0) (a ∷ κ) d l 0) $ await ! tt $ pick ! (λ γ. split ! $
+      move ! (3 ∷ []) $
+      use1 W (later (some (λ (γ : GName). ‵ (MutRef (named 0) (a ∷ κ) R .own (lent γ d) (vptr l 0 ∷ [])) ⊛ ‵ (flent (a ∷ κ) (Body (mem R) l 0 γ)))))
+      (lends-ref 𝓤 H A W R (named 0) (a ∷ κ) d l 0) $ await ! tt $ pick ! (λ γ. split ! $
       -- [the reference; the lender's part; the loan's token; the way back; the sheet's token]
       move ! (2 ∷ 4 ∷ 0 ∷ []) $ use3 W (raw (Next 𝓤 H A at-mem run .pre (to-next a γ d))) (asked a γ d) $ at-once ! $ show ! (Loan d) (a, γ) $ done !))
 
   -- of what `next` ensures: its answer, and the reader that was lent at its last value
-  told : (a : ℕ) (γ : GName) (d : Reader) (r : EntryAnswer) → ent 𝓤 (ensured 𝓤 H A next.ended (next.clauses 𝓤 H A at-mem run) (a ∷ κ, (κ, tt)) (lent γ d, tt) tt r) (guard 𝓤 (r ≡ answerOf d) (A .res γ (R .coded .code (after d))))
+  told : (a : ℕ) (γ : GName) (d : Reader) (r : EntryAnswer)
+      → ent 𝓤 (ensured 𝓤 H A next.ended (next.clauses 𝓤 H A at-mem run) (a ∷ κ, (κ, tt)) (lent γ d, tt) tt r)
+      (guard 𝓤 (r ≡ answerOf d) (A .res γ (R .coded .code (after d))))
   told a γ d r = exE 𝓤 _ (λ ws.
       let Said : Type 0 = ReaderCalled d r (ws .0) in
       qed W (‵ (lasts next.ended (a ∷ κ, (κ, tt)) (lent γ d, tt) ws) ∷ raw (fact 𝓤 Said) ∷ []) ∵ move ! (1 ∷ []) $ heard ! Said (λ e. fsplit ! $
-      rewrite ! 0 (λ (z : Reader). ‵ (fres γ (R .coded .code z))) (λ i. record { sheet = e .sheet-is i; at = (e .place-is ∙ ap (placeAfter (d .at)) (e .answer-is)) i }) refl $ keep ! (0 ∷ []) $ check ! (e .answer-is) $ done !))
+      rewrite ! 0 (λ (z : Reader). ‵ (fres γ (R .coded .code z)))
+      (λ i. record { sheet = e .sheet-is i; at = (e .place-is ∙ ap (placeAfter (d .at)) (e .answer-is)) i }) refl $
+      keep ! (0 ∷ []) $ check ! (e .answer-is) $ done !))
 
   -- the reader comes back, and the sheet's token is whole again
-  comes-back : (a : ℕ) (γ : GName) (d : Reader) → ent 𝓤 (⋆ 𝓤 H A (toks a ∷ ‵ (fres γ (R .coded .code d)) ∷ Kept a γ ∷ [])) (H .⇛ (⋆ 𝓤 H A (‵ (cell l d) ∷ ‵ (Owned κ d) ∷ ‵ (flft κ q) ∷ [])))
+  comes-back : (a : ℕ) (γ : GName) (d : Reader) → ent 𝓤 (⋆ 𝓤 H A (toks a ∷ ‵ (fres γ (R .coded .code d)) ∷ Kept a γ ∷ []))
+      (H .⇛ (⋆ 𝓤 H A (‵ (cell l d) ∷ ‵ (Owned κ d) ∷ ‵ (flft κ q) ∷ [])))
   comes-back a γ d =
       qed W (toks a ∷ ‵ (fres γ (R .coded .code d)) ∷ Kept a γ ∷ []) ∵ updating ! $ split ! $ move ! (1 ∷ []) $ split ! $ move ! (4 ∷ []) $ split ! $
       -- [the lender's part; the way back; the sheet's token; true; the loan's token; the last value]
@@ -129,23 +141,31 @@ module _ {M : Type 1} (𝓤 : URA M) (H : Heap 𝓤) (A : Atoms 𝓤) (W : Given
       move ! (3 ∷ 1 ∷ []) $ use2 W (‵ (flft κ q)) (W .lfts .lft-join κ q) $
       -- [the sheet's token; the loan is over; the lender's part; true; the last value]
       move ! (1 ∷ 2 ∷ 4 ∷ []) $ use3 W (later (‵ (partAt R fullShare d l 0))) (ref-back 𝓤 H A W R (a ∷ κ) γ d l 0) $ await ! tt $
-      use1 W (some (λ (w : Val). ‵ (fat fullShare (T′.mir erased) l 0 w) ⊛ ‵ (R .own d (w ∷ [])))) (part-out 𝓤 H A W R refl fullShare d l 0) $ pick ! (λ w. split ! $
+      use1 W (some (λ (w : Val). ‵ (fat fullShare (T′.mir erased) l 0 w) ⊛ ‵ (R .own d (w ∷ [])))) (part-out 𝓤 H A W R refl fullShare d l 0) $
+      pick ! (λ w. split ! $
       move ! (1 ∷ []) $ peeks ! R (Is R) (shows 𝓤 H A R) d (w ∷ []) (λ is.
       let spelled = LL.tells (T.the-type (record { mir = erased; lft = κ })) (T′.the-laws (record { mir = erased; lft = κ })) d (w ∷ []) is in
-      rewrite ! 0 (λ (us : List Val). ‵ (R .own d us)) spelled refl $ rewrite ! 1 (λ (v : Val). ‵ (fat fullShare (T′.mir erased) l 0 v)) (ap only spelled) refl $
+      rewrite ! 0 (λ (us : List Val). ‵ (R .own d us)) spelled refl $
+      rewrite ! 1 (λ (v : Val). ‵ (fat fullShare (T′.mir erased) l 0 v)) (ap only spelled) refl $
       at-once ! $ keep ! (1 ∷ 0 ∷ 2 ∷ []) $ done !))
 
   -- THE CALL: with the reader d in the local l, beside what it owns and the sheet's token, the answer is d's, and the reader is the one after it
-  module _ {K : Type 0} {Γ : List (Item 𝓤)} {E : Env 𝓤 H} {C : Calls 𝓤 H} {Λ : Loops 𝓤 H} {post : Post 𝓤 H} {xs : List Operand} {dest : Place} {rest : Code} where
+  module _ {K : Type 0} {Γ : List (Item 𝓤)} {E : Env 𝓤 H} {C : Calls 𝓤 H}
+      {Λ : Loops 𝓤 H} {post : Post 𝓤 H} {xs : List Operand} {dest : Place} {rest : Code} where
     pub calls-next : K → FmC 𝓤 H (W .laws) C → Triple 𝓤 (C #cue-reader·next) (Next 𝓤 H A at-mem run) → (d : Reader)
         → ((i j : Item 𝓤) → Opds K W (i ∷ j ∷ Γ) E xs (vptr l 0 ∷ []))
-        → ((u : Val) (r : EntryAnswer) → r ≡ answerOf d → Is N.the-row r (u ∷ []) → Seq K W (‵ (cell l (after d)) ∷ ‵ (Owned κ (after d)) ∷ ‵ (flft κ q) ∷ Γ) (lands C Λ E dest u rest post))
+        → ((u : Val) (r : EntryAnswer) → r ≡ answerOf d → Is N.the-row r (u ∷ []) → Seq K W (‵ (cell l (after d)) ∷ ‵ (Owned κ (after d)) ∷ ‵ (flft κ q) ∷ Γ)
+        (lands C Λ E dest u rest post))
         → Seq K W (‵ (cell l d) ∷ ‵ (Owned κ d) ∷ ‵ (flft κ q) ∷ Γ) (runs C Λ E (seq (call #cue-reader·next xs dest) rest) post)
     calls-next t fm known d reads goes-on =
-        use3 W (later (some (λ (p : ℕ × GName). raw (Next 𝓤 H A at-mem run .pre (to-next (p .0) (p .1) d)) ⊛ Kept (p .0) (p .1)))) (lends d) $ await t tt $ pick t (λ p. split t $
+        use3 W (later (some (λ (p : ℕ × GName). raw (Next 𝓤 H A at-mem run .pre (to-next (p .0) (p .1) d)) ⊛ Kept (p .0) (p .1)))) (lends d) $
+        await t tt $ pick t (λ p. split t $
         calls-at t fm (Next 𝓤 H A at-mem run) known (to-next (p .0) (p .1) d) (reads _ _) (λ u.
-        use1 W (later (some (λ (r : EntryAnswer). (toks (p .0) ⊛ ‵ (N.the-row .own r (u ∷ []))) ⊛ raw (ensured 𝓤 H A next.ended (next.clauses 𝓤 H A at-mem run) (p .0 ∷ κ, (κ, tt)) (lent (p .1) d, tt) tt r)))) (id⊢ 𝓤 _) $ await t tt $ pick t (λ r.
+        use1 W (later (some (λ (r : EntryAnswer). (toks (p .0) ⊛ ‵ (N.the-row .own r (u ∷ [])))
+        ⊛ raw (ensured 𝓤 H A next.ended (next.clauses 𝓤 H A at-mem run) (p .0 ∷ κ, (κ, tt)) (lent (p .1) d, tt) tt r)))) (id⊢ 𝓤 _) $
+        await t tt $ pick t (λ r.
         split t $ move t (1 ∷ []) $ use1 W (given (r ≡ answerOf d) (‵ (fres (p .1) (R .coded .code (after d))))) (told (p .0) (p .1) d r) $ learn t (λ e.
         move t (1 ∷ []) $ split t $ move t (1 ∷ []) $ facts t N.the-row (Is N.the-row) (shows 𝓤 H A N.the-row) r (u ∷ []) (λ is.
         -- [the tokens; the reader's last value; what is kept]
-        use3 W (later (‵ (cell l (after d)) ⊛ ‵ (Owned κ (after d)) ⊛ ‵ (flft κ q))) (comes-back (p .0) (p .1) (after d)) $ await t tt $ split t $ move t (1 ∷ []) $ split t $ move t (2 ∷ []) $ goes-on u r e is)))))
+        use3 W (later (‵ (cell l (after d)) ⊛ ‵ (Owned κ (after d)) ⊛ ‵ (flft κ q))) (comes-back (p .0) (p .1) (after d)) $
+        await t tt $ split t $ move t (1 ∷ []) $ split t $ move t (2 ∷ []) $ goes-on u r e is)))))

@@ -43,4 +43,5 @@ fits-by (suc n) b e i few h = h
 -- The place after a call is a number of the machine, if the place before it is.
 pub after-fits : (bs : List ℕ) (i : ℕ) → i < 2 ^ 64 → placeAfter i (entryAnswer bs i) < 2 ^ 64
 unfolding entryAnswer
-after-fits bs i h = fits-by (readNumber bs) (ltb i (cuesIn bs)) (entryIn bs i) i (λ accepted before. omega (arith, few-cues bs accepted, ltb-true i (cuesIn bs) before)) h
+after-fits bs i h = fits-by (readNumber bs) (ltb i (cuesIn bs)) (entryIn bs i) i
+    (λ accepted before. omega (arith, few-cues bs accepted, ltb-true i (cuesIn bs) before)) h

@@ -31,7 +31,8 @@ keeps-at : (bs : List ℕ) (i : ℕ) → (HasCue bs i → ⊥) → Keeps i (entr
 unfolding entryAnswer
 keeps-at bs i none = keeps-by (readNumber bs) (ltb i (cuesIn bs)) (entryIn bs i) i (λ e. none (e .0, ltb-true i (cuesIn bs) (e .1)))
 
-pub called : (d x : Reader) (a : EntryAnswer) → a ≡ entryAnswer (now (d .sheet)) (d .at) → x .sheet ≡ d .sheet → x .at ≡ placeAfter (d .at) (entryAnswer (now (d .sheet)) (d .at)) → ReaderCalled d a x
+pub called : (d x : Reader) (a : EntryAnswer) → a ≡ entryAnswer (now (d .sheet)) (d .at)
+    → x .sheet ≡ d .sheet → x .at ≡ placeAfter (d .at) (entryAnswer (now (d .sheet)) (d .at)) → ReaderCalled d a x
 called d x a answer sheet place =
     let bs = now (d .sheet) in
     let i = d .at in

@@ -93,7 +93,8 @@ hit m xs j k h l e = hits-at m (take k xs) j (simp length-take (omega arith)) (r
 -- Or none so far, and not the next.
 pub miss : (m : ℕ) (xs : List ℕ) (j : ℕ) → j < length xs → hits m (take j xs) ≡ false → bitAnd m (getD xs j 0) ≡ 0 → hits m (take (j + 1) xs) ≡ false
 miss m xs j h e z =
-    rw (add-one, take-suc xs j 0, hits-more) (or-neither (not (eqb (bitAnd m (getD xs j 0)) 0)) (hits m (take j xs)) (ap not (eq-eqb (bitAnd m (getD xs j 0)) 0 z)) e)
+    rw (add-one, take-suc xs j 0, hits-more)
+    (or-neither (not (eqb (bitAnd m (getD xs j 0)) 0)) (hits m (take j xs)) (ap not (eq-eqb (bitAnd m (getD xs j 0)) 0 z)) e)
 
 -- ---- a store in the array
 

@@ -71,7 +71,8 @@ fn leaf_high(weights: &[u32], present: &[u64], absent: &[u64], c: Clauses) -> u6
 /// There are two ways or more, and each names a fault.
 fn several(present: &[u64], absent: &[u64], c: Clauses) -> bool
     requires { ⌜ InTable (now present) (now absent) c ⌝ }
-    ensures { λ r. ⌜ r ≡ (leb 2 (length (waysOf (now (present .entry)) (now (absent .entry)) c)) && not (any isEmpty (waysOf (now (present .entry)) (now (absent .entry)) c))) ⌝ }
+    ensures { λ r. ⌜ r ≡ (leb 2 (length (waysOf (now (present .entry)) (now (absent .entry)) c))
+        && not (any isEmpty (waysOf (now (present .entry)) (now (absent .entry)) c))) ⌝ }
 {
     let mut n: u64 = 0;
     let mut left = c;

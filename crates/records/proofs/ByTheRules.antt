@@ -7,7 +7,8 @@ use Prim.Native.Nat.{ℕ, zero, suc}
 use Rattle.rules.specs.Table.{Table}
 use Rattle.rules.specs.Tree.{leaf, Refinement, tree, seriesFrom, series}
 use Rattle.rules.specs.Refusals.{Accepted}
-use Rattle.rules.specs.Calls.{handNumber, runNumber, handMakes, runMakes, handAnswer, runAnswer, makesBy, Call, byHand, byRun, Outcome, handed, ran, callNumber, outcome, wouldMake, makes, notedFrom, noted, outcomesFrom, outcomes}
+use Rattle.rules.specs.Calls.{handNumber, runNumber, handMakes, runMakes, handAnswer, runAnswer, makesBy, Call, byHand, byRun, Outcome}
+use Rattle.rules.specs.Calls.{handed, ran, callNumber, outcome, wouldMake, makes, notedFrom, noted, outcomesFrom, outcomes}
 use Rattle.rules.proofs.Series.{series-append}
 use Rattle.rules.proofs.Demand3.{makes-series, noted-series}
 use Rattle.records.specs.Records.{layout, history, bad}

@@ -61,11 +61,13 @@ pub record Demand-3-library (t : Table) : Type 0 where
   pub shared : (cs cs′ : List Call) → Same (noted t cs) (noted t cs′) → Shared t cs cs′
   -- what is noted is what the tree shows, and no place is noted twice
   pub noted-read : (cs : List Call) (n : Refinement) → In n (noted t cs) ↔ (treeKind (after t cs) (n .place) ≡ some (n .kind))
-  pub noted-once : (cs : List Call) (before later : List Refinement) (n m : Refinement) → noted t cs ≡ before ++ n ∷ later → In m before → m .place ≡ n .place → ⊥
+  pub noted-once : (cs : List Call) (before later : List Refinement) (n m : Refinement)
+      → noted t cs ≡ before ++ n ∷ later → In m before → m .place ≡ n .place → ⊥
   -- so whether both note the same may be read off the two trees
   pub same-read : (cs cs′ : List Call) → ((p : Place) → treeKind (after t cs) p ≡ treeKind (after t cs′) p) → Same (noted t cs) (noted t cs′)
   -- C. each single refinement along a list, and each call
-  pub never-wider : (cs : List Call) (before later : List Refinement) (n : Refinement) → noted t cs ≡ before ++ n ∷ later → RootWithin (layout t before) (layout t (before ++ n ∷ []))
+  pub never-wider : (cs : List Call) (before later : List Refinement) (n : Refinement)
+      → noted t cs ≡ before ++ n ∷ later → RootWithin (layout t before) (layout t (before ++ n ∷ []))
   pub call-never-widens : (cs : List Call) (c : Call) → RootWithin (after t cs) (callTree t (after t cs) c)
 
 -- At the root of a layout the interval is the one that the rules give.
@@ -111,8 +113,10 @@ module _ (t : Table) (ok : Accepted t) where
   then-kind : (cs : List Call) (m : Limits) (p : Place) → treeKind (callTree t (after t cs) (byRun m)) p ≡ kindAt p (afterRun t (tree (noted t cs)) m)
   then-kind cs m p = ap (λ (x : Tree). treeKind x p) (then-is cs (byRun m)) ∙ seen-kind t _ p ∙ ap (kindAt p) (grow-append (noted t cs) _ leaf)
 
-  then-interval : (cs : List Call) (m : Limits) (p : Place) → treeInterval (callTree t (after t cs) (byRun m)) p ≡ intervalAt t p (afterRun t (tree (noted t cs)) m)
-  then-interval cs m p = ap (λ (x : Tree). treeInterval x p) (then-is cs (byRun m)) ∙ seen-interval t _ p ∙ ap (intervalAt t p) (grow-append (noted t cs) _ leaf)
+  then-interval : (cs : List Call) (m : Limits) (p : Place) → treeInterval (callTree t (after t cs) (byRun m)) p
+      ≡ intervalAt t p (afterRun t (tree (noted t cs)) m)
+  then-interval cs m p =
+      ap (λ (x : Tree). treeInterval x p) (then-is cs (byRun m)) ∙ seen-interval t _ p ∙ ap (intervalAt t p) (grow-append (noted t cs) _ leaf)
 
   -- ---- two lists
 
@@ -139,7 +143,8 @@ module _ (t : Table) (ok : Accepted t) where
   )
 
   -- What one list notes shows in its tree, so in the other's, so the other notes it.
-  noted-too : (cs cs′ : List Call) → ((p : Place) → treeKind (after t cs) p ≡ treeKind (after t cs′) p) → (n : Refinement) → In n (noted t cs) → In n (noted t cs′)
+  noted-too : (cs cs′ : List Call) → ((p : Place) → treeKind (after t cs) p ≡ treeKind (after t cs′) p)
+      → (n : Refinement) → In n (noted t cs) → In n (noted t cs′)
   noted-too cs cs′ h n i = noted-is cs′ n .1 (sym (h (n .place)) ∙ noted-is cs n .0 i)
 
   -- No call widens the root.

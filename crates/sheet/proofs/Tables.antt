@@ -11,7 +11,8 @@ use lib.Dec.{ltb}
 use borrow.Author.Tests.{ltb-false, le-leb}
 use Rattle.rules.specs.Table.{Table}
 use Rattle.rules.specs.Refusals.{someAbove, crowded}
-use Rattle.rules.specs.Sheet.{Cue, tableOf, column, total, deal, sheetOf, listsIn, decode, faultsIn, cuesIn, numbersIn, countsIn, weightsIn, weightsStart, presentIn, absentIn, bodiesIn, readNumber, entryIn, bodyIn}
+use Rattle.rules.specs.Sheet.{Cue, tableOf, column, total, deal, sheetOf, listsIn, decode, faultsIn, cuesIn, numbersIn}
+use Rattle.rules.specs.Sheet.{countsIn, weightsIn, weightsStart, presentIn, absentIn, bodiesIn, readNumber, entryIn, bodyIn}
 use Rattle.rules.proofs.Booleans.{or-left, or-right}
 use Rattle.rules.proofs.Bytes.{length-column}
 use Rattle.sheet.specs.declared.table.TableArrays.{TableArrays}
@@ -76,7 +77,8 @@ module _ (bs : List ℕ) (few : Few bs) (i : ℕ) (inside : i < cuesIn bs) where
 
   -- Its words in a column of all words, whose first is at p.
   words : (p at : ℕ) → at ≡ p + 16 * total (take i (countsIn bs))
-      → take (min (getD (countsIn bs) i 0) 128) (sized 128 (column 8 16 at (getD (countsIn bs) i 0) bs)) ≡ share (countsIn bs) i (column 8 16 p (total (countsIn bs)) bs)
+      → take (min (getD (countsIn bs) i 0) 128) (sized 128 (column 8 16 at (getD (countsIn bs) i 0) bs))
+      ≡ share (countsIn bs) i (column 8 16 p (total (countsIn bs)) bs)
   unfolding crowded
   words p at e =
       let k : ℕ = getD (countsIn bs) i 0 in
@@ -89,7 +91,8 @@ module _ (bs : List ℕ) (few : Few bs) (i : ℕ) (inside : i < cuesIn bs) where
   holds : (d : Cue) → Holds (tableAt bs (entryIn bs i)) (weightsIn bs) (getD (decode bs .cues) i d)
   unfolding tableAt decode sheetOf listsIn entryIn
   holds d =
-      let cue = dealt (numbersIn bs) (countsIn bs) (presentIn bs) (absentIn bs) i d (omega (arith, length-column 2 8 12 (cuesIn bs) bs)) (omega (arith, counted)) in
+      let cue = dealt (numbersIn bs) (countsIn bs) (presentIn bs) (absentIn bs) i d
+      (omega (arith, length-column 2 8 12 (cuesIn bs) bs)) (omega (arith, counted)) in
       let all : length (weightsIn bs) ≡ faultsIn bs = length-column 4 4 (weightsStart (cuesIn bs)) (faultsIn bs) bs in
       let faults : faultsIn bs ≤ 64 = few .faults in
       record {

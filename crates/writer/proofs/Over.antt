@@ -102,7 +102,11 @@ pub record Left (old : List ℕ) (i : ℕ) (whole new : List ℕ) (next : ℕ) (
 pub left-all : (old : List ℕ) (i : ℕ) (whole : List ℕ) → Left old i whole old i whole
 unfolding over
 left-all old i whole =
-    record { part = []; wrote = record { holds = rw (append-nil (take i old), add-zero i) (sym (take-append-drop i old)); ends = sym (add-zero i) }; both = refl }
+    record {
+      part = [];
+      wrote = record { holds = rw (append-nil (take i old), add-zero i) (sym (take-append-drop i old)); ends = sym (add-zero i) };
+      both = refl;
+    }
 
 module _ {old new : List ℕ} {i next : ℕ} {whole rest : List ℕ} (room : Room old i whole) (l : Left old i whole new next rest) where
   -- Room for what is written and what is left.

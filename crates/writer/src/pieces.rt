@@ -53,7 +53,8 @@ fn put_contents(space: &mut [u8], at: usize, numbers: &[u16], counts: &[u16], st
     requires { ⌜ length (now counts) ≡ length (now numbers) ⌝ }
     requires { ⌜ start + 16 * total (now counts) ≤ length (now space) ⌝ }
     requires { ⌜ Room (now space) at (entries (now numbers) (now counts) (starts start (now counts))) ⌝ }
-    ensures { λ r. ⌜ Wrote (now (space .entry)) at (entries (now (numbers .entry)) (now (counts .entry)) (starts start (now (counts .entry)))) (now (space .exit)) r ⌝ }
+    ensures { λ r. ⌜ Wrote (now (space .entry)) at
+        (entries (now (numbers .entry)) (now (counts .entry)) (starts start (now (counts .entry)))) (now (space .exit)) r ⌝ }
 {
     let mut next = at;
     let mut place = start;
@@ -125,7 +126,9 @@ pub fn put_sheet(
 ) -> usize
     requires { ⌜ first (listsRefusals (given (now weights) (now numbers) (now counts) (now present) (now absent) limits)) ≡ 0 ⌝ }
     requires { ⌜ Room (now space) 0 (encode (sheetOf (given (now weights) (now numbers) (now counts) (now present) (now absent) limits))) ⌝ }
-    ensures { λ r. ⌜ Wrote (now (space .entry)) 0 (encode (sheetOf (given (now (weights .entry)) (now (numbers .entry)) (now (counts .entry)) (now (present .entry)) (now (absent .entry)) limits))) (now (space .exit)) r ⌝ }
+    ensures { λ r. ⌜ Wrote (now (space .entry)) 0
+        (encode (sheetOf (given (now (weights .entry)) (now (numbers .entry)) (now (counts .entry)) (now (present .entry)) (now (absent .entry)) limits)))
+        (now (space .exit)) r ⌝ }
 {
     let start = bodies_start(numbers.len(), weights.len());
     let next = put_head(space, 0, weights.len(), numbers.len(), limits);

@@ -78,7 +78,8 @@ fn front_number(weights: &[u32], numbers: &[u16], counts: &[u16]) -> u8
     0
 }
 
-/// 2, 5, 6, 10, 12 to 15, 21 or 0. The ways are judged only once 2 has let at most 64 faults through, and the counts added only once it has let at most 24 through.
+/// 2, 5, 6, 10, 12 to 15, 21 or 0. The ways are judged only once 2 has let at most 64 faults through,
+/// and the counts added only once it has let at most 24 through.
 fn list_number(
     weights: &[u32],
     numbers: &[u16],
@@ -87,7 +88,8 @@ fn list_number(
     absent: &[u64],
     limits: Limits,
 ) -> u8
-    ensures { λ r. ⌜ r ≡ first (listsRefusals (given (now (weights .entry)) (now (numbers .entry)) (now (counts .entry)) (now (present .entry)) (now (absent .entry)) limits)) ⌝ }
+    ensures { λ r. ⌜ r ≡ first (listsRefusals (given (now (weights .entry)) (now (numbers .entry)) (now (counts .entry))
+        (now (present .entry)) (now (absent .entry)) limits)) ⌝ }
 {
     let front = front_number(weights, numbers, counts);
     if front != 0 {
@@ -117,7 +119,8 @@ pub fn write_number(
     limits: Limits,
     space: usize,
 ) -> u8
-    ensures { λ r. ⌜ r ≡ writeNumber (given (now (weights .entry)) (now (numbers .entry)) (now (counts .entry)) (now (present .entry)) (now (absent .entry)) limits) space ⌝ }
+    ensures { λ r. ⌜ r ≡ writeNumber (given (now (weights .entry)) (now (numbers .entry)) (now (counts .entry))
+        (now (present .entry)) (now (absent .entry)) limits) space ⌝ }
 {
     let number = list_number(weights, numbers, counts, present, absent, limits);
     if number != 0 {

@@ -25,7 +25,10 @@ add-after : tie.Need-add-after
 add-after c =
     let a = c .before .before .before .args in
     let small : a .at < 2 ^ 64 = search needs in
-    record { fits = subst⁻¹ (λ (m : ℕ). m < 2 ^ 64) (place-is (a .s .now) (a .at) _ _ (c .before .cue-at .ensures .0) (c .step .ensures)) (after-fits (a .s .now) (a .at) small) }
+    record {
+      fits = subst⁻¹ (λ (m : ℕ). m < 2 ^ 64) (place-is (a .s .now) (a .at) _ _ (c .before .cue-at .ensures .0) (c .step .ensures))
+          (after-fits (a .s .now) (a .at) small);
+    }
 
 returns : tie.Need-returns
 returns c =

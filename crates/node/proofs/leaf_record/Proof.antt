@@ -41,7 +41,8 @@ all-fields : (ws : List ℕ) (vs : List Way) (up-link : ℕ) (c : Clauses) (e : 
       ownlow = e .low;
       ownhigh = e .high;
     })
-    (freshRecord (record { weights = ws; present = []; absent = [] }) (record { set = []; present = c .fixedpresent; absent = c .fixedabsent; ways = vs }) up-link)
+    (freshRecord (record { weights = ws; present = []; absent = [] })
+    (record { set = []; present = c .fixedpresent; absent = c .fixedabsent; ways = vs }) up-link)
 unfolding endsOf kindCode faultCode liveCode end
 all-fields ws vs up-link c e h l g = rw (h, l, g, mark (isOpen ws vs))
 

@@ -85,7 +85,8 @@ loop-again : tie.Need-loop-again Inv-loop μ-loop
 loop-again c =
     let e = c .before .before .before .before in
     let l = e .before .before .loop in
-    turn _ _ _ _ (l .c) (l .m) (l .inv) (e .before .loop-test .taken) (e .if1 .left) _ _ _ (c .before .before .has .ensures) (c .before .has2 .ensures) (c .step .ensures)
+    turn _ _ _ _ (l .c) (l .m) (l .inv) (e .before .loop-test .taken) (e .if1 .left) _ _ _
+    (c .before .before .has .ensures) (c .before .has2 .ensures) (c .step .ensures)
 
 returns-2 : tie.Need-returns-2 Inv-loop μ-loop
 returns-2 c =

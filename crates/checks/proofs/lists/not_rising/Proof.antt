@@ -49,8 +49,11 @@ loop-less c = search needs
 loop-again : tie.Need-loop-again Inv-loop μ-loop
 unfolding rising
 loop-again c =
-    let l = c .before .before .before .loop in
-    (omega arith, goes-on (lt-ltb _ _ (c .if1 .left)) (forward (rising (l .last)) (c .before .before .before .before .args .numbers .now) (l .i) (omega arith) (l .inv .1)))
+    let l = c .before .before .before .loop in (
+      omega arith,
+      goes-on (lt-ltb _ _ (c .if1 .left))
+          (forward (rising (l .last)) (c .before .before .before .before .args .numbers .now) (l .i) (omega arith) (l .inv .1)),
+    )
 
 returns-2 : tie.Need-returns-2 Inv-loop μ-loop
 unfolding notRising rising

@@ -44,8 +44,11 @@ loop-less c = search needs
 loop-again : tie.Need-loop-again Inv-loop μ-loop
 unfolding overweight someAbove
 loop-again c =
-    let l = c .before .before .before .loop in
-    (omega arith, passed (le-ltb _ _ (c .if1 .left)) (forward overweight (c .before .before .before .before .args .weights .now) (l .i) (omega arith) (l .inv .1)))
+    let l = c .before .before .before .loop in (
+      omega arith,
+      passed (le-ltb _ _ (c .if1 .left))
+          (forward overweight (c .before .before .before .before .args .weights .now) (l .i) (omega arith) (l .inv .1)),
+    )
 
 returns-2 : tie.Need-returns-2 Inv-loop μ-loop
 unfolding overweight someAbove

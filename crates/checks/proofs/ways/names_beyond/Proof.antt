@@ -56,7 +56,8 @@ unfolding namesBeyond any
 returns-2 c =
     let l = c .before .before .before .before .before .before .before .loop in
     let a = c .before .before .before .before .before .before .before .before .before .before .before .args in
-    found _ (or-second (leb (2 ^ a .n) (getD (a .present .now) (l .i) 0)) _ (tested (a .n) (c .before .before .word-at2 .ensures) (c .before .beyond2 .ensures) (c .if2 .taken)))
+    found _ (or-second (leb (2 ^ a .n) (getD (a .present .now) (l .i) 0)) _
+    (tested (a .n) (c .before .before .word-at2 .ensures) (c .before .beyond2 .ensures) (c .if2 .taken)))
     (forward-rows (namesBeyond (a .n)) (a .present .now) (a .absent .now) (l .i) (omega arith) (l .inv .1))
 
 add-i : tie.Need-add-i Inv-loop μ-loop

@@ -58,8 +58,14 @@ returns : tie.Need-returns Inv-loop μ-loop
 returns c =
     let l = c .before .before .loop in
     let a = c .before .before .before .before .before .before .before .args in
-    let e = ended _ _ _ _ _ _ _ (l .inv) (search needs) (no-more (c .before .none-left .ensures) (c .if1 .left)) (dropped (bitOr (a .p) (a .q))) (fixed-more (a .c) (a .p) (a .q)) in
-    (e .0 ∙ passing-remaining (a .p) (a .q) _, e .1, l .inv .kept-present, l .inv .kept-absent, all-kept _ _ _ _ _ _ _ (l .inv) (search needs) (no-more (c .before .none-left .ensures) (c .if1 .left)))
+    let e = ended _ _ _ _ _ _ _ (l .inv) (search needs) (no-more (c .before .none-left .ensures) (c .if1 .left))
+    (dropped (bitOr (a .p) (a .q))) (fixed-more (a .c) (a .p) (a .q)) in (
+      e .0 ∙ passing-remaining (a .p) (a .q) _,
+      e .1,
+      l .inv .kept-present,
+      l .inv .kept-absent,
+      all-kept _ _ _ _ _ _ _ (l .inv) (search needs) (no-more (c .before .none-left .ensures) (c .if1 .left)),
+    )
 
 pub restrict-spec : {M : Type 1} → statement M
 restrict-spec =

@@ -36,7 +36,8 @@ returns-2 : tie.Need-returns-2
 returns-2 c =
     let i = c .before .before in
     let a = i .before .before .args in
-    not-second (a .u) (a .v) (sym (i .before .subsumes .ensures) ∙ not-false _ (i .if1 .left)) (sym (c .before .subsumes2 .ensures) ∙ not-true _ (c .if2 .taken))
+    not-second (a .u) (a .v) (sym (i .before .subsumes .ensures) ∙ not-false _ (i .if1 .left))
+    (sym (c .before .subsumes2 .ensures) ∙ not-true _ (c .if2 .taken))
 
 returns-3 : tie.Need-returns-3
 returns-3 c =

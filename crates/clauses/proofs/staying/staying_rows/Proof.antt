@@ -68,7 +68,8 @@ returns c =
     let s = l .before .before .before .before in
     let w = l .before .whole .ensures in
     let g : Way → Bool = λ v. not (redundant (rows 0 (s .args .present .now) (s .args .absent .now)) v) in
-    let e = ended _ _ _ _ _ _ _ (l .loop .inv) (w .1) (no-more (c .before .none-left .ensures) (c .if1 .left)) (λ v. v) (λ v. ap (λ (m : ℕ). dropped m v) (ap₂ bitOr (w .2) (w .3))) in
+    let e = ended _ _ _ _ _ _ _ (l .loop .inv) (w .1) (no-more (c .before .none-left .ensures) (c .if1 .left))
+    (λ v. v) (λ v. ap (λ (m : ℕ). dropped m v) (ap₂ bitOr (w .2) (w .3))) in
     (e .0 ∙ passing-sift g _ ∙ ap (sift g) (w .0), e .1, l .loop .inv .kept-present, l .loop .inv .kept-absent)
 
 pub staying-rows-spec : {M : Type 1} → statement M

@@ -29,7 +29,8 @@ module _ (ps qs : List ℕ) (c : Clauses) (w : InTable ps qs c) where
       → Takes ps qs c (record { way = v; others = record { waysa = a; waysb = b; fixedpresent = c .fixedpresent; fixedabsent = c .fixedabsent } })
   unfolding waysOf
   takes a b n f v e =
-      subst (λ (u : Way). Takes ps qs c (record { way = u; others = record { waysa = a; waysb = b; fixedpresent = c .fixedpresent; fixedabsent = c .fixedabsent } })) (sym e)
+      subst (λ (u : Way). Takes ps qs c
+      (record { way = u; others = record { waysa = a; waysb = b; fixedpresent = c .fixedpresent; fixedabsent = c .fixedabsent } })) (sym e)
       (record {
         first = ap (map (dropped (fixedOf c))) (select-first f ps qs (w .paired) (inside n f .0));
         way-is = refl;
@@ -55,7 +56,8 @@ returns : tie.Need-returns
 returns c =
     let s = c .before .before .before .before .before .before .before .before in
     let a = s .args in
-    takes (a .present .now) (a .absent .now) (a .c) (s .pre .0) _ _ _ (first-low (a .c .waysa) (a .c .waysb) (search needs) (search needs)) (c .way-at .result) (c .way-at .ensures)
+    takes (a .present .now) (a .absent .now) (a .c) (s .pre .0) _ _ _ (first-low (a .c .waysa) (a .c .waysb) (search needs) (search needs))
+    (c .way-at .result) (c .way-at .ensures)
 
 cast-i-2 : tie.Need-cast-i-2
 cast-i-2 c = omega (arith, trailing-le 64 (c .before .before .before .before .before .args .c .waysb))

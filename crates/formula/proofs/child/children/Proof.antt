@@ -48,14 +48,17 @@ module _ (ps qs : List ℕ) (c : Clauses) where
 
     -- And by the fault f, whose word is m.
     by-fault : (f m : ℕ) → m ≡ 2 ^ f → Made x (minimal (remaining m 0 (waysOf ps qs c))) (bitOr (c .fixedpresent) m) (bitOr (c .fixedabsent) 0)
-        → Made y (minimal (remaining 0 m (waysOf ps qs c))) (bitOr (c .fixedpresent) 0) (bitOr (c .fixedabsent) m) → Parts ps qs c (Shannon f) (record { left = x; right = y })
+        → Made y (minimal (remaining 0 m (waysOf ps qs c))) (bitOr (c .fixedpresent) 0) (bitOr (c .fixedabsent) m)
+        → Parts ps qs c (Shannon f) (record { left = x; right = y })
     unfolding child childFixed
     by-fault f m e s t =
         record {
           on-left =
-              one (Shannon f) left x s (ap (λ (n : ℕ). minimal (remaining n 0 (waysOf ps qs c))) e) (ap (bitOr (c .fixedpresent)) e) (or-zero-r (c .fixedabsent));
+              one (Shannon f) left x s (ap (λ (n : ℕ). minimal (remaining n 0 (waysOf ps qs c))) e)
+              (ap (bitOr (c .fixedpresent)) e) (or-zero-r (c .fixedabsent));
           on-right =
-              one (Shannon f) right y t (ap (λ (n : ℕ). minimal (remaining 0 n (waysOf ps qs c))) e) (or-zero-r (c .fixedpresent)) (ap (bitOr (c .fixedabsent)) e);
+              one (Shannon f) right y t (ap (λ (n : ℕ). minimal (remaining 0 n (waysOf ps qs c))) e)
+              (or-zero-r (c .fixedpresent)) (ap (bitOr (c .fixedabsent)) e);
         }
 
   -- What `staying` asks of the ways by the fault f, where m is its word and n the same word with the other sense's, which is 0.

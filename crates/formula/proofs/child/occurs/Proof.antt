@@ -69,8 +69,11 @@ loop-again c =
 returns-2 : tie.Need-returns-2 Inv-loop μ-loop
 unfolding occurs any
 returns-2 c =
-    let l = c .before .before .loop in
-    (ended _ _ (l .left) (any (names (c .before .before .before .before .before .args .f))) (no-more (c .before .none-left .ensures) (c .if1 .left)) (l .inv .1), λ t. absurd (true≢false (sym t)))
+    let l = c .before .before .loop in (
+      ended _ _ (l .left) (any (names (c .before .before .before .before .before .args .f)))
+          (no-more (c .before .none-left .ensures) (c .if1 .left)) (l .inv .1),
+      λ t. absurd (true≢false (sym t)),
+    )
 
 pub occurs-spec : {M : Type 1} → statement M
 occurs-spec =

@@ -25,7 +25,8 @@ largest ns (suc i) =
     elim (ltb (getD ns f 0) (getD ns i 0)) as (λ b. ℕ) [ true ↦ i | false ↦ f ]
 
 -- One number more, by the definition's test.
-next : (ns : List ℕ) (i : ℕ) (t : Bool) → ltb (getD ns (largest ns i) 0) (getD ns i 0) ≡ t → largest ns (suc i) ≡ (elim t as (λ b. ℕ) [ true ↦ i | false ↦ largest ns i ])
+next : (ns : List ℕ) (i : ℕ) (t : Bool) → ltb (getD ns (largest ns i) 0) (getD ns i 0) ≡ t
+    → largest ns (suc i) ≡ (elim t as (λ b. ℕ) [ true ↦ i | false ↦ largest ns i ])
 unfolding largest
 next ns i t h = rw (h, largest)
 
@@ -60,7 +61,11 @@ module _ (n : ℕ) (ns : List ℕ) (best most i : ℕ) (inv : Leads n ns best mo
   larger h = record { inside = omega arith; right = rw add-one (sym (next ns i true (sym test ∙ lt-ltb most (getD ns i 0) h))); count = refl }
 
   not-larger : getD ns i 0 ≤ most → Leads n ns best most (i + 1)
-  not-larger h = record { inside = omega arith; right = rw add-one (inv .right ∙ sym (next ns i false (sym test ∙ le-ltb most (getD ns i 0) h))); count = inv .count }
+  not-larger h = record {
+    inside = omega arith;
+    right = rw add-one (inv .right ∙ sym (next ns i false (sym test ∙ le-ltb most (getD ns i 0) h)));
+    count = inv .count;
+  }
 
 abbrev Inv-loop : tie.InvT-loop
 Inv-loop n present absent count best₀ most₀ i₀ best most i = Leads n count best most i
@@ -94,7 +99,8 @@ loop-again : tie.Need-loop-again Inv-loop μ-loop
 loop-again c =
     let l = c .before .before .loop in
     let below : l .i < c .before .before .before .before .before .before .args .n = omega arith in
-    ⊎-elim (λ w. rw (w .1, w .2) (larger _ _ _ _ _ (l .inv) below (w .0 .taken))) (λ w. rw (w .1, w .2) (not-larger _ _ _ _ _ (l .inv) below (w .0 .left))) (c .if1 .came)
+    ⊎-elim (λ w. rw (w .1, w .2) (larger _ _ _ _ _ (l .inv) below (w .0 .taken)))
+    (λ w. rw (w .1, w .2) (not-larger _ _ _ _ _ (l .inv) below (w .0 .left))) (c .if1 .came)
 
 returns : tie.Need-returns Inv-loop μ-loop
 returns c =

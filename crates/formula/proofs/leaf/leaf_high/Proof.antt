@@ -27,7 +27,8 @@ whole : (c : tie.Else1 Inv-loop μ-loop)
 whole c =
     let l = c .before .before .loop in
     let a = c .before .before .before .before .before .before .args in
-    ended (a .present .now) (a .absent .now) (l .left) (λ vs. l .sum + chances (a .weights .now) vs) (no-more (c .before .none-left .ensures) (c .if1 .left)) (l .inv .2)
+    ended (a .present .now) (a .absent .now) (l .left) (λ vs. l .sum + chances (a .weights .now) vs)
+    (no-more (c .before .none-left .ensures) (c .if1 .left)) (l .inv .2)
 
 loop-holds : tie.Need-loop-holds Inv-loop μ-loop
 loop-holds c =
@@ -59,8 +60,11 @@ loop-again c =
     let a = c .before .before .before .before .before .before .before .before .before .before .args in
     let ps = a .present .now in
     let qs = a .absent .now in
-    let turn = forward ps qs (l .left) (λ vs. l .sum + chances (a .weights .now) vs) (t .result) (t .ensures) (l .inv .2) in
-    (t .ensures .within, omega (arith, l .inv .1, c .chance .ensures .1, fewer ps qs (l .left) (t .result) (t .ensures)), omega (arith, turn, c .chance .ensures .0))
+    let turn = forward ps qs (l .left) (λ vs. l .sum + chances (a .weights .now) vs) (t .result) (t .ensures) (l .inv .2) in (
+      t .ensures .within,
+      omega (arith, l .inv .1, c .chance .ensures .1, fewer ps qs (l .left) (t .result) (t .ensures)),
+      omega (arith, turn, c .chance .ensures .0),
+    )
 
 returns : tie.Need-returns Inv-loop μ-loop
 returns c = omega (arith, whole (c .before))

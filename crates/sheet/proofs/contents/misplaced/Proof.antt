@@ -17,7 +17,8 @@ abbrev agree : ℕ → List ℕ → List ℕ → Bool
 agree b ps ks = sameNumbers ps (starts b ks)
 
 abbrev Inv-loop : tie.InvT-loop
-Inv-loop s cues start₀ i₀ start i = (i ≤ cues) × (start ≤ 786432 + 1048560 * i) × (agree start (left 4 8 16 cues s i) (left 2 8 14 cues s i) ≡ agree (bodiesIn s) (placesIn s) (countsIn s))
+Inv-loop s cues start₀ i₀ start i = (i ≤ cues) × (start ≤ 786432 + 1048560 * i)
+    × (agree start (left 4 8 16 cues s i) (left 2 8 14 cues s i) ≡ agree (bodiesIn s) (placesIn s) (countsIn s))
 
 abbrev μ-loop : tie.MeasureT-loop
 μ-loop s cues start₀ i₀ start i = cues - i
@@ -51,7 +52,8 @@ unfolding sameNumbers starts
 returns c =
     let l = c .before .before .before in
     let s = l .before .before .before .before .args .s .now in
-    let turn = forward-both (agree (l .loop .start)) 8 4 16 2 14 (l .before .before .cues-in .result) s (l .loop .i) (omega arith) (c .before .u32-at .ensures) refl (l .loop .inv .2) in
+    let turn = forward-both (agree (l .loop .start)) 8 4 16 2 14 (l .before .before .cues-in .result) s
+    (l .loop .i) (omega arith) (c .before .u32-at .ensures) refl (l .loop .inv .2) in
     rw (ne-eqb (c .before .u32-at .result) (l .loop .start) (c .if1 .taken)) at (ap not turn)
 
 mul-u16-at : tie.Need-mul-u16-at Inv-loop μ-loop
@@ -83,7 +85,8 @@ unfolding sameNumbers starts
 loop-again c =
     let l = c .before .before .before .before in
     let s = l .before .before .before .before .args .s .now in
-    let turn = forward-both (agree (l .loop .start)) 8 4 16 2 14 (l .before .before .cues-in .result) s (l .loop .i) (omega arith) (c .before .before .u32-at .ensures) (c .u16-at .ensures) (l .loop .inv .2) in
+    let turn = forward-both (agree (l .loop .start)) 8 4 16 2 14 (l .before .before .cues-in .result) s
+    (l .loop .i) (omega arith) (c .before .before .u32-at .ensures) (c .u16-at .ensures) (l .loop .inv .2) in
     (omega arith, omega arith, rw (eq-eqb (c .before .before .u32-at .result) (l .loop .start) (c .before .if1 .left)) at turn)
 
 returns-2 : tie.Need-returns-2 Inv-loop μ-loop

@@ -38,7 +38,8 @@ unfolding notRising rising
 returns c =
     let l = c .before .before .before in
     let s = l .before .before .before .args .s .now in
-    let turn = forward (rising (l .loop .last)) 2 8 12 (l .before .cues-in .result) s (l .loop .i) (omega arith) (c .before .u16-at .ensures) (l .loop .inv .1) in
+    let turn = forward (rising (l .loop .last)) 2 8 12 (l .before .cues-in .result) s
+    (l .loop .i) (omega arith) (c .before .u16-at .ensures) (l .loop .inv .1) in
     rw (le-ltb (l .loop .last) (c .before .u16-at .result) (c .if1 .taken)) at (ap not turn)
 
 add-i : tie.Need-add-i Inv-loop μ-loop
@@ -52,14 +53,16 @@ unfolding rising
 loop-again c =
     let l = c .before .before .before in
     let s = l .before .before .before .args .s .now in
-    let turn = forward (rising (l .loop .last)) 2 8 12 (l .before .cues-in .result) s (l .loop .i) (omega arith) (c .before .u16-at .ensures) (l .loop .inv .1) in
+    let turn = forward (rising (l .loop .last)) 2 8 12 (l .before .cues-in .result) s
+    (l .loop .i) (omega arith) (c .before .u16-at .ensures) (l .loop .inv .1) in
     (omega arith, rw (lt-ltb (l .loop .last) (c .before .u16-at .result) (c .if1 .left)) at turn)
 
 returns-2 : tie.Need-returns-2 Inv-loop μ-loop
 unfolding notRising rising
 returns-2 c =
     let l = c .before in
-    ap not (ended (rising (l .loop .last)) 2 8 12 (l .before .cues-in .result) (l .before .before .before .args .s .now) (l .loop .i) (omega arith) (l .loop .inv .1))
+    ap not (ended (rising (l .loop .last)) 2 8 12 (l .before .cues-in .result)
+    (l .before .before .before .args .s .now) (l .loop .i) (omega arith) (l .loop .inv .1))
 
 pub not-rising-spec : {M : Type 1} → statement M
 not-rising-spec =

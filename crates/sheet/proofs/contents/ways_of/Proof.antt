@@ -45,7 +45,8 @@ unfolding total
 loop-again c =
     let l = c .before .before in
     let a = l .before .before .args in
-    let turn = forward (λ (ks : List ℕ). l .loop .sum + total ks) 2 8 14 (a .n) (a .s .now) (l .loop .i) (omega arith) (c .u16-at .ensures) (l .loop .inv .2) in
+    let turn = forward (λ (ks : List ℕ). l .loop .sum + total ks) 2 8 14
+    (a .n) (a .s .now) (l .loop .i) (omega arith) (c .u16-at .ensures) (l .loop .inv .2) in
     (omega arith, omega arith, omega (arith, turn))
 
 returns : tie.Need-returns Inv-loop μ-loop

@@ -19,7 +19,10 @@ part-result-end : tie.Need-part-result-end
 part-result-end c = search needs
 
 returns : tie.Need-returns
-returns c = let s = c .before .before .args .s .now in let i = c .before .before .args .i in take-all (length s - i) (drop i s) (omega (arith, length-drop i s))
+returns c =
+    let s = c .before .before .args .s .now in
+    let i = c .before .before .args .i in
+    take-all (length s - i) (drop i s) (omega (arith, length-drop i s))
 
 slice-aggregate-result : tie.Need-slice-aggregate-result
 slice-aggregate-result c = search needs

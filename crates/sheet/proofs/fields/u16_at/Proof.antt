@@ -23,7 +23,8 @@ returns c =
     let b = c .before in
     let r = b .before .before in
     let a = r .before .before .args in
-    c .pair .ensures ∙ joined 1 1 0 (r .rest .result .now) (b .before .byte-at .ensures) (b .byte-at2 .ensures) ∙ field-front 2 (a .i) (a .s .now) (r .rest .ensures)
+    c .pair .ensures ∙ joined 1 1 0 (r .rest .result .now) (b .before .byte-at .ensures) (b .byte-at2 .ensures)
+    ∙ field-front 2 (a .i) (a .s .now) (r .rest .ensures)
 
 pub u16-at-spec : {M : Type 1} → statement M
 u16-at-spec = tie.close (tie.spec rest-requires byte-at-requires byte-at-requires-2 pair-requires returns)

@@ -37,7 +37,8 @@ unfolding readRefusals
 past-7 c = past-6 (c .before .before) ∙ first-later _ _ (sym (c .before .misplaced .ensures) ∙ c .if3 .left)
 
 -- Where the last body ends, as the code counts it.
-end : (c : tie.After-ways-in) → let s = bytes-7 (c .before .before) in c .before .bodies-in .result + 16 * c .ways-in .result ≡ bodiesIn s + 16 * total (countsIn s)
+end : (c : tie.After-ways-in) → let s = bytes-7 (c .before .before) in
+    c .before .bodies-in .result + 16 * c .ways-in .result ≡ bodiesIn s + 16 * total (countsIn s)
 end c = ap₂ (λ (x w : ℕ). x + 16 * w) (c .before .bodies-in .ensures .0) (c .ways-in .ensures .0)
 
 -- ---- the answers
