@@ -7,7 +7,7 @@ ghost use Rattle.rules.specs.Leaf;
 ghost use Rattle.rules.specs.Tree;
 ghost use Rattle.rules.specs.Rounding.{S};
 ghost use Rattle.chances.specs.Directions.{dirOf};
-pub use rules::S;
+use rules::S;
 
 /// x / S, rounded.
 fn over(up: bool, x: u64) -> u64

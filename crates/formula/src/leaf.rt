@@ -12,12 +12,12 @@ ghost use Rattle.clauses.specs.Leaves.{waysOf, InTable};
 ghost use Rattle.formula.specs.Leaves.{endsOf};
 use super::Ends;
 use chances::chance::chance;
-use chances::rounding::S;
 use chances::rounding::either;
 use clauses::Clauses;
 use clauses::taking::faults;
 use clauses::taking::none_left;
 use clauses::taking::taken;
+use rules::S;
 
 /// Leaf low: the kept ways as independent events. `kept` has the faults of each way that is kept.
 fn leaf_low(weights: &[u32], present: &[u64], absent: &[u64], c: Clauses) -> u64
