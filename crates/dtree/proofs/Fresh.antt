@@ -14,7 +14,7 @@ use Rattle.rules.specs.Calls.{runNumber, runAnswerBy, runAnswer, runMakes, figu
 use Rattle.rules.specs.declared.Limits.{Limits}
 use Rattle.rules.specs.declared.RunAnswer.{RunAnswer}
 use Rattle.rules.proofs.LeafEnds.{leaf-le}
-use Rattle.records.specs.Records.{treeRecords, blank, noNodes, recordAt, faultCode, leftCode, position, above, places, samePlace, Good}
+use Rattle.records.specs.Records.{treeRecords, blank, noNodes, recordAt, leftCode, position, above, places, samePlace, Good}
 use Rattle.records.specs.Library.{callOutcome}
 use Rattle.records.specs.declared.Tree.{Tree}
 use Rattle.records.proofs.ByTheRules.{call-outcome}
@@ -25,11 +25,10 @@ use Rattle.dtree.proofs.Opens.{one-layout, root-record}
 
 -- The record of the root leaf is safe.
 root-safe : (t : Table) → SafeNode (recordAt t [] [])
-unfolding faultCode end position above places samePlace leftCode
+unfolding end position above places samePlace leftCode
 root-safe t =
     rw (sym (root-record t))
     record {
-      fault-fits = omega arith;
       parent-inside = omega arith;
       children-inside = omega arith;
       low-le = leaf-le down (t .weights) (rootWays t);

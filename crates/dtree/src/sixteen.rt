@@ -62,8 +62,9 @@ fn remake(weights: &[u32], present: &[u64], absent: &[u64], x: &Words, y: &mut W
     if next <= j {
         return false;
     }
-    let k = kind_of(record_at(x, j));
+    let told = record_at(x, j);
     let leaf = record_at(y, j);
+    let k = kind_of(told);
     let c = ways_of(present, absent, leaf);
     if !may(present, absent, leaf, c, k) {
         return false;

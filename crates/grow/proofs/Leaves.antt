@@ -13,7 +13,7 @@ use Rattle.rules.specs.Tree.{Node as Spot}
 use Rattle.rules.specs.declared.Kind.{Kind}
 use Rattle.rules.specs.declared.Way.{Way}
 use Rattle.rules.proofs.LeafEnds.{leaf-le}
-use Rattle.records.specs.Records.{treeRecords, blank, faultCode, recordWays}
+use Rattle.records.specs.Records.{treeRecords, blank, recordWays}
 use Rattle.records.specs.Growing.{refinedRecord, freshRecord, spotOf, refinedAt}
 use Rattle.records.specs.declared.Node.{Node}
 use Rattle.store.specs.Safe.{SafeNode, Safe}
@@ -39,11 +39,10 @@ as-child ps qs ws x c d k b j n l p h =
 
 -- The record of a new leaf is safe.
 pub safe-fresh : (ws : List ℕ) (p q : ℕ) (vs : List Way) (j : ℕ) (n : Node) → j < treeRecords → n ≡ freshRecord (only ws) (spot p q vs) j → SafeNode n
-unfolding faultCode end
+unfolding end
 safe-fresh ws p q vs j n h e =
     rw e
     (record {
-      fault-fits = omega arith;
       parent-inside = h;
       children-inside = omega arith;
       low-le = leaf-le down ws vs;

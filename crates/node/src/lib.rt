@@ -16,7 +16,6 @@ ghost use Rattle.records.specs.Records.{treeRecords, kindCode, faultCode};
 ghost use Rattle.records.specs.Growing.{freshRecord, refinedRecord};
 ghost use Rattle.store.specs.Safe.{SafeNode};
 ghost use Rattle.clauses.specs.Leaves.{waysOf, InTable};
-ghost use Rattle.formula.specs.Leaves.{FaultFits};
 use clauses::Clauses;
 use formula::leaf::ends;
 use records::Node;
@@ -86,7 +85,6 @@ fn fault_code(k: Kind) -> u64
 
 /// The record of a leaf that is refined, with its left child in record `left`.
 pub fn refined(x: Node, k: Kind, left: usize) -> Node
-    requires { ⌜ FaultFits k ⌝ }
     requires { ⌜ SafeNode x ⌝ }
     requires { ⌜ left + 1 < treeRecords ⌝ }
     ensures { λ n. ⌜ (n ≡ refinedRecord x k left) × SafeNode n ⌝ }

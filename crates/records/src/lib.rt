@@ -1,10 +1,10 @@
 //! A tree's records, all of one layout, the root in record 0; and how many there are.
 //! specs/ says which records a series of refinements gives and how to read the series back; proofs/ that these belong together.
 
-/// The records of a tree, one for each node that 255 refinements make.
+/// The records of a tree, one for each node that 255 refinements make. A contract cannot cite a constant: there it is `treeRecords`.
 pub const RECORDS: usize = 511;
 
-/// The fields of a record.
+/// The fields of a record; in contracts `recordFields`.
 pub const FIELDS: usize = 13;
 
 /// One node. `kind` is 0 blank, 1 leaf, 2 independent-or, 3 Shannon on `fault`; `live` is 1 for an open leaf.

@@ -17,7 +17,6 @@ use Rattle.store.specs.Safe.{SafeNode, Safe}
 safe-blank : SafeNode blank
 safe-blank =
     record {
-      fault-fits = omega arith;
       parent-inside = omega arith;
       children-inside = omega arith;
       low-le = omega arith;
@@ -48,16 +47,15 @@ safe-set xs j x h s n = record { each = λ i. at i (ℕ-discrete i j) }
     at i (yes e) = rw (e, getD-set-same xs j x blank h) n
     at i (no e) = rw (getD-set-other xs j i x blank e) (s .each i)
 
--- A safe record with another fault, left child and interval, if these are in order; the other two codes are free.
-pub safe-changed : (x : Node) (code f mark l lo hi : ℕ) → SafeNode x → f < 64 → l + 1 < treeRecords → lo ≤ S → hi ≤ S
+-- A safe record with another left child and interval, if these are in order; its codes are free.
+pub safe-changed : (x : Node) (code f mark l lo hi : ℕ) → SafeNode x → l + 1 < treeRecords → lo ≤ S → hi ≤ S
     → SafeNode (changed x code f mark l lo hi)
-safe-changed x code f mark l lo hi s a b c d =
+safe-changed x code f mark l lo hi s a b c =
     record {
-      fault-fits = a;
       parent-inside = s .parent-inside;
-      children-inside = b;
-      low-le = c;
-      high-le = d;
+      children-inside = a;
+      low-le = b;
+      high-le = c;
       ownlow-le = s .ownlow-le;
       ownhigh-le = s .ownhigh-le;
     }

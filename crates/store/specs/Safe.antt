@@ -1,4 +1,4 @@
--- Records that code may follow: every link is the index of a record, every fault has a bit, every end is at most S.
+-- Records that code may follow: every link is the index of a record, every end is at most S.
 -- Rests on `records`, Records. Growing a tree keeps this, so that a caller has it for good once it has it.
 use mathlib.Core.List.{List}
 use Prim.Native.Nat.{ℕ, _+_, _≤_, _<_}
@@ -6,9 +6,8 @@ use Rattle.rules.specs.Rounding.{S}
 use Rattle.records.specs.Records.{treeRecords, recordIn}
 use Rattle.records.specs.declared.Node.{Node}
 
--- A record whose links, fault and ends code may use as they stand.
+-- A record whose links and ends code may use as they stand.
 pub record SafeNode (x : Node) : Type 0 where
-  pub fault-fits : x .fault < 64
   pub parent-inside : x .parent < treeRecords
   pub children-inside : x .left + 1 < treeRecords
   pub low-le : x .low ≤ S

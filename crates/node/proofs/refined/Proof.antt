@@ -3,29 +3,20 @@
 use mathlib.Core.Path.{_≡_}
 use mathlib.Core.Option.{some}
 use Prim.Native.Nat.{ℕ, _+_, _<_}
-use native.Mathlib.Omega.{arith}
 use borrow.Author.Needs.{needs}
 use Rattle.rules.specs.declared.Kind.{Kind}
-use Rattle.rules.specs.declared.Kind.the-variants.{IndependentOr, Shannon}
 use Rattle.records.specs.Records.{treeRecords, kindCode, faultCode}
 use Rattle.records.specs.Growing.{changed, refinedRecord}
 use Rattle.records.specs.declared.Node.{Node}
 use Rattle.store.specs.Safe.{SafeNode}
 use Rattle.store.proofs.SafeLaws.{safe-changed}
-use Rattle.formula.specs.Leaves.{FaultFits}
 use Rattle.node.proofs.refined.Statement.{statement}
 use Rattle.node.proofs.refined.Tie as tie
 
--- The fault of a kind that fits has a bit in a word; independence has fault 0.
-below : (k : Kind) → FaultFits k → faultCode (some k) < 64
-unfolding FaultFits faultCode
-below IndependentOr h = omega arith
-below (Shannon f) h = h
-
 -- The record with these two codes is the refined one, and safe.
-made : (x : Node) (k : Kind) (l code f : ℕ) → code ≡ kindCode (some k) → f ≡ faultCode (some k) → FaultFits k → SafeNode x → l + 1 < treeRecords
+made : (x : Node) (k : Kind) (l code f : ℕ) → code ≡ kindCode (some k) → f ≡ faultCode (some k) → SafeNode x → l + 1 < treeRecords
     → (changed x code f 0 l (x .low) (x .high) ≡ refinedRecord x k l) × SafeNode (changed x code f 0 l (x .low) (x .high))
-made x k l code f e h fits s r = (rw (e, h), safe-changed x code f 0 l (x .low) (x .high) s (rw h (below k fits)) r (s .low-le) (s .high-le))
+made x k l code f e h s r = (rw (e, h), safe-changed x code f 0 l (x .low) (x .high) s r (s .low-le) (s .high-le))
 
 kind-code-requires : tie.Need-kind-code-requires
 kind-code-requires c κs = search needs
@@ -36,7 +27,7 @@ fault-code-requires c κs = search needs
 returns : tie.Need-returns
 returns c =
     let s = c .before .before in
-    made (s .args .x) (s .args .k) (s .args .left) _ _ (c .before .kind-code .ensures) (c .fault-code .ensures) (s .pre .0) (s .pre .1 .0) (s .pre .1 .1)
+    made (s .args .x) (s .args .k) (s .args .left) _ _ (c .before .kind-code .ensures) (c .fault-code .ensures) (s .pre .0) (s .pre .1)
 
 pub refined-spec : {M : Type 1} → statement M
 refined-spec = tie.close (tie.spec kind-code-requires fault-code-requires returns)

@@ -24,7 +24,7 @@ abbrev counted : tie.After-record-at → tie.After-used-in
 counted c = c .before .before
 
 abbrev at-child : tie.After-record-at3 → tie.After-record-at
-at-child c = c .before .before .before .before .before
+at-child c = c .before .before .before .before
 
 -- The table and the two trees.
 abbrev given : tie.Start → Table
@@ -38,20 +38,20 @@ built s = treeOf (s .args .y .now)
 
 -- What was read of the next refinement, where it is known whether it may be made.
 seen : (c : tie.After-may)
-    → let l = c .before .before in
+    → let k = c .before .before in
+    let l = k .before in
     let d = at-child l in
     let u = counted d in
     let s = entry u in
-    Read (given s) (told-by s) (built s) (u .used-in .result) (d .record-at .result) (l .before .before .kind-of .result) (l .record-at3 .result)
-    (c .may .result)
+    Read (given s) (told-by s) (built s) (u .used-in .result) (d .record-at .result) (k .kind-of .result) (l .record-at3 .result) (c .may .result)
 seen c =
-    let l = c .before .before in
+    let k = c .before .before in
+    let l = k .before in
     let d = at-child l in
-    let k = l .before .before in
     record {
       next-is = counted d .used-in .ensures;
       child-is = d .record-at .ensures;
-      kind-is = k .kind-of .ensures ∙ ap kindOf (k .before .record-at2 .ensures);
+      kind-is = k .kind-of .ensures ∙ ap kindOf (l .before .before .record-at2 .ensures);
       leaf-is = l .record-at3 .ensures;
       may-is = c .may .ensures .0 (entry (counted d) .args .weights .now);
     }
@@ -75,15 +75,15 @@ returns-2 c =
 record-at-requires-2 : tie.Need-record-at-requires-2
 record-at-requires-2 c κs = search needs
 
-kind-of-requires : tie.Need-kind-of-requires
-kind-of-requires c κs = search needs
-
 record-at-requires-3 : tie.Need-record-at-requires-3
 record-at-requires-3 c κs = search needs
 
+kind-of-requires : tie.Need-kind-of-requires
+kind-of-requires c κs = search needs
+
 ways-of-requires : tie.Need-ways-of-requires
 ways-of-requires c κs =
-    let s = entry (counted (at-child c)) in
+    let s = entry (counted (at-child (c .before))) in
     (few-ways (given s) (s .pre .0), sym (paired-words (given s) (s .pre .0)))
 
 may-requires : tie.Need-may-requires
@@ -97,12 +97,12 @@ grow-requires c κs =
     let i = c .before in
     let m = i .before in
     let w = m .before in
-    let l = w .before in
+    let l = w .before .before in
     let d = at-child l in
     let u = counted d in
     let s = entry u in
     let room = d .before .if1 .left in
-    let inside = l .before .before .before .before .if2 .left in (
+    let inside = l .before .before .before .if2 .left in (
       s .pre .0,
       (
         ways-there (s .args .present .now) (s .args .absent .now) _ _ _ (l .record-at3 .ensures) (w .ways-of .ensures),
@@ -123,10 +123,10 @@ returns-4 : tie.Need-returns-4
 returns-4 c =
     let i = c .before .before in
     let m = i .before in
-    let l = m .before .before in
+    let l = m .before .before .before in
     let d = at-child l in
     let s = entry (counted d) in
-    can _ _ _ _ _ _ _ _ _ (seen m) (not-false _ (i .if3 .left)) (d .before .if1 .left) (l .before .before .before .before .if2 .left) (s .pre .0)
+    can _ _ _ _ _ _ _ _ _ (seen m) (not-false _ (i .if3 .left)) (d .before .if1 .left) (l .before .before .before .if2 .left) (s .pre .0)
     (s .pre .1 .1 .1)
     (c .grow .ensures)
 
@@ -139,8 +139,8 @@ remake-spec =
     record-at-requires
     returns-2
     record-at-requires-2
-    kind-of-requires
     record-at-requires-3
+    kind-of-requires
     ways-of-requires
     may-requires
     returns-3

@@ -23,7 +23,7 @@ both-ends : (ws : List ℕ) (x l r : Node) (k : Kind) (a b lo hi : ℕ) → k �
 unfolding joined
 both-ends ws x l r k a b lo hi e f g h j s = (
   rw (j .0, h .0, g, f, e),
-  safe-changed x (x .kind) (x .fault) (x .live) (x .left) lo hi s (s .fault-fits) (s .children-inside) (h .1) (j .1),
+  safe-changed x (x .kind) (x .fault) (x .live) (x .left) lo hi s (s .children-inside) (h .1) (j .1),
 )
 
 kind-of-requires : tie.Need-kind-of-requires
