@@ -180,8 +180,8 @@ pub extern "C" fn cue_sheet_write(
     budget: u64,
     space: &mut [u8],
 ) -> CueAnswer
-    ensures promise { λ r. ⌜ WritingTold (given (now (weights .entry)) (now (numbers .entry)) (now (counts .entry)) (now (present .entry)) (now (absent .entry))
-        (record { allowance = allowance; budget = budget })) (now (space .entry)) (now (space .exit)) r ⌝ }
+    ensures promise { λ r. ⌜ WritingTold (given (now (weights .entry)) (now (numbers .entry)) (now (counts .entry))
+        (now (present .entry)) (now (absent .entry)) (record { allowance = allowance; budget = budget })) (now (space .entry)) (now (space .exit)) r ⌝ }
 {
     let limits = Limits { allowance, budget };
     of_write(writer::write(weights, numbers, counts, present, absent, limits, space))

@@ -3,7 +3,8 @@
 ghost use mathlib.Core.Path.{_≡_};
 ghost use mathlib.Core.Option.{some, none};
 ghost use Rattle.rules.specs.Answers.{refused};
-ghost use Rattle.cuerisk.specs.Numbers.{verdictCode, kindAsked, flat, flatAnswer, flatRun, flatSpot, flatSheet, flatEntry, noTable, flatTable, flatWrite};
+ghost use Rattle.cuerisk.specs.Numbers.{verdictCode, kindAsked, flat, flatAnswer, flatRun, flatSpot};
+ghost use Rattle.cuerisk.specs.Numbers.{flatSheet, flatEntry, noTable, flatTable, flatWrite};
 use super::CueAnswer;
 use super::CueEntry;
 use super::CueSheet;

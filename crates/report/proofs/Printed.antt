@@ -52,12 +52,14 @@ module _ (bs : List ℕ) (h : AllBelow 256 bs) (accepted : readNumber bs ≡ 0) 
   cue = getD (decode bs .cues) i d
 
   -- WHAT IS PRINTED for the i-th entry is the line of the i-th cue.
-  pub printed : answerText (entryIn bs i .cue) (runAnswer (tableIn bs (entryIn bs i)) false leaf (limitsIn bs)) ≡ line (limitsIn bs) (decode bs .weights) (getD (decode bs .cues) i d)
+  pub printed : answerText (entryIn bs i .cue) (runAnswer (tableIn bs (entryIn bs i)) false leaf (limitsIn bs))
+      ≡ line (limitsIn bs) (decode bs .weights) (getD (decode bs .cues) i d)
   unfolding cue
   printed =
       let there : i < length (decode bs .cues) = rw (cues-decoded bs h accepted) inside in
       let ok : Accepted (tableOf (decode bs .weights) cue) = read-cue-accepted bs h accepted cue (listed (decode bs .cues) i d there) in
-      ap₂ (λ (n : ℕ) (t : Table). answerText n (runAnswer t false leaf (limitsIn bs))) (hands-over bs h accepted i d inside .cue) (entry-parts bs accepted i inside d refl)
+      ap₂ (λ (n : ℕ) (t : Table). answerText n (runAnswer t false leaf (limitsIn bs)))
+      (hands-over bs h accepted i d inside .cue) (entry-parts bs accepted i inside d refl)
       ∙ line-of (limitsIn bs) (decode bs .weights) cue (run-number (tableOf (decode bs .weights) cue) ok (limitsIn bs) ∙ limits-kept bs accepted)
 
 pub noCue : Cue

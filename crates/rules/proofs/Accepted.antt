@@ -144,7 +144,8 @@ unfolding tableNumber tableRefusals wayRefusals faultsOutside wordsAmiss namesBe
 inside-accepted t k =
     first-later _ _ (from-one 64 n (k .some-faults) (k .few-faults))
     ∙ first-later _ _ (weights-test (t .weights) (k .weights))
-    ∙ first-later _ _ (or-neither _ _ (le-ltb 128 (length (t .present)) (k .few-ways)) (ap not (eq-eqb (length (t .present)) (length (t .absent)) (k .paired))))
+    ∙ first-later _ _
+    (or-neither _ _ (le-ltb 128 (length (t .present)) (k .few-ways)) (ap not (eq-eqb (length (t .present)) (length (t .absent)) (k .paired))))
     ∙ first-later _ _ (each-fails _ (ways t) below)
     ∙ first-later _ _ (each-fails _ (ways t) (λ v m. apart-test (v .present) (v .absent) (k .one-sense-each v m)))
     ∙ first-none

@@ -33,7 +33,8 @@ use Rattle.rules.proofs.Accepted.{Inside, accepted-inside, inside-accep
 use Rattle.rules.proofs.WithinLimits.{Tested, tested-within, within-tested, cue-inside}
 use Rattle.rules.proofs.CueTables.{LineCertain, printed-certain}
 use Rattle.rules.proofs.RoundTrip.{bytesOf, OfSheet, write-exactly, Put, write-read, read-write}
-use Rattle.rules.proofs.Sheets.{IsSheet, accepted-exactly, accepts-encoded, decode-encode, encode-decode, within-decoded, longest, attained, first-bytes}
+use Rattle.rules.proofs.Sheets.{IsSheet, accepted-exactly, accepts-encoded, decode-encode}
+use Rattle.rules.proofs.Sheets.{encode-decode, within-decoded, longest, attained, first-bytes}
 
 -- ---- RULES 4.12: the interval at every place encloses the exact sum of the ways there.
 

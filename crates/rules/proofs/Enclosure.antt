@@ -130,7 +130,8 @@ pub before-leaving-out : (ws : List ℕ) (vs : List Way) (l h : ℕ) → Enclose
 before-leaving-out ws vs l h e = record { below = rw (minimal-exact ws vs) at (e .below); above = rw (minimal-exact ws vs) at (e .above) }
 
 -- At the root, over the table's own ways.
-pub root-encloses : (t : Table) → Accepted t → (ns : List Refinement) → series t ns ≡ true → Encloses (t .weights) (ways t) (low t (tree ns)) (high t (tree ns))
+pub root-encloses : (t : Table) → Accepted t → (ns : List Refinement) → series t ns ≡ true
+    → Encloses (t .weights) (ways t) (low t (tree ns)) (high t (tree ns))
 unfolding low high rootWays
 root-encloses t ok ns h =
     let e = tree-encloses (t .weights) (weights-fit t ok) (rootWays t) (root-inside t ok) (root-one-sense t ok) (tree ns) (series-sound t ns h) in

@@ -105,7 +105,8 @@ module _ (f P A : ℕ) (only : bitOr P A ≡ 2 ^ f) where
   -- It does if it names the fault at all, and neither is contradicted.
   both-follow : (u v : Way) → contradicted P A u ≡ false → contradicted P A v ≡ false → touches m v ≡ true → Follows u v
   both-follow u v cu cv n =
-      alike (bit f P) (bit f A) (bit f (u .present)) (bit f (u .absent)) (bit f (v .present)) (bit f (v .absent)) fixed-either (clash-off u cu) (clash-off v cv)
+      alike (bit f P) (bit f A) (bit f (u .present)) (bit f (u .absent))
+      (bit f (v .present)) (bit f (v .absent)) fixed-either (clash-off u cu) (clash-off v cv)
       (sym (bit-or f (v .present) (v .absent)) ∙ sym (names v) ∙ n)
 
   -- And if the first does not name it.

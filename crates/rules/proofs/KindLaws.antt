@@ -209,8 +209,10 @@ fault-bound d ws k vs f l x y p q =
     ∙ ap₂ (λ (m n : ℕ). getD ws f 0 * m + (S - getD ws f 0) * n)
     (sym (mass-cong ws (happens (remaining (2 ^ f) 0 vs)) (λ a. happens vs (set a f true)) (λ a e. fix-present f vs a (omega (arith, l, e)))))
     (sym (mass-cong ws (happens (remaining 0 (2 ^ f) vs)) (λ a. happens vs (set a f false)) (λ a e. fix-absent f vs a (omega (arith, l, e))))))
-    (rw (mass-cong ws (happens (minimal (remaining (2 ^ f) 0 vs))) (happens (remaining (2 ^ f) 0 vs)) (λ a e. minimal-happens (remaining (2 ^ f) 0 vs) a)) at p)
-    (rw (mass-cong ws (happens (minimal (remaining 0 (2 ^ f) vs))) (happens (remaining 0 (2 ^ f) vs)) (λ a e. minimal-happens (remaining 0 (2 ^ f) vs) a)) at q)
+    (rw (mass-cong ws (happens (minimal (remaining (2 ^ f) 0 vs))) (happens (remaining (2 ^ f) 0 vs))
+    (λ a e. minimal-happens (remaining (2 ^ f) 0 vs) a)) at p)
+    (rw (mass-cong ws (happens (minimal (remaining 0 (2 ^ f) vs))) (happens (remaining 0 (2 ^ f) vs))
+    (λ a e. minimal-happens (remaining 0 (2 ^ f) vs) a)) at q)
 
 -- A fault that occurs is not fixed yet, so fixing it is fixing one fault more.
 fix-more : (all : List Way) (x : Node) (f P A : ℕ) → ByNumbers all x → occurs f (x .ways) ≡ true → bitOr P A ≡ 2 ^ f

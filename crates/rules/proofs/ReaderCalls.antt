@@ -77,7 +77,8 @@ front-length s p = omega (arith, encode-length s p, length-append (sheetFront s)
 
 -- The body of the cue at a position, in a sheet's bytes.
 sheet-body : (s : Sheet) → Paired (s .cues) → (bs : List ℕ) → encode s ≡ bs → (i : ℕ) (d : Cue) → i < length (s .cues)
-    → take (16 * length (getD (s .cues) i d .present)) (drop (getD (starts (bodiesStart (length (s .cues)) (length (s .weights))) (countsOf (s .cues))) i 0) bs)
+    → take (16 * length (getD (s .cues) i d .present))
+    (drop (getD (starts (bodiesStart (length (s .cues)) (length (s .weights))) (countsOf (s .cues))) i 0) bs)
     ≡ bodyBytes (getD (s .cues) i d .present) (getD (s .cues) i d .absent)
 unfolding sheetFront encode
 sheet-body s p bs e i d there = rw (← e) (body-at (sheetFront s) _ (front-length s p) (s .cues) p i d there)

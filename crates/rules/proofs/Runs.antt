@@ -232,7 +232,8 @@ verdict-says t a zero s = by (turn t a s) (reason t a s)
     by (go n) (more w n₁ e r) = is-spent w (n, e) r refl
 verdict-says t a (suc b) s = by (turn t a s) (reason t a s) (λ n. verdict-says t a b (refine n s))
   where
-    by : (x : Turn) → Reason t a s x → ((n : Refinement) → Says t a b (length (picks t a b (refine n s))) (ran t a b (refine n s)) (verdict t a b (refine n s)))
+    by : (x : Turn) → Reason t a s x
+        → ((n : Refinement) → Says t a b (length (picks t a b (refine n s))) (ran t a b (refine n s)) (verdict t a b (refine n s)))
         → Says t a (suc b) (length {A = Refinement} (elim x as (λ x. List Refinement) [ stop v ↦ [] | go n ↦ n ∷ picks t a b (refine n s) ]))
         (grow s (elim x as (λ x. List Refinement) [ stop v ↦ [] | go n ↦ n ∷ picks t a b (refine n s) ]))
         (elim x as (λ x. Verdict) [ stop v ↦ v | go n ↦ verdict t a b (refine n s) ])

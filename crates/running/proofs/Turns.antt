@@ -84,7 +84,8 @@ module _ (t : Table) (a : ℕ) (s : DTree) where
 -- The rules refine the leaf in record j, by the choice for its ways.
 pub record Goes (t : Table) (allowance : ℕ) (x : Tree) (j : ℕ) : Type 0 where
   pub inside : j < length (places (history x))
-  pub taken : turn t allowance (tree (history x)) ≡ go (record { place = getD (places (history x)) j []; kind = choice (t .weights) (recordWays t (getD (x .nodes) j blank)) })
+  pub taken : turn t allowance (tree (history x))
+      ≡ go (record { place = getD (places (history x)) j []; kind = choice (t .weights) (recordWays t (getD (x .nodes) j blank)) })
 
 module _ (t : Table) (x : Tree) (g : Good t x) where
   -- The records tell the series that made the tree.
@@ -142,14 +143,16 @@ module _ (t : Table) (x : Tree) (g : Good t x) where
 
   module _ (a : ℕ) where
     -- What the test of the root's record says.
-    test-is : {b : Bool} → b ≡ narrow a (getD (x .nodes) 0 blank .low) (getD (x .nodes) 0 blank .high) → b ≡ narrow a (low t (tree (history x))) (high t (tree (history x)))
+    test-is : {b : Bool} → b ≡ narrow a (getD (x .nodes) 0 blank .low) (getD (x .nodes) 0 blank .high)
+        → b ≡ narrow a (low t (tree (history x))) (high t (tree (history x)))
     test-is e = e ∙ ap₂ (narrow a) root-low root-high
 
     -- If it holds, the rules' turn stops: met.
     pub is-met : {b : Bool} → b ≡ narrow a (getD (x .nodes) 0 blank .low) (getD (x .nodes) 0 blank .high) → b ≡ true → turn t a (tree (history x)) ≡ stop Met
     is-met e h = turn-met t a (tree (history x)) (sym (test-is e) ∙ h)
 
-    module _ {b : Bool} (e : b ≡ narrow a (getD (x .nodes) 0 blank .low) (getD (x .nodes) 0 blank .high)) (h : b ≡ false) {r : Found} (p : r ≡ pickOf (x .nodes)) where
+    module _ {b : Bool} (e : b ≡ narrow a (getD (x .nodes) 0 blank .low) (getD (x .nodes) 0 blank .high))
+        (h : b ≡ false) {r : Found} (p : r ≡ pickOf (x .nodes)) where
       -- If it fails, the tree's interval is too wide.
       wide : narrow a (low t (tree (history x))) (high t (tree (history x))) ≡ false
       wide = sym (test-is e) ∙ h
@@ -177,5 +180,8 @@ module _ (t : Table) (x : Tree) (g : Good t x) where
             record {
               inside = picked .inside;
               taken = turn-goes t a (tree (history x)) wide _ (picked .taken) (some-left u)
-                  ∙ ap (λ (xs : List Node). go (record { place = getD (places (history x)) j []; kind = choice (t .weights) (recordWays t (getD xs j blank)) })) (sym nodes-are);
+                  ∙ ap (λ (xs : List Node). go (record {
+                    place = getD (places (history x)) j [];
+                    kind = choice (t .weights) (recordWays t (getD xs j blank));
+                  })) (sym nodes-are);
             }

@@ -24,7 +24,8 @@ pub fn run_on(
     requires { ⌜ Accepted (table (now weights) (now present) (now absent)) ⌝ }
     requires { ⌜ Good (table (now weights) (now present) (now absent)) (treeOf (now tree)) ⌝ }
     requires { ⌜ Safe (treeOf (now tree) .nodes) ⌝ }
-    ensures { λ r. ⌜ Ran (table (now (weights .entry)) (now (present .entry)) (now (absent .entry))) (history (treeOf (now (tree .entry)))) limits (treeOf (now (tree .exit))) r ⌝ }
+    ensures { λ r. ⌜ Ran (table (now (weights .entry)) (now (present .entry)) (now (absent .entry)))
+        (history (treeOf (now (tree .entry)))) limits (treeOf (now (tree .exit))) r ⌝ }
 {
     let allowance = limits.allowance;
     let budget = limits.budget;

@@ -37,14 +37,17 @@ next n i less = (i .0 + 1, add-one-le less)
 pub nearer : (n : ℕ) (i : Upto n) (less : i .0 < n) → Nearer n (next n i less) i
 nearer n i less = add-one-dec n (i .0) less
 
-module _ {M : Type 1} {𝓤 : URA M} {H : Heap 𝓤} {A : Atoms 𝓤} {K : Type 0} {W : Given 𝓤 H A} {Γ : List (Item 𝓤)} {E : Env 𝓤 H} {C : Calls 𝓤 H} {Λ : Loops 𝓤 H} {q : Post 𝓤 H} where
+module _ {M : Type 1} {𝓤 : URA M} {H : Heap 𝓤} {A : Atoms 𝓤} {K : Type 0}
+    {W : Given 𝓤 H A} {Γ : List (Item 𝓤)} {E : Env 𝓤 H} {C : Calls 𝓤 H} {Λ : Loops 𝓤 H} {q : Post 𝓤 H} where
   -- The test of a `while`: it holds and the turn goes on, or it fails and the loop is left.
-  pub tests : K → {c : Operand} {n : ℕ} {b : Body} {y : Bool} → Opd K W Γ E c (vbool y) → (T y → Seq K W Γ (runs C Λ E b q)) → (T (not y) → Seq K W Γ (prop (post 𝓤 H q (exits n))))
+  pub tests : K → {c : Operand} {n : ℕ} {b : Body} {y : Bool} → Opd K W Γ E c (vbool y)
+      → (T y → Seq K W Γ (runs C Λ E b q)) → (T (not y) → Seq K W Γ (prop (post 𝓤 H q (exits n))))
       → Seq K W Γ (runs C Λ E (seq (cond c skip (exit n)) b) q)
   tests t o held failed = first t $ branches t o (λ z. skips t $ record { prf = held z .prf }) (λ z. jumps t $ record { prf = failed z .prf })
 
 -- What holds at the end, where the contract has two clauses.
-pub says-both : {M : Type 1} {𝓤 : URA M} {H : Heap 𝓤} {A : Atoms 𝓤} {K : Type 0} {W : Given 𝓤 H A} {Γ : List (Item 𝓤)} → K → {φ ψ : Type 0} {P : SProp 𝓤} → φ → ψ
+pub says-both : {M : Type 1} {𝓤 : URA M} {H : Heap 𝓤} {A : Atoms 𝓤} {K : Type 0} {W : Given 𝓤 H A} {Γ : List (Item 𝓤)}
+    → K → {φ ψ : Type 0} {P : SProp 𝓤} → φ → ψ
     → Step K W Γ (prop P) Γ (prop (sep 𝓤 P (sep 𝓤 (fact 𝓤 φ) (fact 𝓤 ψ))))
 says-both {𝓤 = 𝓤} t {φ} {ψ} {P} x y = step (λ s. record { prf = via 𝓤 P (s .prf) (put P both) })
   where

@@ -60,7 +60,8 @@ decides c =
 
 -- The rules refine the leaf in record j, and the budget is not spent.
 goes-there : (c : tie.After-j Inv-loop μ-loop)
-    → Goes (table (call (turn-of (c .before .before)))) (call (turn-of (c .before .before)) .args .limits .allowance) (now-tree (turn-of (c .before .before))) (c .j .given .0 .0)
+    → Goes (table (call (turn-of (c .before .before)))) (call (turn-of (c .before .before)) .args .limits .allowance)
+    (now-tree (turn-of (c .before .before))) (c .j .given .0 .0)
     × (turn-of (c .before .before) .loop .made ≡ call (turn-of (c .before .before)) .args .limits .budget → ⊥)
 goes-there c = subst (outcome (turn-of (c .before .before))) (c .j .given .1) (decides (c .before .before))
 
