@@ -29,7 +29,7 @@ use Rattle.records.proofs.Seen.{left-link}
 use Rattle.records.proofs.Live.{Holds, refined, unrefined, holds}
 use Rattle.pick.specs.declared.Found.{Found}
 use Rattle.pick.specs.declared.Found.the-variants.{At, Nothing}
-use Rattle.pick.specs.Picks.{ownFound, wider, pickFrom, pickOf}
+use Rattle.pick.specs.Picks.{ownFound, widerOf, pickFrom, pickOf}
 use Rattle.pick.proofs.Layouts.{child-at}
 
 -- ---- a candidate of the rules as the search would show it
@@ -46,8 +46,8 @@ shown-from ns p b none = refl
 shown-from ns p b (some x) = ap (λ (q : Place). At (position q (places ns)) (x .width)) (append-assoc p (b ∷ []) (x .place))
 
 -- The wider of two candidates is shown as the wider of the two.
-shown-wider : (ns : List Refinement) (p : Place) (o o′ : Option Candidate) → wider (shown ns p o) (shown ns p o′) ≡ shown ns p (Run.wider o o′)
-unfolding shown wider Run.wider
+shown-wider : (ns : List Refinement) (p : Place) (o o′ : Option Candidate) → widerOf (shown ns p o) (shown ns p o′) ≡ shown ns p (Run.wider o o′)
+unfolding shown widerOf Run.wider
 shown-wider ns p none o′ = refl
 shown-wider ns p (some x) none = refl
 shown-wider ns p (some x) (some y) = by (ltb (x .width) (y .width))
@@ -112,8 +112,8 @@ module _ (t : Table) (ns : List Refinement) (whole : series t ns ≡ true) where
   found-below (inner k l r) zero p y e deep = absurd (omega arith)
   found-below (inner k l r) (suc f) p y e deep =
       rw (ne-eqb (recordIn xs i .left) 0 has-left, pickFrom)
-      (ap₂ (λ (a b : ℕ). wider (pickFrom f xs a) (pickFrom f xs b)) (child-at t ns whole p held k d left) (child-at t ns whole p held k d right)
-      ∙ ap₂ wider
+      (ap₂ (λ (a b : ℕ). widerOf (pickFrom f xs a) (pickFrom f xs b)) (child-at t ns whole p held k d left) (child-at t ns whole p held k d right)
+      ∙ ap₂ widerOf
       (found-below l f (p ++ (left ∷ [])) (childNode k left y) (subtree-child p left k (root t) (tree ns) _ d e) (omega arith)
       ∙ shown-from ns p left (widest (t .weights) (child k left (y .ways)) l))
       (found-below r f (p ++ (right ∷ [])) (childNode k right y) (subtree-child p right k (root t) (tree ns) _ d e) (omega arith)

@@ -15,7 +15,7 @@ use Rattle.records.specs.Records.{treeRecords, recordIn}
 use Rattle.records.specs.declared.Node.{Node}
 use Rattle.pick.specs.declared.Found.{Found}
 use Rattle.pick.specs.declared.Found.the-variants.{Nothing}
-use Rattle.pick.specs.Picks.{ownFound, wider, pickFrom, pickOf, Linked}
+use Rattle.pick.specs.Picks.{ownFound, widerOf, pickFrom, pickOf, Linked}
 use Rattle.pick.proofs.Wider.{wider-nothing, wider-assoc}
 use Rattle.pick.proofs.Order.{order, beside, after, after-root, order-deep, order-leaf, order-inner, after-child}
 
@@ -28,17 +28,17 @@ added xs i = elim (eqb (recordIn xs i .left) 0) as (λ b. Found) [ true ↦ ownF
 -- What has been found after records were entered in this order.
 unfoldable pub entered : List Node → Found → List ℕ → Found
 entered xs b [] = b
-entered xs b (i ∷ is) = entered xs (wider b (added xs i)) is
+entered xs b (i ∷ is) = entered xs (widerOf b (added xs i)) is
 
 -- Records entered in two parts: what the first part finds, the second goes on from.
 entered-append : (xs : List Node) (b : Found) (is js : List ℕ) → entered xs b (is ++ js) ≡ entered xs (entered xs b is) js
 unfolding entered
 entered-append xs b [] js = refl
-entered-append xs b (i ∷ is) js = entered-append xs (wider b (added xs i)) is js
+entered-append xs b (i ∷ is) js = entered-append xs (widerOf b (added xs i)) is js
 
 -- A leaf adds what it is.
 entered-leaf : (xs : List Node) (b : Found) (i : ℕ) (is : List ℕ) → recordIn xs i .left ≡ 0
-    → entered xs b (i ∷ is) ≡ entered xs (wider b (ownFound i (recordIn xs i))) is
+    → entered xs b (i ∷ is) ≡ entered xs (widerOf b (ownFound i (recordIn xs i))) is
 unfolding entered added
 entered-leaf xs b i is z = rw (eq-eqb (recordIn xs i .left) 0 z, added)
 
@@ -48,13 +48,13 @@ unfolding entered added
 entered-inner xs b i is q = rw (ne-eqb (recordIn xs i .left) 0 q, added) (ap (λ (c : Found). entered xs c is) (wider-nothing b))
 
 -- A tree entered in order gives the wider of what was found before and what the search finds in it.
-entered-order : (f : ℕ) (xs : List Node) (b : Found) (i : ℕ) → entered xs b (order f xs i) ≡ wider b (pickFrom f xs i)
+entered-order : (f : ℕ) (xs : List Node) (b : Found) (i : ℕ) → entered xs b (order f xs i) ≡ widerOf b (pickFrom f xs i)
 unfolding entered order pickFrom
 entered-order zero xs b i = sym (wider-nothing b)
 entered-order (suc f) xs b i = by (λ c j. entered-order f xs c j) (ℕ-discrete (recordIn xs i .left) 0)
   where
-    by : ((c : Found) (j : ℕ) → entered xs c (order f xs j) ≡ wider c (pickFrom f xs j)) → Dec (recordIn xs i .left ≡ 0)
-        → entered xs b (order (suc f) xs i) ≡ wider b (pickFrom (suc f) xs i)
+    by : ((c : Found) (j : ℕ) → entered xs c (order f xs j) ≡ widerOf c (pickFrom f xs j)) → Dec (recordIn xs i .left ≡ 0)
+        → entered xs b (order (suc f) xs i) ≡ widerOf b (pickFrom (suc f) xs i)
     by ih (yes z) = rw (eq-eqb (recordIn xs i .left) 0 z, pickFrom) (entered-leaf xs b i [] z)
     by ih (no q) =
         let l = recordIn xs i .left in
@@ -62,7 +62,7 @@ entered-order (suc f) xs b i = by (λ c j. entered-order f xs c j) (ℕ-discrete
         (entered-inner xs b i (order f xs l ++ order f xs (suc l)) q
         ∙ entered-append xs b (order f xs l) (order f xs (suc l))
         ∙ ih (entered xs b (order f xs l)) (suc l)
-        ∙ ap (λ (c : Found). wider c (pickFrom f xs (suc l))) (ih b l)
+        ∙ ap (λ (c : Found). widerOf c (pickFrom f xs (suc l))) (ih b l)
         ∙ wider-assoc b (pickFrom f xs l) (pickFrom f xs (suc l)))
 
 -- ---- the turns of the search
@@ -150,7 +150,7 @@ turns xs used false i = 512 * length (ahead xs used false i) + i
 
 -- A search begins with the root to go down at and nothing found.
 pub start : (xs : List Node) (used : ℕ) → Linked xs used → Walk xs used true 0 Nothing
-unfolding entered ahead pickOf wider
+unfolding entered ahead pickOf widerOf
 start xs used linked =
     record {
       inside = linked .some;
@@ -167,7 +167,7 @@ module _ {xs : List Node} {used i : ℕ} {best : Found} where
   room w = let h = w .inside in let f = w .linked .fits in omega arith
 
   -- At a leaf the search takes the wider of that leaf and what it had, and comes back up.
-  pub at-leaf : Walk xs used true i best → recordIn xs i .left ≡ 0 → Walk xs used false i (wider best (ownFound i (recordIn xs i)))
+  pub at-leaf : Walk xs used true i best → recordIn xs i .left ≡ 0 → Walk xs used false i (widerOf best (ownFound i (recordIn xs i)))
   at-leaf w z =
       record {
         inside = w .inside;

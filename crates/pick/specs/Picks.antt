@@ -18,10 +18,10 @@ unfoldable pub ownFound : ℕ → Node → Found
 ownFound i n = elim (isLive n) as (λ b. Found) [ true ↦ At i (recordWidth n) | false ↦ Nothing ]
 
 -- The wider of two, the left one if they are equally wide.
-unfoldable pub wider : Found → Found → Found
-wider Nothing y = y
-wider (At i v) Nothing = At i v
-wider (At i v) (At j w) = elim (ltb v w) as (λ b. Found) [ true ↦ At j w | false ↦ At i v ]
+unfoldable pub widerOf : Found → Found → Found
+widerOf Nothing y = y
+widerOf (At i v) Nothing = At i v
+widerOf (At i v) (At j w) = elim (ltb v w) as (λ b. Found) [ true ↦ At j w | false ↦ At i v ]
 
 -- The leftmost widest open leaf at or below record i, at most f records deep.
 unfoldable pub pickFrom : ℕ → List Node → ℕ → Found
@@ -29,7 +29,7 @@ pickFrom zero xs i = Nothing
 pickFrom (suc f) xs i =
     elim (eqb (recordIn xs i .left) 0) as (λ b. Found) [
       | true ↦ ownFound i (recordIn xs i)
-      | false ↦ wider (pickFrom f xs (recordIn xs i .left)) (pickFrom f xs (suc (recordIn xs i .left)))
+      | false ↦ widerOf (pickFrom f xs (recordIn xs i .left)) (pickFrom f xs (suc (recordIn xs i .left)))
     ]
 
 -- That of the whole tree, which is no deeper than it has records.

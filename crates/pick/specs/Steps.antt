@@ -7,7 +7,7 @@ use Rattle.records.specs.declared.Node.{Node}
 use Rattle.pick.specs.declared.Found.{Found}
 use Rattle.pick.specs.declared.Found.the-variants.{At, Nothing}
 use Rattle.pick.specs.declared.Search.{Search}
-use Rattle.pick.specs.Picks.{ownFound, wider}
+use Rattle.pick.specs.Picks.{ownFound, widerOf}
 
 -- How far a search has come: the record where it is, whether it goes down there, whether it is over, and what it has found.
 pub record View : Type 0 where
@@ -32,7 +32,7 @@ came i down best = record { at = i; down = down; over = false; best = best }
 -- On the way down at record n: a leaf is entered and the search comes back up, an inner record leads to its left child.
 unfoldable pub goneDown : View → Node → View
 goneDown s n =
-    elim (eqb (n .left) 0) as (λ b. View) [ true ↦ came (s .at) false (wider (s .best) (ownFound (s .at) n)) | false ↦ came (n .left) true (s .best) ]
+    elim (eqb (n .left) 0) as (λ b. View) [ true ↦ came (s .at) false (widerOf (s .best) (ownFound (s .at) n)) | false ↦ came (n .left) true (s .best) ]
 
 -- Coming back up from a child n of p: after the left child the right one is next, after the right one the search goes on up.
 unfoldable pub goneUp : View → Node → Node → View

@@ -7,7 +7,7 @@ ghost use Prim.Native.Nat.{_+_, _<_};
 ghost use Rattle.records.specs.Records.{treeRecords};
 ghost use Rattle.store.specs.Lent.{treeOf};
 ghost use Rattle.store.specs.Safe.{Safe};
-ghost use Rattle.pick.specs.Picks.{ownFound, wider, pickOf, Linked};
+ghost use Rattle.pick.specs.Picks.{ownFound, widerOf, pickOf, Linked};
 ghost use Rattle.pick.specs.Steps.{view, begun, came, stepped};
 use node::told::is_live;
 use node::told::width;
@@ -75,7 +75,7 @@ fn moved(s: Search, at: usize, down: bool) -> Search
 
 /// The search after it has entered the leaf n, which it takes if it is open and wider. A leaf that is as wide comes too late: it lies to the right.
 fn entered(s: Search, n: Node) -> Search
-    ensures { λ r. ⌜ view r ≡ came (s .at) false (wider (view s .best) (ownFound (s .at) n)) ⌝ }
+    ensures { λ r. ⌜ view r ≡ came (s .at) false (widerOf (view s .best) (ownFound (s .at) n)) ⌝ }
 {
     let at = s.at;
     if !is_live(n) {

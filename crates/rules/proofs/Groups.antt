@@ -289,16 +289,16 @@ nothing-shared vs v u p q =
 -- ---- chains of shared faults
 
 -- A chain of ways of the list leads from v to another, each sharing a fault with the one before.
-pub data Linked (vs : List Way) (v : Way) : Way → Type 0 where
-  single : Linked vs v v
-  further : {u w : Way} → Linked vs v u → In w vs → shares u w ≡ true → Linked vs v w
+pub data Chained (vs : List Way) (v : Way) : Way → Type 0 where
+  single : Chained vs v v
+  further : {u w : Way} → Chained vs v u → In w vs → shares u w ≡ true → Chained vs v w
 
 -- Every fault of the word is named by a way that is linked to v.
 abbrev Reached : List Way → Way → ℕ → Type 0
-Reached vs v m = (i : ℕ) → bit i m ≡ true → (u : Way) × Linked vs v u × (bit i (faults u) ≡ true)
+Reached vs v m = (i : ℕ) → bit i m ≡ true → (u : Way) × Chained vs v u × (bit i (faults u) ≡ true)
 
 -- A way of the list that such a word touches is linked to v.
-touched-linked : (vs : List Way) (v : Way) (m : ℕ) (w : Way) → Reached vs v m → In w vs → touches m w ≡ true → Linked vs v w
+touched-linked : (vs : List Way) (v : Way) (m : ℕ) (w : Way) → Reached vs v m → In w vs → touches m w ≡ true → Chained vs v w
 touched-linked vs v m w r p h =
     let c = common-fault m (faults w) h in
     let u = r (c .0) (c .1) in
@@ -320,23 +320,23 @@ passes-reached vs v zero m r = r
 passes-reached vs v (suc k) m r = passes-reached vs v k (pass m vs) (pass-reached vs v m vs (λ u p. p) r)
 
 -- Every way of the group is reached from the lowest numbered way by a chain of shared faults.
-pub group-linked : (v : Way) (vs : List Way) (u : Way) → In u (group (v ∷ vs)) → Linked (v ∷ vs) v u
+pub group-linked : (v : Way) (vs : List Way) (u : Way) → In u (group (v ∷ vs)) → Chained (v ∷ vs) v u
 group-linked v vs u h =
     let p = part-in true (groupFaults (v ∷ vs)) (v ∷ vs) u h in
     touched-linked (v ∷ vs) v (groupFaults (v ∷ vs)) u
     (passes-reached (v ∷ vs) v (suc (length vs)) (faults v) (λ i b. (v, single, b))) (p .0) (p .1)
 
 -- Conversely, a way that a chain leads to names only faults of the group.
-linked-within : (v : Way) (vs : List Way) (u : Way) → Linked (v ∷ vs) v u → Subword (faults u) (groupFaults (v ∷ vs))
+linked-within : (v : Way) (vs : List Way) (u : Way) → Chained (v ∷ vs) v u → Subword (faults u) (groupFaults (v ∷ vs))
 linked-within v vs u single = first-faults v vs
 linked-within v vs u (further {u = w} l p h) =
     group-rests (v ∷ vs) u p (touches-within (faults w) (groupFaults (v ∷ vs)) u (linked-within v vs w l) h)
 
 -- Where the lowest numbered way names a fault, every way that a chain leads to is in the group.
-pub linked-group : (v : Way) (vs : List Way) (u : Way) → isEmpty v ≡ false → Linked (v ∷ vs) v u → In u (v ∷ vs) → In u (group (v ∷ vs))
+pub linked-group : (v : Way) (vs : List Way) (u : Way) → isEmpty v ≡ false → Chained (v ∷ vs) v u → In u (v ∷ vs) → In u (group (v ∷ vs))
 linked-group v vs u e l p = in-part true (groupFaults (v ∷ vs)) (v ∷ vs) u p (touched u l)
   where
-    touched : (u : Way) → Linked (v ∷ vs) v u → touches (groupFaults (v ∷ vs)) u ≡ true
+    touched : (u : Way) → Chained (v ∷ vs) v u → touches (groupFaults (v ∷ vs)) u ≡ true
     touched u single = let c = some-fault (faults v) e in common-test (c .0) (groupFaults (v ∷ vs)) (faults v) (first-faults v vs (c .0) (c .1)) (c .1)
     touched u (further {u = w} l p h) = touches-within (faults w) (groupFaults (v ∷ vs)) u (linked-within v vs w l) h
 
@@ -346,7 +346,7 @@ pub cannot-split : (v : Way) (vs : List Way) (f : Way → Bool) → f v ≡ true
     → (u : Way) → In u (group (v ∷ vs)) → f u ≡ true
 cannot-split v vs f h k u p = along u (group-linked v vs u p) .1
   where
-    along : (u : Way) → Linked (v ∷ vs) v u → In u (v ∷ vs) × (f u ≡ true)
+    along : (u : Way) → Chained (v ∷ vs) v u → In u (v ∷ vs) × (f u ≡ true)
     along u single = (List·Memᴰ·head refl, h)
     along u (further {u = w} l p e) = (p, k w u (along w l .0) p (along w l .1) e)
 
@@ -364,17 +364,17 @@ way-some (u ∷ vs) v i = refl
 
 -- The ways fall apart exactly if some way is reached from the lowest numbered one by no chain of shared faults.
 pub falls-apart : (v : Way) (vs : List Way) → isEmpty v ≡ false
-    → (fallApart (v ∷ vs) ≡ true) ↔ ((u : Way) × In u (v ∷ vs) × (Linked (v ∷ vs) v u → ⊥))
+    → (fallApart (v ∷ vs) ≡ true) ↔ ((u : Way) × In u (v ∷ vs) × (Chained (v ∷ vs) v u → ⊥))
 unfolding fallApart
 falls-apart v vs e = (there, back)
   where
-    there : nonempty (others (v ∷ vs)) ≡ true → (u : Way) × In u (v ∷ vs) × (Linked (v ∷ vs) v u → ⊥)
+    there : nonempty (others (v ∷ vs)) ≡ true → (u : Way) × In u (v ∷ vs) × (Chained (v ∷ vs) v u → ⊥)
     there h =
         let r = some-way (others (v ∷ vs)) h in
         let p = part-in false (groupFaults (v ∷ vs)) (v ∷ vs) (r .0) (r .1) in
         (r .0, p .0, λ l. true≢false (sym (part-in true (groupFaults (v ∷ vs)) (v ∷ vs) (r .0) (linked-group v vs (r .0) e l (p .0)) .1) ∙ p .1))
 
-    back : (u : Way) × In u (v ∷ vs) × (Linked (v ∷ vs) v u → ⊥) → nonempty (others (v ∷ vs)) ≡ true
+    back : (u : Way) × In u (v ∷ vs) × (Chained (v ∷ vs) v u → ⊥) → nonempty (others (v ∷ vs)) ≡ true
     back r = by (touches (groupFaults (v ∷ vs)) (r .0)) refl
       where
         by : (b : Bool) → touches (groupFaults (v ∷ vs)) (r .0) ≡ b → nonempty (others (v ∷ vs)) ≡ true

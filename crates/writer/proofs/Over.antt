@@ -8,7 +8,7 @@ use native.Mathlib.Numerals.{add-one}
 use native.Mathlib.Omega.{arith}
 use lib.ListN.{length, take, drop, set, length-append, length-drop, take-append-drop}
 use lib.Seq.{length-take-le, take-at, drop-at, drop-drop, set-split, append-snoc}
-use Rattle.writer.specs.Pieces.{over, Room, Wrote}
+use Rattle.writer.specs.Pieces.{laidOver, Room, Wrote}
 
 module _ (space : List ℕ) (i : ℕ) (p : List ℕ) (room : Room space i p) where
   -- The part of a list up to the end of a piece that was written over it.
@@ -16,14 +16,14 @@ module _ (space : List ℕ) (i : ℕ) (p : List ℕ) (room : Room space i p) whe
   front-length = omega (arith, length-append (take i space) p, length-take-le i space (omega arith))
 
   -- Writing keeps the length.
-  over-length : length (over space i p) ≡ length space
-  unfolding over
+  over-length : length (laidOver space i p) ≡ length space
+  unfolding laidOver
   over-length =
       omega (arith, length-append (take i space ++ p) (drop (i + length p) space), front-length, length-drop (i + length p) space)
 
   -- A second piece written right behind the first: one piece.
-  over-append : (q : List ℕ) → over (over space i p) (i + length p) q ≡ over space i (p ++ q)
-  unfolding over
+  over-append : (q : List ℕ) → laidOver (laidOver space i p) (i + length p) q ≡ laidOver space i (p ++ q)
+  unfolding laidOver
   over-append q =
       let rest : List ℕ = drop (i + length p) space in
       rw (
@@ -37,15 +37,15 @@ module _ (space : List ℕ) (i : ℕ) (p : List ℕ) (room : Room space i p) whe
       )
 
 -- A piece at the front.
-pub over-front : (space p : List ℕ) → over space 0 p ≡ p ++ drop (length p) space
-unfolding over
+pub over-front : (space p : List ℕ) → laidOver space 0 p ≡ p ++ drop (length p) space
+unfolding laidOver
 over-front space p = rw (zero-add (length p))
 
 -- ---- what was written
 
 -- One byte.
 pub wrote-byte : (space : List ℕ) (i b : ℕ) → i < length space → Wrote space i (b ∷ []) (set space i b) (i + 1)
-unfolding over
+unfolding laidOver
 wrote-byte space i b h =
     record { holds = rw add-one (set-split space i b h ∙ sym (append-snoc (take i space) b (drop (suc i) space))); ends = refl }
 
@@ -100,7 +100,7 @@ pub record Left (old : List ℕ) (i : ℕ) (whole new : List ℕ) (next : ℕ) (
 
 -- At first, all of it.
 pub left-all : (old : List ℕ) (i : ℕ) (whole : List ℕ) → Left old i whole old i whole
-unfolding over
+unfolding laidOver
 left-all old i whole =
     record {
       part = [];

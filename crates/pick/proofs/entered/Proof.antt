@@ -12,20 +12,20 @@ use Rattle.records.specs.declared.Node.{Node}
 use Rattle.pick.specs.declared.Found.{Found}
 use Rattle.pick.specs.declared.Found.the-variants.{At, Nothing}
 use Rattle.pick.specs.declared.Search.{Search}
-use Rattle.pick.specs.Picks.{ownFound, wider}
+use Rattle.pick.specs.Picks.{ownFound, widerOf}
 use Rattle.pick.specs.Steps.{view, came}
 use Rattle.pick.proofs.Wider.{wider-second, wider-first, wider-nothing}
 use Rattle.pick.proofs.entered.Statement.{statement}
 use Rattle.pick.proofs.entered.Tie as tie
 
-closed : (best : Found) (i : ℕ) (n : Node) → isLive n ≡ false → best ≡ wider best (ownFound i n)
+closed : (best : Found) (i : ℕ) (n : Node) → isLive n ≡ false → best ≡ widerOf best (ownFound i n)
 unfolding ownFound
 closed best i n q = rw (q, ownFound) (sym (wider-nothing best))
 
 module _ (s : Search) (n : Node) (live : isLive n ≡ true) (w : ℕ) (e : w ≡ recordWidth n) where
-  opened : (best : Found) → wider best (ownFound (s .at) n) ≡ wider best (At (s .at) w)
+  opened : (best : Found) → widerOf best (ownFound (s .at) n) ≡ widerOf best (At (s .at) w)
   unfolding ownFound
-  opened best = rw (live, ownFound) (ap (λ (u : ℕ). wider best (At (s .at) u)) (sym e))
+  opened best = rw (live, ownFound) (ap (λ (u : ℕ). widerOf best (At (s .at) u)) (sym e))
 
   -- What was found before, by whether it is some leaf.
   best-some : s .some ≡ true → view s .best ≡ At (s .leaf) (s .width)
@@ -34,16 +34,16 @@ module _ (s : Search) (n : Node) (live : isLive n ≡ true) (w : ℕ) (e : w ≡
   best-none : s .some ≡ false → view s .best ≡ Nothing
   best-none h = rw h
 
-  first : s .some ≡ false → At (s .at) w ≡ wider (view s .best) (ownFound (s .at) n)
-  unfolding wider
-  first h = sym (opened (view s .best) ∙ ap (λ (x : Found). wider x (At (s .at) w)) (best-none h))
+  first : s .some ≡ false → At (s .at) w ≡ widerOf (view s .best) (ownFound (s .at) n)
+  unfolding widerOf
+  first h = sym (opened (view s .best) ∙ ap (λ (x : Found). widerOf x (At (s .at) w)) (best-none h))
 
-  larger : s .some ≡ true → s .width < w → At (s .at) w ≡ wider (view s .best) (ownFound (s .at) n)
-  larger h l = sym (opened (view s .best) ∙ ap (λ (x : Found). wider x (At (s .at) w)) (best-some h) ∙ wider-second (s .leaf) (s .width) (s .at) w l)
+  larger : s .some ≡ true → s .width < w → At (s .at) w ≡ widerOf (view s .best) (ownFound (s .at) n)
+  larger h l = sym (opened (view s .best) ∙ ap (λ (x : Found). widerOf x (At (s .at) w)) (best-some h) ∙ wider-second (s .leaf) (s .width) (s .at) w l)
 
-  not-larger : s .some ≡ true → w ≤ s .width → view s .best ≡ wider (view s .best) (ownFound (s .at) n)
+  not-larger : s .some ≡ true → w ≤ s .width → view s .best ≡ widerOf (view s .best) (ownFound (s .at) n)
   not-larger h l =
-      best-some h ∙ sym (opened (view s .best) ∙ ap (λ (x : Found). wider x (At (s .at) w)) (best-some h) ∙ wider-first (s .leaf) (s .width) (s .at) w l)
+      best-some h ∙ sym (opened (view s .best) ∙ ap (λ (x : Found). widerOf x (At (s .at) w)) (best-some h) ∙ wider-first (s .leaf) (s .width) (s .at) w l)
 
 -- The search with this leaf, or with what it had.
 with-best : (i : ℕ) {x y : Found} → x ≡ y → came i false x ≡ came i false y

@@ -8,14 +8,14 @@ use native.Mathlib.Numerals.{add-one}
 use borrow.Author.Needs.{needs}
 use borrow.Author.Tests.{eq-eqb, ne-eqb}
 use Rattle.records.specs.declared.Node.{Node}
-use Rattle.pick.specs.Picks.{ownFound, wider}
+use Rattle.pick.specs.Picks.{ownFound, widerOf}
 use Rattle.pick.specs.Steps.{View, view, came, goneDown, goneUp, cameUp, stepped}
 use Rattle.pick.proofs.onward.Statement.{statement}
 use Rattle.pick.proofs.onward.Tie as tie
 
 module _ (s : View) (n p : Node) where
   module _ (d : s .down ≡ true) where
-    at-leaf : {r : View} → n .left ≡ 0 → r ≡ came (s .at) false (wider (s .best) (ownFound (s .at) n)) → r ≡ stepped s n p
+    at-leaf : {r : View} → n .left ≡ 0 → r ≡ came (s .at) false (widerOf (s .best) (ownFound (s .at) n)) → r ≡ stepped s n p
     unfolding stepped goneDown
     at-leaf z h = rw (d, stepped, eq-eqb (n .left) 0 z, goneDown) h
 
