@@ -50,6 +50,17 @@
  * Numbers are decimal, one blank stands between fields, a line feed after each line. A sheet that is refused has one
  * line, such as `refused 7`.
  *
+ * TEXT
+ * A sheet as comma separated text (RFC 4180), such as a spreadsheet keeps; CR LF ends every record:
+ *   run,10000000,40                            allowance, budget
+ *   weights,500000000,500000000,200000000      the weight of each fault
+ *   7,1,-2                                     a way: its cue, then its faults, counted from 1; a minus: absent
+ *   7,0                                        a way that names no fault
+ *   9                                          a cue without ways
+ * Export writes it with bare fields and rising faults. Import takes quoted fields too, the faults of a way in any
+ * order, and a last record without its CR LF. Numbers are decimal, of at most 10 digits, without plus or leading
+ * zeros; a cue begins where the number changes. Exported and imported again a sheet is the same, byte for byte.
+ *
  * DUTIES OF THE CALLER
  *  - a pointer with a count points to that many elements of its type, aligned; where the count is 0 nothing is read or
  *    written through it, and it may be NULL;
@@ -61,10 +72,11 @@
  * No call keeps a pointer, allocates, prints or locks. Calls at the same time on different trees and spaces are fine.
  *
  * REFUSALS
- * An answer's number is 0 if the call is accepted, else the lowest number that applies; cue_refusal has words for it.
- * The numbers that concern a call stand with it below. They are tried in ascending order, each over the whole input
- * before the next. What a rule judges is judged as it is given, in all its bits. If the call is refused,
- *  - a CueAnswer has the number, low 0, high CUE_BILLION, count 0 and verdict 0;
+ * An answer's number is 0 if the call is accepted, else the first number that applies; cue_refusal has words for it.
+ * The numbers that concern a call stand with it below. They are tried in ascending order, only 23 before all others,
+ * each over the whole input before the next. What a rule judges is judged as it is given, in all its bits. If the call
+ * is refused,
+ *  - a CueAnswer has the number, low 0, high CUE_BILLION, count 0 and verdict 0; only with 23 the count is a record;
  *  - a CueSheet, CueEntry or CueTable has the number and zeros: it has no interval;
  *  - tree and space are as they were. Only a refused cue_open writes its tree: it has no nodes then, used 0 and every
  *    record blank, and 16 refuses it later.
@@ -75,13 +87,14 @@
 #include <stddef.h>
 #include <stdint.h>
 
-#define CUE_VERSION 1u          /* of this header */
+#define CUE_VERSION 2u          /* of this header */
 #define CUE_BILLION 1000000000u /* chance 1 */
 #define CUE_FAULTS 64           /* the most faults */
 #define CUE_WAYS 128            /* the most ways of a table */
 #define CUE_NODES 511           /* records in a tree */
 #define CUE_TEXT 939            /* no report is longer */
 #define CUE_SHEET 49612         /* the longest sheet */
+#define CUE_CSV 781021          /* the longest text that cue_csv_export writes */
 #define CUE_STACK 262144        /* bytes of stack to leave for a call */
 
 /* CueAnswer.verdict: why a run stopped. Every other call has none. */
@@ -93,12 +106,12 @@ enum { CUE_INDEPENDENCE = 0, CUE_FAULT = 1 };
 /* CueNode.kind */
 enum { CUE_BLANK = 0, CUE_LEAF = 1, CUE_INDEPENDENT_OR = 2, CUE_SHANNON = 3 };
 
-/* The answer of a call on a tree, of the writer and of the report. */
+/* The answer of a call on a tree, and of a call that fills a space: writer, report, import and export. */
 typedef struct CueAnswer {
     uint64_t number;  /* 0 accepted, else the refusal */
-    uint64_t low;     /* the interval then at the root; for writer and report 0 and CUE_BILLION */
+    uint64_t low;     /* the interval then at the root; of a call that fills a space 0 and CUE_BILLION */
     uint64_t high;
-    uint64_t count;   /* the refinements made; for writer and report the bytes written */
+    uint64_t count;   /* the refinements made, or the bytes written; with number 23 the record */
     uint64_t verdict; /* of an accepted run, else 0 */
 } CueAnswer;
 
@@ -187,6 +200,7 @@ static inline const char *cue_refusal(uint64_t number)
         /* 20 */ "the fault named does not occur in the leaf, or independence is asked where its ways hang together",
         /* 21 */ "the writer's lists do not agree in length with each other or with the ways its cues count",
         /* 22 */ "the space lent for writing is shorter than the output",
+        /* 23 */ "a record of the text is missing, is of no shape there, or names a fault twice in the same sense",
     };
     return number < sizeof words / sizeof words[0] ? words[number] : "unknown number";
 }
@@ -264,6 +278,20 @@ CueAnswer cue_sheet_write(const uint32_t *weights, size_t n_weights,
    cue_sheet_check refuses has a report too. Refusal 22, never for a space of CUE_TEXT bytes. */
 CueAnswer cue_sheet_report(const uint8_t *sheet, size_t n_sheet,
                            uint8_t *space, size_t n_space);
+
+/* ---- sheets as text */
+
+/* Writes the sheet that a text says to the front of the space, count its bytes; the rest of the space stays. A text of
+   any length may be given; a space of CUE_SHEET bytes is always long enough. Refusals 23, then 2, 5, 6, 10, 12 to 15,
+   22. With 23 count is the first record, from 1, that is missing (of the first two), is of no shape after those before
+   it, or names a fault twice in the same sense. */
+CueAnswer cue_csv_import(const uint8_t *text, size_t n_text,
+                         uint8_t *space, size_t n_space);
+
+/* Writes the text of a sheet to the front of the space, count its bytes; the rest of the space stays. A space of
+   CUE_CSV bytes is always long enough. Refusals 1 to 8, 10, 12 to 15, 22. */
+CueAnswer cue_csv_export(const uint8_t *sheet, size_t n_sheet,
+                         uint8_t *space, size_t n_space);
 
 #ifdef __cplusplus
 }

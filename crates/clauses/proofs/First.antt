@@ -1,7 +1,7 @@
 -- The first number of a set: the lowest set bit of a word, and of two words, and the set without it.
--- Rests on `chances`, Lowest, for a word without its lowest bit, on the kit's count of trailing zeros, and on Pairs.antt.
+-- Rests on `rules`, Bits, for a word without its lowest bit, on the kit's count of trailing zeros, and on Pairs.antt.
 use mathlib.Core.Path.{_≡_, refl, sym, ap, ap₂, _∙_}
-use mathlib.Core.Bool.{Bool, true, false, _||_, true≢false}
+use mathlib.Core.Bool.{Bool, true, false, _||_}
 use Prim.Native.Nat.{ℕ, zero, suc, _+_, _-_, _/_, _%_, _^_, _<_}
 use native.Mathlib.Decide.{decLt}
 use native.Mathlib.Omega.{arith}
@@ -11,9 +11,8 @@ use lib.Dec.{eqb, eqb·zero-suc, eqb·suc-zero, eqb·suc-suc}
 use borrow.Author.Tests.{eq-eqb, ne-eqb}
 use Rattle.rules.specs.Table.{odd, bit}
 use Rattle.rules.proofs.Booleans.{or-right, or-first, or-second}
-use Rattle.rules.proofs.Bits.{bit-zero, bit-high}
+use Rattle.rules.proofs.Bits.{bit-zero, rest-even, rest-odd-half, rest-even-half, lowest-below}
 use Rattle.records.specs.Records.{inWords}
-use Rattle.chances.proofs.Lowest.{rest-even, rest-odd-half, rest-even-half}
 use Rattle.clauses.proofs.Pairs.{in-low, in-high, one-low, one-high}
 
 -- The number n is the first that passes P, and Q passes the others.
@@ -79,14 +78,6 @@ lowest (suc k) m pos fits = go (m % 2) refl (λ l. lowest k (m / 2) l (omega ari
         all zero = rw e refl
         all (suc j) = rw (rest-odd-half m e, eqb·suc-zero j) refl
     go (suc (suc r)) e ih = absurd (omega arith)
-
--- The lowest is one of the word's k bits.
-pub lowest-below : (k m : ℕ) → 0 < m → m < 2 ^ k → trailingZeros k m < k
-lowest-below k m pos fits = by (decLt (trailingZeros k m) k)
-  where
-    by : Dec (trailingZeros k m < k) → trailingZeros k m < k
-    by (yes g) = g
-    by (no g) = absurd (true≢false (sym (is-one (lowest k m pos fits)) ∙ bit-high k (trailingZeros k m) m (omega arith) fits))
 
 -- ---- two words
 

@@ -19,8 +19,11 @@ use Rattle.records.specs.Library.{callOutcome}
 use Rattle.records.specs.declared.Tree.{Tree}
 use Rattle.dtree.specs.Promises.{Opening, Refining, Running}
 use Rattle.writer.specs.Promises.{Writing}
-use Rattle.cuerisk.specs.Numbers.{flat, flatAnswer, flatRun, flatWrite, flatSheet, flatEntry}
+use Rattle.csv.specs.declared.ImportAnswer.{ImportAnswer}
+use Rattle.csv.specs.Promises.{Importing, Exporting}
+use Rattle.cuerisk.specs.Numbers.{flat, flatAnswer, flatRun, flatWrite, flatImport, flatSheet, flatEntry}
 use Rattle.cuerisk.specs.Told.{refineAnswer, runOnAnswer, OpeningTold, RefiningTold, RunningTold, ReadingTold, EntryTold, WritingTold}
+use Rattle.cuerisk.specs.Told.{ImportingTold, ExportingTold}
 use Rattle.cuerisk.specs.declared.CueAnswer.{CueAnswer}
 use Rattle.cuerisk.specs.declared.CueSheet.{CueSheet}
 use Rattle.cuerisk.specs.declared.CueEntry.{CueEntry}
@@ -95,3 +98,15 @@ pub writing-told : (x : Lists) (before : List ℕ) {after : List ℕ} {a : Write
     → Writing x before after a → r ≡ flatWrite a → WritingTold x before after r
 writing-told x before p e =
     record { numbers = e ∙ ap flatWrite (p .answer); counts = e ∙ ap (λ (y : Reply). flat y none) (p .reply); space = p .space }
+
+-- Importing told in numbers.
+pub importing-told : (t before : List ℕ) {after : List ℕ} {a : ImportAnswer} {r : CueAnswer}
+    → Importing t before after a → r ≡ flatImport a → ImportingTold t before after r
+importing-told t before {after} p e =
+    record { numbers = e ∙ ap flatImport (p .answer); promise = subst (Importing t before after) (p .answer) p }
+
+-- Exporting told in numbers.
+pub exporting-told : (bs before : List ℕ) {after : List ℕ} {a : WriteAnswer} {r : CueAnswer}
+    → Exporting bs before after a → r ≡ flatWrite a → ExportingTold bs before after r
+exporting-told bs before {after} p e =
+    record { numbers = e ∙ ap flatWrite (p .answer); promise = subst (Exporting bs before after) (p .answer) p }

@@ -18,6 +18,8 @@ use Rattle.rules.specs.declared.ReadAnswer.{ReadAnswer}
 use Rattle.rules.specs.declared.EntryAnswer.{EntryAnswer}
 use Rattle.rules.specs.declared.WriteAnswer.{WriteAnswer}
 use Rattle.page.specs.declared.Spot.{Spot}
+use Rattle.csv.specs.declared.ImportAnswer.{ImportAnswer}
+use Rattle.csv.specs.Calls.{importReply}
 use Rattle.sheet.specs.Handed.{sized}
 use Rattle.cuerisk.specs.declared.CueAnswer.{CueAnswer}
 use Rattle.cuerisk.specs.declared.CueSpot.{CueSpot}
@@ -25,9 +27,9 @@ use Rattle.cuerisk.specs.declared.CueSheet.{CueSheet}
 use Rattle.cuerisk.specs.declared.CueEntry.{CueEntry}
 use Rattle.cuerisk.specs.declared.CueTable.{CueTable}
 
--- The version: another one for every change of a struct or of a call. CUE_VERSION in include/cue_risk.h.
+-- The version: another one for every change of a struct or of a call, and for every new one. CUE_VERSION in include/cue_risk.h.
 abbrev pub version : ℕ
-version = 1
+version = 2
 
 -- The refinement asked for (docs/RULES.md, 5.4): 0 is independence, 1 the fault named. Any other number asks for fault 64, which no accepted table has.
 unfoldable pub kindAsked : ℕ → ℕ → Kind
@@ -55,9 +57,13 @@ flatAnswer a = flat (answerReply a) none
 abbrev pub flatRun : RunAnswer → CueAnswer
 flatRun a = flat (runReply a) (runVerdict a)
 
--- The answer of the writer and of the report.
+-- The answer of the writer, of the report and of an export.
 abbrev pub flatWrite : WriteAnswer → CueAnswer
 flatWrite a = flat (writeReply a) none
+
+-- The answer of an import.
+abbrev pub flatImport : ImportAnswer → CueAnswer
+flatImport a = flat (importReply a) none
 
 -- What the search of lent records finds.
 abbrev pub flatSpot : Spot → CueSpot

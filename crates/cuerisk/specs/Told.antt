@@ -1,5 +1,5 @@
 -- What each call promises whose answer is told in numbers: the promise of the call that it stands for, whole, and the numbers of that very
--- answer. Rests on Numbers.antt and Into.antt, on `dtree`, Promises, on `page`, Widest, and on `rules`, Sheet.
+-- answer. Rests on Numbers.antt and Into.antt, on `dtree` and `csv`, Promises, on `page`, Widest, and on `rules`, Sheet.
 use mathlib.Core.Path.{_≡_}
 use mathlib.Core.List.{List}
 use mathlib.Core.Option.{none}
@@ -21,7 +21,9 @@ use Rattle.records.specs.declared.Node.{Node}
 use Rattle.records.specs.declared.Tree.{Tree}
 use Rattle.dtree.specs.Promises.{Opening, Refining, Running}
 use Rattle.page.specs.Widest.{widestOf, WidestLaw}
-use Rattle.cuerisk.specs.Numbers.{flat, flatAnswer, flatRun, flatWrite, flatSpot, flatSheet, flatEntry, flatTableAt}
+use Rattle.csv.specs.Calls.{importAnswer, exportAnswer}
+use Rattle.csv.specs.Promises.{Importing, Exporting}
+use Rattle.cuerisk.specs.Numbers.{flat, flatAnswer, flatRun, flatWrite, flatImport, flatSpot, flatSheet, flatEntry, flatTableAt}
 use Rattle.cuerisk.specs.Into.{reportNumber, reportAnswer, reported}
 use Rattle.cuerisk.specs.declared.CueAnswer.{CueAnswer}
 use Rattle.cuerisk.specs.declared.CueSpot.{CueSpot}
@@ -91,3 +93,13 @@ pub record ReportingTold (bs before after : List ℕ) (r : CueAnswer) : Type 0 w
   pub numbers : r ≡ flatWrite (reportAnswer bs (length before))
   pub counts : r ≡ flat (countedBy (reportNumber bs (length before)) (length (text bs))) none
   pub space : after ≡ reported bs before
+
+-- IMPORTING any text into a space.
+pub record ImportingTold (t before after : List ℕ) (r : CueAnswer) : Type 0 where
+  pub numbers : r ≡ flatImport (importAnswer t (length before))
+  pub promise : Importing t before after (importAnswer t (length before))
+
+-- EXPORTING a sheet into a space.
+pub record ExportingTold (bs before after : List ℕ) (r : CueAnswer) : Type 0 where
+  pub numbers : r ≡ flatWrite (exportAnswer bs (length before))
+  pub promise : Exporting bs before after (exportAnswer bs (length before))

@@ -1,6 +1,7 @@
 //! The C interface (include/cue_risk.h): trees, slices and spaces are lent and written where they are, answers are handed back as plain numbers.
-//! Each export is one call of `dtree`, `page`, `sheet`, `writer` or `report`, and carries its promise whole (specs/Told.antt); specs/Numbers.antt
-//! says which numbers stand for which answer. No enum crosses this border, and a number that a rule judges crosses it whole, in 64 bits.
+//! Each export is one call of `dtree`, `page`, `sheet`, `writer`, `report`, `csv_import` or `csv_export`, and carries its promise whole
+//! (specs/Told.antt); specs/Numbers.antt says which numbers stand for which answer. No enum crosses this border, and a number that a rule
+//! judges crosses it whole, in 64 bits.
 mod numbers;
 mod reports;
 
@@ -10,10 +11,12 @@ ghost use Rattle.store.specs.Lent.{treeOf};
 ghost use Rattle.writer.specs.Given.{given};
 ghost use Rattle.cuerisk.specs.Numbers.{version, kindAsked};
 ghost use Rattle.cuerisk.specs.Told.{OpeningTold, RefiningTold, RunningTold, SearchTold, ReadingTold, EntryTold, TableTold, WritingTold, ReportingTold};
+ghost use Rattle.cuerisk.specs.Told.{ImportingTold, ExportingTold};
 use numbers::kind_asked;
 use numbers::no_table;
 use numbers::of_answer;
 use numbers::of_entry;
+use numbers::of_import;
 use numbers::of_read;
 use numbers::of_run;
 use numbers::of_spot;
@@ -25,7 +28,7 @@ use rules::EntryAnswer;
 use rules::Limits;
 use store::Words;
 
-/// The answer of a call on a tree, of the writer and of the report. `verdict` is 0 none, 1 met, 2 done, 3 full, 4 spent.
+/// The answer of a call on a tree, and of a call that fills a space: writer, report, import and export. `verdict` is 0 none, 1 met, 2 done, 3 full, 4 spent.
 #[repr(C)]
 pub struct CueAnswer {
     pub number: u64,
@@ -80,7 +83,7 @@ pub struct CueTable {
 pub extern "C" fn cue_version() -> u64
     ensures promise { λ r. ⌜ r ≡ version ⌝ }
 {
-    1
+    2
 }
 
 /// Opens a table. What the tree held before does not matter; refused, it is left without nodes.
@@ -193,4 +196,20 @@ pub extern "C" fn cue_sheet_report(sheet: &[u8], space: &mut [u8]) -> CueAnswer
     ensures promise { λ r. ⌜ ReportingTold (now (sheet .entry)) (now (space .entry)) (now (space .exit)) r ⌝ }
 {
     of_write(put_text(sheet, space))
+}
+
+/// Puts the bytes of the sheet that a text says to the front of the space.
+#[no_mangle]
+pub extern "C" fn cue_csv_import(text: &[u8], space: &mut [u8]) -> CueAnswer
+    ensures promise { λ r. ⌜ ImportingTold (now (text .entry)) (now (space .entry)) (now (space .exit)) r ⌝ }
+{
+    of_import(csv_import::import(text, space))
+}
+
+/// Puts the text of a sheet to the front of the space.
+#[no_mangle]
+pub extern "C" fn cue_csv_export(sheet: &[u8], space: &mut [u8]) -> CueAnswer
+    ensures promise { λ r. ⌜ ExportingTold (now (sheet .entry)) (now (space .entry)) (now (space .exit)) r ⌝ }
+{
+    of_write(csv_export::export(sheet, space))
 }

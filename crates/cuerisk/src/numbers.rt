@@ -4,12 +4,13 @@ ghost use mathlib.Core.Path.{_≡_};
 ghost use mathlib.Core.Option.{some, none};
 ghost use Rattle.rules.specs.Answers.{refused};
 ghost use Rattle.cuerisk.specs.Numbers.{verdictCode, kindAsked, flat, flatAnswer, flatRun, flatSpot};
-ghost use Rattle.cuerisk.specs.Numbers.{flatSheet, flatEntry, noTable, flatTable, flatWrite};
+ghost use Rattle.cuerisk.specs.Numbers.{flatSheet, flatEntry, noTable, flatTable, flatWrite, flatImport};
 use super::CueAnswer;
 use super::CueEntry;
 use super::CueSheet;
 use super::CueSpot;
 use super::CueTable;
+use csv::ImportAnswer;
 use page::Spot;
 use rules::Answer;
 use rules::EntryAnswer;
@@ -199,7 +200,7 @@ pub fn no_table(number: u64, past: u64) -> CueTable
     }
 }
 
-/// The numbers of the writer's answer.
+/// The numbers of the answer of the writer, of the report or of an export.
 pub fn of_write(a: WriteAnswer) -> CueAnswer
     ensures { λ r. ⌜ r ≡ flatWrite a ⌝ }
 {
@@ -212,5 +213,28 @@ pub fn of_write(a: WriteAnswer) -> CueAnswer
             verdict: 0,
         },
         WriteAnswer::Refused(n) => refused(n),
+    }
+}
+
+/// The numbers of an import's answer.
+pub fn of_import(a: ImportAnswer) -> CueAnswer
+    ensures { λ r. ⌜ r ≡ flatImport a ⌝ }
+{
+    match a {
+        ImportAnswer::Written(bytes) => CueAnswer {
+            number: 0,
+            low: 0,
+            high: S,
+            count: bytes,
+            verdict: 0,
+        },
+        ImportAnswer::Misread(k) => CueAnswer {
+            number: 23,
+            low: 0,
+            high: S,
+            count: k,
+            verdict: 0,
+        },
+        ImportAnswer::Refused(n) => refused(n),
     }
 }

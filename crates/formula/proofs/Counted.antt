@@ -15,8 +15,8 @@ use borrow.Author.Tests.{eqb-true, eq-eqb, ne-eqb}
 use Rattle.rules.specs.declared.Way.{Way}
 use Rattle.rules.specs.Table.{bit, faults, indicator}
 use Rattle.rules.specs.Run.{named}
-use Rattle.rules.proofs.Bits.{bit-zero}
-use Rattle.clauses.proofs.First.{First, lowest, lowest-below}
+use Rattle.rules.proofs.Bits.{bit-zero, lowest-below}
+use Rattle.clauses.proofs.First.{First, lowest}
 
 -- The word has the bit of its lowest fault, and those that are left without it.
 lowest-one : (k m f : ℕ) → 0 < m → m < 2 ^ k → indicator (bit f m) ≡ indicator (bit f (bitAnd m (m - 1))) + indicator (eqb f (trailingZeros k m))

@@ -1,9 +1,10 @@
-//! A text that is lent, to which bytes and numbers are appended where it is. Rests on the definitions of Appended.
+//! A text that is lent, to which bytes and numbers are appended where it is. Rests on the definitions of Appended and on `decimal`.
 //! A byte for which there is no room is left out; the text of a sheet has room for all (`rules`, TextLength).
 ghost use mathlib.Core.Path.{_≡_};
 ghost use mathlib.Core.List.{[], _∷_, _++_};
 ghost use Rattle.rules.specs.Text.{decimal};
 ghost use Rattle.report.specs.Appended.{textOf, appended};
+use decimal::digits_of;
 
 /// Room for the printed text: a heading of 27 bytes and 24 lines of at most 38 make 939.
 pub type Room = [u8; 939];
@@ -31,18 +32,13 @@ pub fn append(text: &mut Room, length: usize, piece: &[u8]) -> usize
     at
 }
 
-/// A number in decimal and a byte behind it, as one piece. The digits are found from the last one on; a word has at most twenty.
+/// A number in decimal, and a byte behind it.
 pub fn append_decimal(text: &mut Room, length: usize, n: u64, end: u8) -> usize
     ensures { λ r. ⌜ textOf (now (text .exit)) r ≡ appended (textOf (now (text .entry)) length) (decimal n ++ end ∷ []) ⌝ }
 {
-    let mut digits = [end; 21];
-    let mut at: usize = 19;
-    let mut rest = n;
-    while 9 < rest {
-        digits[at] = 48 + (rest % 10) as u8;
-        at -= 1;
-        rest = rest / 10;
-    }
-    digits[at] = 48 + rest as u8;
-    append(text, length, &digits[at..])
+    let d = digits_of(n);
+    let digits = d.bytes;
+    let from = d.from;
+    let at = append(text, length, &digits[from..]);
+    append(text, at, &[end; 1])
 }

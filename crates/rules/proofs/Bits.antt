@@ -1,5 +1,6 @@
--- Words as sets of bits: what `&`, `|`, dropping bits and a power of two do to bit i, and that equal bits make equal words.
--- Rests on the kit's laws of bitAnd and bitOr.
+-- Words as sets of bits: what `&`, `|`, dropping bits and a power of two do to bit i, that equal bits make equal words,
+-- and what a word is without its lowest bit.
+-- Rests on the kit's laws of bitAnd and bitOr, and on its count of trailing zeros.
 use mathlib.Core.Path.{_≡_, refl, sym, ap, _∙_}
 use mathlib.Core.Bool.{Bool, true, false, not, _&&_, _||_, true≢false}
 use Prim.Native.Nat.{ℕ, zero, suc, _+_, _-_, _*_, _/_, _%_, _^_, _≤_, _<_, min, max}
@@ -8,7 +9,8 @@ use native.Mathlib.Decide.{decLt}
 use native.Mathlib.Omega.{arith}
 use lib.Arith.{bin-ind}
 use lib.Dec.{eqb, eqb·zero-suc, eqb·suc-zero, eqb·suc-suc}
-use lib.Bits.{bitAnd, bitOr, and-step, or-step, and-le-l}
+use lib.Bits.{bitAnd, bitOr, and-step, or-step, and-le-l, and-self, or-comm}
+use lib.Count.{trailingZeros, under}
 use borrow.Author.Tests.{eqb-true, ne-eqb}
 use Rattle.rules.specs.Table.{odd, bit}
 use Rattle.rules.specs.Leaf.{without}
@@ -63,7 +65,7 @@ pub bit-zero : (i : ℕ) → bit i 0 ≡ false
 bit-zero zero = refl
 bit-zero (suc i) = bit-zero i
 
-and-half : (x y : ℕ) → bitAnd x y / 2 ≡ bitAnd (x / 2) (y / 2)
+pub and-half : (x y : ℕ) → bitAnd x y / 2 ≡ bitAnd (x / 2) (y / 2)
 and-half x y = omega (arith, and-step x y)
 
 and-odd : (x y : ℕ) → bitAnd x y % 2 ≡ min (x % 2) (y % 2)
@@ -134,6 +136,65 @@ or-zero x y e = (bits-zero x (λ i. or-left (bit i x) (bit i y) (off i)), bits-z
   where
     off : (i : ℕ) → bit i x || bit i y ≡ false
     off i = sym (bit-or i x y) ∙ ap (bit i) e ∙ bit-zero i
+
+-- Cut down to an even word, a word is even.
+pub cut-even : (x m : ℕ) → m % 2 ≡ 0 → odd (bitAnd x m) ≡ false
+cut-even x m e = let z : bitAnd x m % 2 ≡ 0 = omega (arith, and-odd x m) in rw z
+
+-- Cut down to an odd one, it keeps bit 0.
+pub cut-odd : (x m : ℕ) → m % 2 ≡ 1 → odd (bitAnd x m) ≡ odd x
+cut-odd x m e = let z : bitAnd x m % 2 ≡ x % 2 = omega (arith, and-odd x m) in ap (λ (k : ℕ). eqb k 1) z
+
+-- Cut down to the bits that it has together with another, it stays as it is.
+pub and-or-left : (x y : ℕ) → bitAnd x (bitOr x y) ≡ x
+and-or-left x y = bits-ext (bitAnd x (bitOr x y)) x (λ i. bit-and i x (bitOr x y) ∙ ap (λ (b : Bool). bit i x && b) (bit-or i x y) ∙ same (bit i x) (bit i y))
+  where
+    same : (a b : Bool) → a && (a || b) ≡ a
+    same true b = refl
+    same false b = refl
+
+-- So does the other.
+pub and-or-right : (x y : ℕ) → bitAnd y (bitOr x y) ≡ y
+and-or-right x y = ap (bitAnd y) (or-comm x y) ∙ and-or-left y x
+
+-- ---- a word without its lowest bit
+
+-- The word without its lowest bit is even.
+pub rest-even : (m : ℕ) → 0 < m → bitAnd m (m - 1) % 2 ≡ 0
+rest-even m h = omega (arith, and-step m (m - 1))
+
+-- Where bit 0 is the lowest, what stands above it stays.
+pub rest-odd-half : (m : ℕ) → m % 2 ≡ 1 → bitAnd m (m - 1) / 2 ≡ m / 2
+rest-odd-half m e =
+    let h : (m - 1) / 2 ≡ m / 2 = omega arith in
+    omega (arith, and-step m (m - 1), ap (bitAnd (m / 2)) h, and-self (m / 2))
+
+-- Where it is not, the lowest bit of the half goes.
+pub rest-even-half : (m : ℕ) → 0 < m → m % 2 ≡ 0 → bitAnd m (m - 1) / 2 ≡ bitAnd (m / 2) (m / 2 - 1)
+rest-even-half m l e =
+    let h : (m - 1) / 2 ≡ m / 2 - 1 = omega arith in
+    omega (arith, and-step m (m - 1), ap (bitAnd (m / 2)) h)
+
+-- The lowest bit of a word below 2 ^ k is one of its first k.
+pub lowest-below : (k m : ℕ) → 0 < m → m < 2 ^ k → trailingZeros k m < k
+unfolding trailingZeros
+lowest-below zero m pos fits = absurd (omega arith)
+lowest-below (suc k) m pos fits = go (m % 2) refl (λ l. lowest-below k (m / 2) l (omega arith))
+  where
+    go : (r : ℕ) → m % 2 ≡ r → (0 < m / 2 → trailingZeros k (m / 2) < k) → under r (trailingZeros k (m / 2)) < suc k
+    go zero e ih = omega (arith, ih (omega arith))
+    go (suc r) e ih = omega arith
+
+-- It is set.
+pub lowest-set : (k m : ℕ) → 0 < m → m < 2 ^ k → bit (trailingZeros k m) m ≡ true
+unfolding trailingZeros
+lowest-set zero m pos fits = absurd (omega arith)
+lowest-set (suc k) m pos fits = go (m % 2) refl (λ l. lowest-set k (m / 2) l (omega arith))
+  where
+    go : (r : ℕ) → m % 2 ≡ r → (0 < m / 2 → bit (trailingZeros k (m / 2)) (m / 2) ≡ true) → bit (under r (trailingZeros k (m / 2))) m ≡ true
+    go zero e ih = ih (omega arith)
+    go (suc zero) e ih = rw e refl
+    go (suc (suc r)) e ih = absurd (omega arith)
 
 -- ---- tests for zero, by the bits
 

@@ -8,18 +8,9 @@ use native.Mathlib.Decide.{decLt}
 use native.Mathlib.Omega.{arith}
 use lib.ListN.{length, getD, length-append, List·getD-append}
 use borrow.Author.Tests.{lt-ltb, le-ltb}
-use Rattle.rules.specs.Text.{digits, decimal}
+use Rattle.rules.specs.Text.{digits, decimal, valueAfter, decimalValue}
 
 -- ---- what digits say
-
--- The number that digits give behind a number already read: the byte 48 is 0, the highest digit comes first.
-unfoldable pub valueAfter : ℕ → List ℕ → ℕ
-valueAfter n [] = n
-valueAfter n (b ∷ bs) = valueAfter (10 * n + (b - 48)) bs
-
--- The number that digits give.
-unfoldable pub decimalValue : List ℕ → ℕ
-decimalValue bs = valueAfter 0 bs
 
 -- Every byte is one of the ten digits.
 abbrev pub AllDigits : List ℕ → Type 0

@@ -19,28 +19,29 @@ use Rattle.rules.proofs.Paper.{show}
 
 -- ---- the refusals that each call tries, in order (RULES 8.3)
 
-abbrev numbers : List Refusal → List ℕ
-numbers [] = []
-numbers (x ∷ xs) = x .number ∷ numbers xs
+-- The numbers of a list of refusals.
+abbrev pub numbersTried : List Refusal → List ℕ
+numbersTried [] = []
+numbersTried (x ∷ xs) = x .number ∷ numbersTried xs
 
-pub reading-concerns : (bs : List ℕ) → numbers (readRefusals bs) ≡ 1 ∷ 2 ∷ 3 ∷ 4 ∷ 5 ∷ 6 ∷ 7 ∷ 8 ∷ 10 ∷ 12 ∷ 13 ∷ 14 ∷ 15 ∷ []
+pub reading-concerns : (bs : List ℕ) → numbersTried (readRefusals bs) ≡ 1 ∷ 2 ∷ 3 ∷ 4 ∷ 5 ∷ 6 ∷ 7 ∷ 8 ∷ 10 ∷ 12 ∷ 13 ∷ 14 ∷ 15 ∷ []
 unfolding readRefusals wayRefusals limitRefusals
 reading-concerns bs = refl
 
-pub opening-concerns : (t : Table) → numbers (tableRefusals t) ≡ 9 ∷ 10 ∷ 11 ∷ 12 ∷ 13 ∷ []
+pub opening-concerns : (t : Table) → numbersTried (tableRefusals t) ≡ 9 ∷ 10 ∷ 11 ∷ 12 ∷ 13 ∷ []
 unfolding tableRefusals wayRefusals
 opening-concerns t = refl
 
 pub hand-concerns : (t : Table) (bad : Bool) (s : DTree) (bs : List ℕ) (k : Kind)
-    → numbers (handRefusals t bad s bs k) ≡ 9 ∷ 10 ∷ 11 ∷ 12 ∷ 13 ∷ 16 ∷ 17 ∷ 18 ∷ 19 ∷ 20 ∷ []
+    → numbersTried (handRefusals t bad s bs k) ≡ 9 ∷ 10 ∷ 11 ∷ 12 ∷ 13 ∷ 16 ∷ 17 ∷ 18 ∷ 19 ∷ 20 ∷ []
 unfolding handRefusals leafRefusals tableRefusals wayRefusals
 hand-concerns t bad s bs k = refl
 
-pub run-concerns : (t : Table) (bad : Bool) (m : Limits) → numbers (runRefusals t bad m) ≡ 9 ∷ 10 ∷ 11 ∷ 12 ∷ 13 ∷ 14 ∷ 15 ∷ 16 ∷ []
+pub run-concerns : (t : Table) (bad : Bool) (m : Limits) → numbersTried (runRefusals t bad m) ≡ 9 ∷ 10 ∷ 11 ∷ 12 ∷ 13 ∷ 14 ∷ 15 ∷ 16 ∷ []
 unfolding runRefusals tableRefusals wayRefusals limitRefusals
 run-concerns t bad m = refl
 
-pub writing-concerns : (x : Lists) (space : ℕ) → numbers (writeRefusals x space) ≡ 2 ∷ 5 ∷ 6 ∷ 10 ∷ 12 ∷ 13 ∷ 14 ∷ 15 ∷ 21 ∷ 22 ∷ []
+pub writing-concerns : (x : Lists) (space : ℕ) → numbersTried (writeRefusals x space) ≡ 2 ∷ 5 ∷ 6 ∷ 10 ∷ 12 ∷ 13 ∷ 14 ∷ 15 ∷ 21 ∷ 22 ∷ []
 unfolding writeRefusals listsRefusals wayRefusals limitRefusals
 writing-concerns x space = refl
 

@@ -102,7 +102,7 @@ lists-sheet x numbers h =
 -- ---- what reading tests
 
 -- Two lists that the test finds equal are equal.
-same-equal : (xs ys : List ℕ) → sameNumbers xs ys ≡ true → xs ≡ ys
+pub same-equal : (xs ys : List ℕ) → sameNumbers xs ys ≡ true → xs ≡ ys
 unfolding sameNumbers
 same-equal [] [] h = refl
 same-equal [] (y ∷ ys) h = absurd (false≢true h)
@@ -112,7 +112,7 @@ same-equal (x ∷ xs) (y ∷ ys) h =
     ap₂ (λ (z : ℕ) (r : List ℕ). z ∷ r) (eqb-true x y (both .0)) (same-equal xs ys (both .1))
 
 -- A list is found equal to itself.
-equal-same : (xs : List ℕ) → sameNumbers xs xs ≡ true
+pub equal-same : (xs : List ℕ) → sameNumbers xs xs ≡ true
 unfolding sameNumbers
 equal-same [] = refl
 equal-same (x ∷ xs) = and-both (eqb x x) _ (eq-eqb x x refl) (equal-same xs)

@@ -86,7 +86,7 @@ unfolding cuesOutside
 cues-most n h = not-outside 24 n h .1
 
 -- No number of a list is above a limit.
-none-above : (m : ℕ) (xs : List ℕ) → someAbove m xs ≡ false → AllBelow (suc m) xs
+pub none-above : (m : ℕ) (xs : List ℕ) → someAbove m xs ≡ false → AllBelow (suc m) xs
 unfolding someAbove
 none-above m [] h = tt
 none-above m (x ∷ xs) h =
@@ -95,7 +95,7 @@ none-above m (x ∷ xs) h =
     (omega arith, none-above m xs (here .1))
 
 -- A sum of numbers below a limit.
-total-most : (m : ℕ) (ks : List ℕ) → AllBelow (suc m) ks → total ks ≤ m * length ks
+pub total-most : (m : ℕ) (ks : List ℕ) → AllBelow (suc m) ks → total ks ≤ m * length ks
 unfolding total
 total-most m [] h = omega arith
 total-most m (k ∷ ks) h = omega (arith, total-most m ks (h .1), mul-suc m (length ks))
@@ -106,7 +106,7 @@ unfolding bodiesStart weightsStart crowded
 ends-most n ks faults cues h = omega (arith, total-most 128 ks (none-above 128 ks h))
 
 -- Every word names faults below n only.
-words-below : (n i : ℕ) (ps qs : List ℕ) → length qs ≡ length ps → namesBeyond n (rows i ps qs) ≡ false → AllBelow (2 ^ n) ps × AllBelow (2 ^ n) qs
+pub words-below : (n i : ℕ) (ps qs : List ℕ) → length qs ≡ length ps → namesBeyond n (rows i ps qs) ≡ false → AllBelow (2 ^ n) ps × AllBelow (2 ^ n) qs
 unfolding namesBeyond any rows
 words-below n i [] [] e h = (tt, tt)
 words-below n i [] (q ∷ qs) e h = absurd (omega arith)

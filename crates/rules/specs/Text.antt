@@ -2,7 +2,7 @@
 -- Numbers are decimal, one blank stands between fields, a line feed after each line.
 use mathlib.Core.Bool.{true, false}
 use mathlib.Core.List.{List, [], _∷_, _++_}
-use Prim.Native.Nat.{ℕ, zero, suc, _+_, _/_, _%_}
+use Prim.Native.Nat.{ℕ, zero, suc, _+_, _-_, _*_, _/_, _%_}
 use Prim.Native.Char.{code}
 use Prim.Native.String.{String}
 use lib.ListN.{length}
@@ -28,6 +28,15 @@ digits (suc k) n = elim (ltb n 10) as (λ b. List ℕ) [ true ↦ (48 + n) ∷ [
 -- A number in decimal.
 unfoldable pub decimal : ℕ → List ℕ
 decimal n = digits (suc n) n
+
+-- The number that digits give behind a number already read: the byte 48 is 0, the highest digit comes first.
+unfoldable pub valueAfter : ℕ → List ℕ → ℕ
+valueAfter n [] = n
+valueAfter n (b ∷ bs) = valueAfter (10 * n + (b - 48)) bs
+
+-- The number that digits give.
+unfoldable pub decimalValue : List ℕ → ℕ
+decimalValue bs = valueAfter 0 bs
 
 -- A verdict's word.
 unfoldable pub word : Verdict → List ℕ

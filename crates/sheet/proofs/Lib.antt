@@ -4,6 +4,6 @@ mod Halves
 mod Columns
 mod WayRows
 pub mod Sized
-mod Entries
+pub mod Entries
 pub mod Accepted
 pub mod Tables

@@ -8,7 +8,7 @@ use rules::Limits;
 use rules::WriteAnswer;
 
 mod pieces;
-mod refusals;
+pub mod refusals;
 
 /// Writes the sheet that the lists give to the front of the space, and counts its bytes. A refused call writes nothing.
 pub fn write(

@@ -60,7 +60,7 @@ fn disagree(cues: usize, counts: &[u16], present: usize, absent: usize) -> bool
 }
 
 /// 2, 5, 6, 10 or 0.
-fn front_number(weights: &[u32], numbers: &[u16], counts: &[u16]) -> u8
+pub fn front_number(weights: &[u32], numbers: &[u16], counts: &[u16]) -> u8
     ensures { λ r. ⌜ r ≡ first (frontRefusals (now (weights .entry)) (now (numbers .entry)) (now (counts .entry))) ⌝ }
 {
     if outside(weights.len(), numbers.len(), counts.len()) {

@@ -9,9 +9,9 @@ use lib.ListN.{length}
 use lib.Bits.{and-le-r}
 use lib.Count.{trailingZeros, trailing-le}
 use Rattle.rules.specs.declared.Way.{Way}
+use Rattle.rules.proofs.Bits.{lowest-below}
 use Rattle.clauses.specs.Leaves.{waysOf, InTable}
 use Rattle.clauses.proofs.Loops.{none-left, few, fewer, some-left, no-more}
-use Rattle.clauses.proofs.First.{lowest-below}
 use Rattle.formula.proofs.Counted.{Counting, begun, small, taken-up, counted, all-counted}
 use Rattle.formula.proofs.choice.counts.Statement.{statement}
 use Rattle.formula.proofs.choice.counts.Tie as tie

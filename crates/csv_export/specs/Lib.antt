@@ -1,0 +1,3 @@
+-- What the contracts of this crate cite besides the definitions of `csv`.
+-- Rests on those.
+pub mod Parts
