@@ -3,13 +3,14 @@
 #include <assert.h>
 #include "cue_risk.h"
 
-static_assert(CUE_VERSION == 1, "");
+static_assert(CUE_VERSION == 2, "");
 static_assert(CUE_BILLION == 1000000000, "");
 static_assert(CUE_FAULTS == 64, "");
 static_assert(CUE_WAYS == 128, "");
 static_assert(CUE_NODES == 511, "");
 static_assert(CUE_TEXT == 939, "");
 static_assert(CUE_SHEET == 49612, "");
+static_assert(CUE_CSV == 781021, "");
 static_assert(CUE_STACK == 262144, "");
 
 static_assert(CUE_NONE == 0, "");

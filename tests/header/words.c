@@ -1,4 +1,4 @@
-/* The archive's version, the words of the refusals, and then the cases on trees and on sheets. */
+/* The archive's version, the words of the refusals, and then the cases on trees, on sheets and on texts. */
 #include "same.h"
 
 static const char *(*const refusal)(uint64_t) = cue_refusal;
@@ -30,18 +30,20 @@ static const char *const words[] = {
     "the fault named does not occur in the leaf, or independence is asked where its ways hang together",
     "the writer's lists do not agree in length with each other or with the ways its cues count",
     "the space lent for writing is shorter than the output",
+    "a record of the text is missing, is of no shape there, or names a fault twice in the same sense",
 };
 
 int main(void)
 {
-    SAME(version(), 1);
-    SAME(sizeof words / sizeof words[0], 23);
-    for (uint64_t i = 0; i < 23; i++) {
+    SAME(version(), 2);
+    SAME(sizeof words / sizeof words[0], 24);
+    for (uint64_t i = 0; i < 24; i++) {
         same(__LINE__, words[i], strcmp(refusal(i), words[i]) == 0, 1);
     }
-    HOLDS(strcmp(refusal(23), "unknown number") == 0);
+    HOLDS(strcmp(refusal(24), "unknown number") == 0);
     HOLDS(strcmp(refusal(UINT64_MAX), "unknown number") == 0);
     on_trees();
     on_sheets();
+    on_texts();
     return differs;
 }

@@ -11,7 +11,7 @@ pub const RECORDS: usize = 511;
 pub const STACK: usize = 262_144;
 
 /// The version of the header.
-pub const VERSION: u64 = 1;
+pub const VERSION: u64 = 2;
 
 /// A record of a tree; its fields have one width, so that they can be told by number too.
 #[repr(C)]
@@ -141,6 +141,8 @@ extern "C" {
         counted: usize, present: *const u64, presents: usize, absent: *const u64, absents: usize, allowance: u64,
         budget: u64, space: *mut u8, length: usize) -> Answer;
     fn cue_sheet_report(sheet: *const u8, length: usize, space: *mut u8, room: usize) -> Answer;
+    fn cue_csv_import(text: *const u8, length: usize, space: *mut u8, room: usize) -> Answer;
+    fn cue_csv_export(sheet: *const u8, length: usize, space: *mut u8, room: usize) -> Answer;
 }
 
 // Each pointer comes from a slice or a reference that lives through the call, with that slice's own length, or is
@@ -213,4 +215,14 @@ pub fn write(lists: &Sheet, space: &mut [u8]) -> Answer {
 pub fn report(sheet: &[u8], space: &mut [u8]) -> Answer {
     let room = space.len();
     unsafe { cue_sheet_report(at(sheet), sheet.len(), at_mut(space), room) }
+}
+
+pub fn import(text: &[u8], space: &mut [u8]) -> Answer {
+    let room = space.len();
+    unsafe { cue_csv_import(at(text), text.len(), at_mut(space), room) }
+}
+
+pub fn export(sheet: &[u8], space: &mut [u8]) -> Answer {
+    let room = space.len();
+    unsafe { cue_csv_export(at(sheet), sheet.len(), at_mut(space), room) }
 }

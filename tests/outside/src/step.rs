@@ -21,6 +21,10 @@ pub enum Step {
     Lend(Box<Tree>),
     /// The bytes of a sheet; its reader starts at the first cue.
     Sheet(Vec<u8>),
+    /// A sheet as comma separated text.
+    Text(Vec<u8>),
+    /// A text of its first bytes, a part so many times, and its last bytes.
+    Long(Vec<u8>, Vec<u8>, usize, Vec<u8>),
     /// From now on each call of the library has no more stack than the header asks for.
     Stack,
 
@@ -46,11 +50,15 @@ pub enum Step {
     Report(usize),
     /// Lists for the writer, and the length of the space.
     Write(Sheet, usize),
+    /// The text into a space of this length, as a sheet.
+    Import(usize),
+    /// The sheet into a space of this length, as text.
+    Export(usize),
 
     // Claims about the library alone.
     /// Figures that the last answer must have: number, low, high, count, verdict.
     Told([Option<u64>; 5]),
-    /// The text that the last report must be.
+    /// What the last call must have written into its space.
     Printed(Vec<u8>),
     /// Both trees have the same places, with what was done there and the intervals, and the same sum of counts.
     Alike,
@@ -81,6 +89,10 @@ impl Display for Step {
             }
             Step::Lend(tree) => write!(f, "lend {} {}", tree.used, fields(without_blank_end(tree))),
             Step::Sheet(bytes) => write!(f, "sheet {}", hex(bytes)),
+            Step::Text(text) => write!(f, "text {}", hex(text)),
+            Step::Long(first, part, times, last) => {
+                write!(f, "long {} {} {times} {}", hex(first), hex(part), hex(last))
+            }
             Step::Stack => write!(f, "stack"),
             Step::Version => write!(f, "version"),
             Step::Open => write!(f, "open"),
@@ -98,6 +110,8 @@ impl Display for Step {
                 write!(f, "write {} {} {}", list(weights), list(cues), list(counts))?;
                 write!(f, " {} {} {allowance} {budget} {space}", list(present), list(absent))
             }
+            Step::Import(space) => write!(f, "import {space}"),
+            Step::Export(space) => write!(f, "export {space}"),
             Step::Told(figures) => {
                 let figures = figures.map(|figure| figure.map_or("-".into(), |figure| figure.to_string()));
                 write!(f, "told {}", figures.join(" "))
@@ -156,6 +170,8 @@ fn step(line: &str) -> Option<Step> {
         }
         "lend" => Step::Lend(words.tree()?),
         "sheet" => Step::Sheet(words.bytes()?),
+        "text" => Step::Text(words.bytes()?),
+        "long" => Step::Long(words.bytes()?, words.bytes()?, words.number()?, words.bytes()?),
         "stack" => Step::Stack,
         "version" => Step::Version,
         "open" => Step::Open,
@@ -180,6 +196,8 @@ fn step(line: &str) -> Option<Step> {
             };
             Step::Write(lists, words.number()?)
         }
+        "import" => Step::Import(words.number()?),
+        "export" => Step::Export(words.number()?),
         "told" => {
             let mut figures = [None; 5];
             for figure in &mut figures {

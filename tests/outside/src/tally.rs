@@ -16,6 +16,8 @@ pub enum Call {
     Table,
     Write,
     Report,
+    Import,
+    Export,
 }
 
 impl Call {
@@ -31,6 +33,8 @@ impl Call {
             Call::Table => "cue_sheet_table",
             Call::Write => "cue_sheet_write",
             Call::Report => "cue_sheet_report",
+            Call::Import => "cue_csv_import",
+            Call::Export => "cue_csv_export",
         }
     }
 }

@@ -2,6 +2,8 @@
 //! the other side of randomized comparisons with the verified library.
 //! Trees live on the heap and every interval is worked out from scratch.
 
+pub mod child;
+pub mod csv;
 pub mod damages;
 pub mod figures;
 pub mod files;

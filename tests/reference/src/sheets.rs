@@ -3,7 +3,7 @@
 
 use crate::paper::whole_sheet;
 use crate::report::{enclosing_lines, report};
-use crate::sheet::{encode, Sheet};
+use crate::sheet::{encode, sheet_number, Sheet};
 use crate::{LONGEST_SHEET, MOST_CUES, MOST_FAULTS, MOST_WAYS, S};
 
 /// A field of the rules' sheet: where it stands and how wide it is.
@@ -171,28 +171,33 @@ pub fn longest() -> Sheet {
     sheet
 }
 
+/// Every sheet by name; the refused ones meet every refusal that reading knows.
+pub fn named() -> Vec<(&'static str, Vec<u8>)> {
+    let accepted = ACCEPTED.iter().map(|case| (case.0, damaged(case)));
+    let refused = REFUSED.iter().chain(&ORDERS).map(|(number, case)| {
+        let bytes = damaged(case);
+        assert_eq!(sheet_number(&bytes), *number, "{}", case.0);
+        (case.0, bytes)
+    });
+    let longest = encode(&longest());
+    assert_eq!(longest.len(), LONGEST_SHEET);
+    let longer = [&longest[..], &[0]].concat();
+    let shorter = longest[..LONGEST_SHEET - 1].to_vec();
+    let long = [
+        ("49612 bytes", longest),
+        ("49613 bytes", longer),
+        ("49611 bytes", shorter),
+    ];
+    accepted.chain(refused).chain(long).collect()
+}
+
 /// The expected output: for each sheet its name and a colon on a line, then its report.
 pub fn sheets() -> String {
     let mut text = String::new();
-    let mut add = |name: &str, bytes: &[u8]| {
-        let printed = report(bytes);
-        assert!(enclosing_lines(bytes, &printed).is_ok(), "{name}");
+    for (name, bytes) in named() {
+        let printed = report(&bytes);
+        assert!(enclosing_lines(&bytes, &printed).is_ok(), "{name}");
         text += &format!("{name}:\n{printed}");
-    };
-    for case in &ACCEPTED {
-        add(case.0, &damaged(case));
     }
-    for (number, case) in REFUSED.iter().chain(&ORDERS) {
-        let bytes = damaged(case);
-        assert_eq!(report(&bytes), format!("refused {number}\n"), "{}", case.0);
-        add(case.0, &bytes);
-    }
-    let mut bytes = encode(&longest());
-    assert_eq!(bytes.len(), LONGEST_SHEET);
-    add("49612 bytes", &bytes);
-    bytes.push(0);
-    add("49613 bytes", &bytes);
-    bytes.truncate(LONGEST_SHEET - 1);
-    add("49611 bytes", &bytes);
     text
 }

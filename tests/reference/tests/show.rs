@@ -1,6 +1,7 @@
-//! The sample show, written out a second time: the stored sheet is what this implementation encodes, the
-//! figures that samples/README.md tells are its report, and a count over all assignments stands beside them.
+//! The sample show, written out a second time: the stored sheet is what this implementation encodes, the stored text what
+//! it exports, the figures that samples/README.md tells are its report, and a count over all assignments stands beside them.
 
+use reference::csv::{joined, table};
 use reference::files::{stored, stored_text};
 use reference::report::{enclosing_lines, report};
 use reference::sheet::{encode, Sheet};
@@ -84,6 +85,16 @@ fn the_stored_sheet_is_the_show() {
     let bytes = encode(&show(0, 8));
     assert_eq!(stored("samples/show.sheet"), bytes);
     assert_eq!(stored("crates/show_sheet/stdout"), bytes);
+    assert_eq!(stored("crates/cue_import/stdout"), bytes);
+    assert_eq!(stored("crates/cue_export/stdin"), bytes);
+}
+
+#[test]
+fn the_stored_text_is_the_shows() {
+    let text = joined(&table(&show(0, 8)));
+    assert_eq!(stored("samples/show.csv"), text);
+    assert_eq!(stored("crates/cue_import/stdin"), text);
+    assert_eq!(stored("crates/cue_export/stdout"), text);
 }
 
 /// Both texts, of the stored sheet and of the change that the page proposes, and every chance.

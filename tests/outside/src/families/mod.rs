@@ -1,5 +1,6 @@
 //! The families of cases, in the order in which they are played, and what several of them share.
 
+mod csv;
 mod cuts;
 mod damage;
 mod drawn;
@@ -35,7 +36,7 @@ pub struct Family {
     pub least: u64,
 }
 
-pub const FAMILIES: [Family; 23] = [
+pub const FAMILIES: [Family; 24] = [
     family("paper", paper::cases_on_paper, 113),
     family("tests", paper::run_in_the_tests, 135),
     family("wrong", named::easy_to_get_wrong, 11_170),
@@ -58,7 +59,8 @@ pub const FAMILIES: [Family; 23] = [
     family("writing", writing::writing, 12_000),
     family("search", search::search, 7200),
     family("far", far::far, 5700),
-    family("stack", stack::stack, 1055),
+    family("stack", stack::stack, 1071),
+    family("csv", csv::csv, 113_000),
 ];
 
 const fn family(name: &'static str, play: fn(&mut Bench) -> Outcome, least: u64) -> Family {

@@ -1,6 +1,7 @@
 //! Every function of the library on the largest that it can be handed, in a thread with no more stack than the header
 //! says that a call may need. Trees, tables and spaces lie elsewhere.
 
+use super::csv::long::the_longest;
 use super::{open_leaf, run_told, told_number};
 use crate::bench::Bench;
 use crate::calls::{Node, RECORDS};
@@ -12,7 +13,11 @@ use reference::{Act, FULL, LONGEST_SHEET, MOST_CUES, MOST_WAYS, NONE, S};
 
 pub fn stack(bench: &mut Bench) -> Outcome {
     bench.case("the largest tables and a full tree", |session, _| trees(session))?;
-    bench.case("the longest sheet", |session, _| longest(session))
+    bench.case("the longest sheet", |session, _| longest(session))?;
+    bench.case("the longest texts", |session, _| {
+        session.make(Step::Stack)?;
+        the_longest(session)
+    })
 }
 
 fn trees(session: &mut Session) -> Outcome {

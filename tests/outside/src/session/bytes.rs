@@ -1,10 +1,11 @@
-//! The page's search over lent records, and the steps on sheets: reading, a reader's call, a cue's table, the report
-//! and the writer, the last two with every byte in and around the lent space.
+//! The page's search over lent records, and the steps on sheets: reading, a reader's call, a cue's table, and with every
+//! byte in and around the lent space the report, the writer, import and export.
 
 use super::{must, Mismatch, Outcome, Session};
 use crate::calls::{self, Entry, Head, Inside, Node, Spot};
 use crate::lent::LentSpace;
 use crate::tally::Call;
+use reference::csv;
 use reference::report::{enclosing_lines, report_into};
 use reference::sheet::{cue_at, cue_table, decode, write, Handed, Sheet};
 use reference::tree::first_widest;
@@ -116,6 +117,25 @@ impl Session {
         self.make_output(Call::Write, space, library, |space| write(lists, space))
     }
 
+    /// Behind the text stands a byte that would change it: the end of a line that it ends within, or else a digit.
+    pub(super) fn make_import(&mut self, space: usize) -> Outcome {
+        let text = mem::take(&mut self.text);
+        let next = if text.ends_with(b"\r") { b'\n' } else { b'1' };
+        let longer = [&text[..], &[next]].concat();
+        let library = |space: &mut [u8]| calls::import(&longer[..text.len()], space);
+        let outcome = self.make_output(Call::Import, space, library, |space| csv::import(&text, space));
+        self.text = text;
+        outcome
+    }
+
+    pub(super) fn make_export(&mut self, space: usize) -> Outcome {
+        let sheet = mem::take(&mut self.sheet);
+        let library = |space: &mut [u8]| calls::export(&sheet, space);
+        let outcome = self.make_output(Call::Export, space, library, |space| csv::export(&sheet, space));
+        self.sheet = sheet;
+        outcome
+    }
+
     fn make_output(
         &mut self,
         call: Call,
@@ -127,7 +147,9 @@ impl Session {
         let got: Answer = self.stack.make(call, || library(lent.space())).into();
         self.same_answer(call, reference(due.space()), got)?;
         self.same("the space", &due, &lent)?;
-        self.printed = lent.space()[..got.count as usize].to_vec();
+        // Refused, a count is none of bytes.
+        let written = if got.number == 0 { got.count as usize } else { 0 };
+        self.printed = lent.space()[..written].to_vec();
         Ok(())
     }
 

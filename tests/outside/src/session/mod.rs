@@ -32,6 +32,7 @@ pub struct Session {
     sheet: Vec<u8>,
     /// The reader's place in the contents of the sheet.
     place: usize,
+    text: Vec<u8>,
     printed: Vec<u8>,
     stack: Stack,
 }
@@ -48,6 +49,7 @@ impl Session {
             at: 0,
             sheet: Vec::new(),
             place: 0,
+            text: Vec::new(),
             printed: Vec::new(),
             stack: Stack::Ample,
         }
@@ -79,6 +81,11 @@ impl Session {
 
     pub fn answer(&self) -> Answer {
         self.held[self.at].answer
+    }
+
+    /// What the library wrote last.
+    pub fn printed(&self) -> &[u8] {
+        &self.printed
     }
 
     // Steps, made and kept.
@@ -119,6 +126,8 @@ impl Session {
             Step::Poke(field, value) => self.poke(field, value),
             Step::Lend(tree) => self.held[self.at].lent.tree = *tree,
             Step::Sheet(bytes) => (self.sheet, self.place) = (bytes, 0),
+            Step::Text(text) => self.text = text,
+            Step::Long(first, part, times, last) => self.text = [first, part.repeat(times), last].concat(),
             Step::Stack => self.stack = Stack::Least,
             Step::Version => self.make_version()?,
             Step::Open => self.make_open()?,
@@ -138,6 +147,8 @@ impl Session {
             Step::Inside(position) => self.make_inside(position)?,
             Step::Report(space) => self.make_report(space)?,
             Step::Write(lists, space) => self.make_write(&lists, space)?,
+            Step::Import(space) => self.make_import(space)?,
+            Step::Export(space) => self.make_export(space)?,
             Step::Told(figures) => self.claim_told(figures)?,
             Step::Printed(text) => self.claim_printed(&text)?,
             Step::Alike => self.claim_alike()?,

@@ -2,13 +2,12 @@
 //! `cargo run --bin run_program -- PROGRAM COUNT FAILED`. COUNT of the inputs are seeded sheets; the others are always
 //! the same. The input that fails is left in the file FAILED.
 
+use reference::child::{written, Written};
 use reference::files::stored;
 use reference::paper::{done_and_full, ring, whole_sheet};
 use reference::random::Random;
 use reference::report::{enclosing_lines, report};
 use reference::sheet::{encode, of_one_cue};
-use std::io::Write;
-use std::process::{Command, Stdio};
 use std::{env, fs, io};
 
 /// The program under test, where a failing input goes, how many inputs it was run on, and how many of its lines were
@@ -21,25 +20,6 @@ struct Program<'a> {
 }
 
 impl Program<'_> {
-    /// What the program prints for an input. It may end before it has read all of a long one.
-    fn printed(&self, bytes: &[u8]) -> io::Result<Vec<u8>> {
-        let mut child = Command::new(self.path)
-            .stdin(Stdio::piped())
-            .stdout(Stdio::piped())
-            .spawn()?;
-        if let Some(mut input) = child.stdin.take() {
-            match input.write_all(bytes) {
-                Err(error) if error.kind() != io::ErrorKind::BrokenPipe => return Err(error),
-                _ => {}
-            }
-        }
-        let output = child.wait_with_output()?;
-        if !output.status.success() {
-            return Err(io::Error::other(format!("{}", output.status)));
-        }
-        Ok(output.stdout)
-    }
-
     fn check(&mut self, name: &str, bytes: &[u8]) -> io::Result<()> {
         self.runs += 1;
         match self.judged(bytes) {
@@ -57,10 +37,12 @@ impl Program<'_> {
     /// How many lines were counted, or in words what is wrong.
     fn judged(&self, bytes: &[u8]) -> Result<usize, String> {
         let expected = report(bytes);
-        match self.printed(bytes) {
-            Ok(printed) if printed == expected.as_bytes() => enclosing_lines(bytes, &expected),
+        match written(self.path, bytes) {
+            Ok(Written { output, error }) if output == expected.as_bytes() && error.is_empty() => {
+                enclosing_lines(bytes, &expected)
+            }
             other => {
-                let printed = other.map(|text| String::from_utf8_lossy(&text).into_owned());
+                let printed = other.map(|said| String::from_utf8_lossy(&said.output).into_owned());
                 Err(format!("expected {expected:?}, the program: {printed:?}"))
             }
         }
