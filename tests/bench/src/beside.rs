@@ -20,9 +20,9 @@ pub fn pieces_heading(first: &str) {
 }
 
 /// A line of what both made and took, this build first. The ratio is by the refinement if both made any, else by the whole.
-fn row(name: &str, [made, other_made]: [f64; 2], medians: Medians) {
+fn row(name: &str, [made, other_made]: [f64; 2], medians: Medians<2>) {
     let [took, other_took] = medians.times;
-    let mut ratio = medians.ratio;
+    let [_, mut ratio] = medians.ratios;
     if made > 0.0 && other_made > 0.0 {
         ratio *= other_made / made;
     }

@@ -85,6 +85,22 @@ macro_rules! build {
 
 build!("cue_sheet_report", "cue_open", "cue_run");
 
+// Not of every build: another one may be older than these.
+extern "C" {
+    fn cue_csv_import(text: *const u8, len: usize, space: *mut u8, room: usize) -> Answer;
+    fn cue_csv_export(sheet: *const u8, len: usize, space: *mut u8, room: usize) -> Answer;
+}
+
+pub fn import(text: &[u8], space: &mut [u8]) -> Answer {
+    // Sound: both are lent for the call, with their lengths.
+    unsafe { cue_csv_import(text.as_ptr(), text.len(), space.as_mut_ptr(), space.len()) }
+}
+
+pub fn export(sheet: &[u8], space: &mut [u8]) -> Answer {
+    // Sound: as above.
+    unsafe { cue_csv_export(sheet.as_ptr(), sheet.len(), space.as_mut_ptr(), space.len()) }
+}
+
 /// Another build, linked by `tests/bench.sh beside` alone.
 #[cfg(beside)]
 pub mod other {

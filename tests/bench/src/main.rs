@@ -1,34 +1,41 @@
 //! Measures the library against the same rules and loops in Rust, on the same sheets: prints tables in markdown.
 //! Both sides alternate; a time is the median of the rounds. Every report, answer and tree has to be equal.
 //!
-//! `bench`: the tables. `bench stack`: the stack that the largest sheet needs. `bench once SIDE FAMILY`: one sheet, for a profiler.
-//! `bench beside`, if another build is linked: the tables for that and this one.
+//! `bench`: the tables. `bench texts`: the last of them, on comma separated text, with a third side, tuned and not in the library's loops.
+//! `bench stack`: the stack that the largest sheet needs.
+//! `bench once SIDE FAMILY` or `bench once SIDE CALL`: one sheet or text, for a profiler. `bench beside`, if another build is linked: the
+//! tables for that and this one, without the last, since another build may have no calls on text.
 
+use std::array;
 use std::hint::black_box;
+use std::io::{self, Write};
 use std::time::Duration;
 
 use bench::formula::Table;
 use bench::run::{self, Answer};
 use bench::sheets::Shape;
 use bench::tree::Tree;
-use bench::{clock, library, sheet, sheets};
+use bench::{clock, csv, library, sheet, sheets, texts};
 
 #[cfg(beside)]
 mod beside;
 
 /// More than the longest report: 27 bytes and 24 lines of 38.
 const ROOM: usize = 1024;
+/// The longest text of a sheet.
+const TEXT_ROOM: usize = 781_021;
 const ROUNDS: usize = 15;
 const LEAST: Duration = Duration::from_millis(10);
 const SEEDS: u64 = 4;
 
 type Report = fn(&[u8], &mut [u8]) -> usize;
 
-/// The report as bytes.
+/// What a call writes.
 fn text(report: Report, sheet: &[u8]) -> Vec<u8> {
-    let mut space = [0; ROOM];
+    let mut space = vec![0; TEXT_ROOM];
     let len = report(sheet, &mut space);
-    space[..len].to_vec()
+    space.truncate(len);
+    space
 }
 
 /// The refinements that the lines of a report count.
@@ -45,12 +52,11 @@ fn refinements(report: Report, sheets: &[Vec<u8>]) -> f64 {
 }
 
 /// The time of so many reports of each sheet.
-fn time(report: Report, sheets: &[Vec<u8>], repeat: u32) -> Duration {
-    let mut space = [0; ROOM];
+fn time(report: Report, sheets: &[Vec<u8>], repeat: u32, space: &mut [u8]) -> Duration {
     let start = clock::now();
     for _ in 0..repeat {
         for sheet in sheets {
-            black_box(report(black_box(sheet), black_box(&mut space)));
+            black_box(report(black_box(sheet), black_box(space)));
         }
     }
     clock::now() - start
@@ -61,35 +67,36 @@ fn median(mut times: Vec<f64>) -> f64 {
     times[times.len() / 2]
 }
 
-/// Of two sides: microseconds of each, and the first to the second.
-struct Medians {
-    times: [f64; 2],
-    ratio: f64,
+/// Of some sides: microseconds of each, and the first to each.
+struct Medians<const N: usize> {
+    times: [f64; N],
+    ratios: [f64; N],
 }
 
-/// Measures two sides in turn.
-fn in_turn<S: Copy>(sides: [S; 2], mut micros: impl FnMut(S) -> f64) -> Medians {
-    let (mut first, mut second, mut ratio) = (Vec::new(), Vec::new(), Vec::new());
-    for _ in 0..ROUNDS {
-        let [ours, theirs] = sides.map(&mut micros);
-        first.push(ours);
-        second.push(theirs);
-        ratio.push(ours / theirs);
-    }
+/// Measures the sides in turn.
+fn in_turn<S: Copy, const N: usize>(sides: [S; N], mut micros: impl FnMut(S) -> f64) -> Medians<N> {
+    let rounds = [(); ROUNDS].map(|()| sides.map(&mut micros));
+    let time = |i| rounds.iter().map(|round| round[i]).collect();
+    let ratio = |i| rounds.iter().map(|round| round[0] / round[i]).collect();
     Medians {
-        times: [median(first), median(second)],
-        ratio: median(ratio),
+        times: array::from_fn(|i| median(time(i))),
+        ratios: array::from_fn(|i| median(ratio(i))),
     }
 }
 
 /// Microseconds a sheet.
-fn measure(sides: [Report; 2], sheets: &[Vec<u8>]) -> Medians {
-    let [a, b] = sides.map(|report| time(report, sheets, 1));
-    let once = a.min(b).max(Duration::from_nanos(1));
+fn measure<const N: usize>(sides: [Report; N], sheets: &[Vec<u8>]) -> Medians<N> {
+    let mut space = vec![0; TEXT_ROOM];
+    let first = sides.map(|report| time(report, sheets, 1, &mut space));
+    let once = first
+        .into_iter()
+        .min()
+        .unwrap()
+        .max(Duration::from_nanos(1));
     let repeat = (LEAST.as_nanos() / once.as_nanos() + 1) as u32;
     let reports = f64::from(repeat) * sheets.len() as f64;
     in_turn(sides, |report| {
-        time(report, sheets, repeat).as_secs_f64() * 1e6 / reports
+        time(report, sheets, repeat, &mut space).as_secs_f64() * 1e6 / reports
     })
 }
 
@@ -114,8 +121,8 @@ fn line(name: &str, shape: &Shape) {
         assert!(ours == theirs, "the reports differ");
     }
     let steps = refinements(library::report, &sheets);
-    let Medians { times, ratio } = measure(sides, &sheets);
-    let [library, rust] = times;
+    let Medians { times, ratios } = measure(sides, &sheets);
+    let ([library, rust], [_, ratio]) = (times, ratios);
     println!(
         "| {name} | {} | {steps:.0} | {library:.1} | {rust:.1} | {} | {} | {ratio:.2} |",
         sheets[0].len(),
@@ -149,7 +156,7 @@ fn pieces((open, run): Calls, rows: &Rows, budget: u64, tree: &mut Tree) -> [Ans
 }
 
 /// Microseconds of the eight calls.
-fn measure_pieces(sides: [Calls; 2], rows: &Rows, budget: u64) -> Medians {
+fn measure_pieces(sides: [Calls; 2], rows: &Rows, budget: u64) -> Medians<2> {
     let mut tree = Tree::new();
     in_turn(sides, |calls| {
         let start = clock::now();
@@ -170,13 +177,91 @@ fn pieces_line(name: &str, shape: &Shape) {
     let theirs = pieces(sides[1], &rows, shape.budget, b);
     assert!(ours == theirs, "the answers differ");
     assert!(a == b, "the trees differ");
-    let Medians { times, ratio } = measure_pieces(sides, &rows, shape.budget);
-    let [library, rust] = times;
+    let Medians { times, ratios } = measure_pieces(sides, &rows, shape.budget);
+    let ([library, rust], [_, ratio]) = (times, ratios);
     println!("| {name} | {library:.0} | {rust:.0} | {ratio:.2} |");
 }
 
 fn pieces_heading(first: &str) {
     println!("\n| {first} | library, µs | Rust, µs | ratio |\n|---|---|---|---|");
+}
+
+// Sheets as comma separated text
+
+fn accepted(answer: Answer) -> usize {
+    assert_eq!(answer.number, 0);
+    answer.count as usize
+}
+
+// The library, its loops in Rust, the tuned side
+const IMPORTS: [Report; 3] = [
+    |text, space| accepted(library::import(text, space)),
+    |text, space| accepted(texts::import(text, space)),
+    |text, space| accepted(csv::import(text, space)),
+];
+const EXPORTS: [Report; 3] = [
+    |sheet, space| accepted(library::export(sheet, space)),
+    |sheet, space| accepted(texts::export(sheet, space)),
+    |sheet, space| accepted(csv::export(sheet, space)),
+];
+
+/// A call that is measured on some inputs; what it makes of them is known.
+struct Call {
+    name: &'static str,
+    sides: [Report; 3],
+    inputs: Vec<Vec<u8>>,
+    outputs: Vec<Vec<u8>>,
+}
+
+fn text_calls() -> Vec<Call> {
+    let import = |name, sheets: &[Vec<u8>], quote| Call {
+        name,
+        sides: IMPORTS,
+        inputs: sheets
+            .iter()
+            .map(|sheet| sheets::text(sheet, quote))
+            .collect(),
+        outputs: sheets.to_vec(),
+    };
+    let export = |name, sheets: &[Vec<u8>]| Call {
+        name,
+        sides: EXPORTS,
+        inputs: sheets.to_vec(),
+        outputs: sheets.iter().map(|sheet| sheets::text(sheet, "")).collect(),
+    };
+    let typical = seeded(&sheets::families()[2].1);
+    let largest = [sheets::longest()];
+    vec![
+        import("import, typical", &typical, ""),
+        import("import, largest", &largest, ""),
+        import("import, quoted", &largest, "\""),
+        export("export, typical", &typical),
+        export("export, largest", &largest),
+    ]
+}
+
+/// Compares and measures the three sides of each call.
+fn text_table() {
+    println!("\n| call | bytes taken | bytes written | library, µs a call | Rust, µs a call | ratio | tuned Rust, µs a call | ratio to tuned |");
+    println!("|---|---|---|---|---|---|---|---|");
+    for call in text_calls() {
+        for (input, output) in call.inputs.iter().zip(&call.outputs) {
+            let made = call.sides.map(|side| text(side, input));
+            assert!(
+                made.iter().all(|bytes| bytes == output),
+                "the outputs differ"
+            );
+        }
+        let Medians { times, ratios } = measure(call.sides, &call.inputs);
+        let [library, rust, tuned] = times;
+        let [_, ratio, ratio_to_tuned] = ratios;
+        println!(
+            "| {} | {} | {} | {library:.1} | {rust:.1} | {ratio:.2} | {tuned:.1} | {ratio_to_tuned:.2} |",
+            call.name,
+            call.inputs[0].len(),
+            call.outputs[0].len()
+        );
+    }
 }
 
 type Heading = fn(&str);
@@ -244,11 +329,33 @@ fn least_stack(name: &str) -> usize {
     high
 }
 
+/// What one side makes of the first sheet of a family, or of the first input of a call on text.
+fn once(name: &str, title: &str) -> Vec<u8> {
+    let families = sheets::families();
+    if let Some((_, shape)) = families.iter().find(|family| family.0 == title) {
+        return text(side(name), &sheets::sheet(shape, 1));
+    }
+    let calls = text_calls();
+    let call = calls.iter().find(|call| call.name == title);
+    let call = call.expect("a family or a call");
+    let [library, rust, tuned] = call.sides;
+    let side = match name {
+        "rust" => rust,
+        "tuned" => tuned,
+        _ => library,
+    };
+    text(side, &call.inputs[0])
+}
+
 fn main() {
     let arguments: Vec<String> = std::env::args().skip(1).collect();
     let words: Vec<&str> = arguments.iter().map(String::as_str).collect();
     match words[..] {
-        [] => tables(heading, line, pieces_heading, pieces_line),
+        [] => {
+            tables(heading, line, pieces_heading, pieces_line);
+            text_table();
+        }
+        ["texts"] => text_table(),
         #[cfg(beside)]
         ["beside"] => tables(
             beside::heading,
@@ -265,17 +372,7 @@ fn main() {
             }
         }
         ["in-stack", name, bytes] => in_stack(name, bytes.parse().unwrap()),
-        ["once", name, family] => {
-            let families = sheets::families();
-            let (_, shape) = families
-                .iter()
-                .find(|(title, _)| *title == family)
-                .expect("a family");
-            print!(
-                "{}",
-                String::from_utf8(text(side(name), &sheets::sheet(shape, 1))).unwrap()
-            );
-        }
-        _ => panic!("usage: bench [stack | once library|rust FAMILY | beside]"),
+        ["once", name, title] => io::stdout().write_all(&once(name, title)).unwrap(),
+        _ => panic!("usage: bench [texts | stack | once library|rust FAMILY|CALL | once tuned CALL | beside]"),
     }
 }

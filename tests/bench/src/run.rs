@@ -19,7 +19,7 @@ pub const DONE: u64 = 2;
 pub const FULL: u64 = 3;
 pub const SPENT: u64 = 4;
 
-fn refused(number: u64) -> Answer {
+pub fn refused(number: u64) -> Answer {
     Answer {
         number,
         low: 0,

@@ -3,8 +3,8 @@
 use crate::formula::*;
 use crate::run::{run_afresh, Answer, DONE, FULL, MET};
 
-const HEAD: usize = 12;
-const MOST_CUES: usize = 24;
+pub const HEAD: usize = 12;
+pub const MOST_CUES: usize = 24;
 
 fn u16_at(bytes: &[u8], at: usize) -> u16 {
     u16::from_le_bytes([bytes[at], bytes[at + 1]])
@@ -14,26 +14,32 @@ fn u32_at(bytes: &[u8], at: usize) -> u32 {
     u32::from_le_bytes(bytes[at..at + 4].try_into().unwrap())
 }
 
-fn u64_at(bytes: &[u8], at: usize) -> u64 {
+pub fn u64_at(bytes: &[u8], at: usize) -> u64 {
     u64::from_le_bytes(bytes[at..at + 8].try_into().unwrap())
 }
 
-struct Sheet<'a> {
-    bytes: &'a [u8],
-    faults: usize,
-    cues: usize,
+/// The words of the ways in some bodies.
+fn words(bodies: &[u8]) -> impl Iterator<Item = (u64, u64)> + '_ {
+    let words = |way: &[u8]| (u64_at(way, 0), u64_at(way, 8));
+    bodies.chunks_exact(16).map(words)
+}
+
+pub struct Sheet<'a> {
+    pub bytes: &'a [u8],
+    pub faults: usize,
+    pub cues: usize,
 }
 
 impl Sheet<'_> {
-    fn cue(&self, i: usize) -> u16 {
+    pub fn cue(&self, i: usize) -> u16 {
         u16_at(self.bytes, HEAD + 8 * i)
     }
 
-    fn ways(&self, i: usize) -> usize {
+    pub fn ways(&self, i: usize) -> usize {
         usize::from(u16_at(self.bytes, HEAD + 8 * i + 2))
     }
 
-    fn place(&self, i: usize) -> usize {
+    pub fn place(&self, i: usize) -> usize {
         u32_at(self.bytes, HEAD + 8 * i + 4) as usize
     }
 
@@ -45,12 +51,21 @@ impl Sheet<'_> {
         self.weights() + 4 * self.faults
     }
 
-    fn allowance(&self) -> u64 {
+    pub fn allowance(&self) -> u64 {
         u64::from(u32_at(self.bytes, 4))
     }
 
-    fn budget(&self) -> u64 {
+    pub fn budget(&self) -> u64 {
         u64::from(u16_at(self.bytes, 8))
+    }
+
+    pub fn weight(&self, fault: usize) -> u32 {
+        u32_at(self.bytes, self.weights() + 4 * fault)
+    }
+
+    /// The present and the absent word of each way of a cue.
+    pub fn body(&self, i: usize) -> impl Iterator<Item = (u64, u64)> + '_ {
+        words(&self.bytes[self.place(i)..][..16 * self.ways(i)])
     }
 
     /// 5 to 8, or 0: the contents.
@@ -80,13 +95,10 @@ impl Sheet<'_> {
 
     /// 10 to 15, or 0: the bodies.
     fn bodies_number(&self) -> u64 {
-        if (0..self.faults).any(|i| u64::from(u32_at(self.bytes, self.weights() + 4 * i)) > S) {
+        if (0..self.faults).any(|fault| u64::from(self.weight(fault)) > S) {
             return 10;
         }
-        let ways = || {
-            let words = |way: &[u8]| (u64_at(way, 0), u64_at(way, 8));
-            self.bytes[self.bodies()..].chunks_exact(16).map(words)
-        };
+        let ways = || words(&self.bytes[self.bodies()..]);
         if self.faults < MOST_FAULTS && ways().any(|(p, a)| (p | a) >> self.faults != 0) {
             return 12;
         }
@@ -103,7 +115,7 @@ impl Sheet<'_> {
     }
 }
 
-fn read(bytes: &[u8]) -> Result<Sheet<'_>, u64> {
+pub fn read(bytes: &[u8]) -> Result<Sheet<'_>, u64> {
     if bytes.len() < HEAD {
         return Err(1);
     }
@@ -133,18 +145,18 @@ fn read(bytes: &[u8]) -> Result<Sheet<'_>, u64> {
 }
 
 /// Text written from the front of lent space, which is long enough.
-struct Text<'a> {
-    space: &'a mut [u8],
-    len: usize,
+pub struct Text<'a> {
+    pub space: &'a mut [u8],
+    pub len: usize,
 }
 
 impl Text<'_> {
-    fn put(&mut self, bytes: &[u8]) {
+    pub fn put(&mut self, bytes: &[u8]) {
         self.space[self.len..self.len + bytes.len()].copy_from_slice(bytes);
         self.len += bytes.len();
     }
 
-    fn number(&mut self, mut n: u64) {
+    pub fn number(&mut self, mut n: u64) {
         let mut digits = [0u8; 20];
         let mut from = digits.len();
         loop {
@@ -187,7 +199,7 @@ pub fn report(bytes: &[u8], space: &mut [u8]) -> usize {
     text.put(b"cue low high steps verdict\n");
     let mut weights = [0u32; MOST_FAULTS];
     for (fault, weight) in weights[..sheet.faults].iter_mut().enumerate() {
-        *weight = u32_at(bytes, sheet.weights() + 4 * fault);
+        *weight = sheet.weight(fault);
     }
     for i in 0..sheet.cues {
         let ways = sheet.ways(i);

@@ -177,3 +177,74 @@ pub fn growth() -> Vec<(&'static str, usize, Shape)> {
     });
     ways.into_iter().chain(faults).chain(budgets).collect()
 }
+
+/// The sheet with the longest text: every way names all faults absent, and no number could have more digits.
+pub fn longest() -> Vec<u8> {
+    let (cues, ways) = (24u32, 128u32);
+    let mut bytes = Vec::new();
+    bytes.extend([64, 0, cues as u8, 0]);
+    bytes.extend(1_000_000_000u32.to_le_bytes());
+    bytes.extend([255, 0, 0, 0]);
+    for cue in 0..cues {
+        bytes.extend((10_000 + cue as u16).to_le_bytes());
+        bytes.extend((ways as u16).to_le_bytes());
+        bytes.extend((12 + 8 * cues + 4 * 64 + 16 * ways * cue).to_le_bytes());
+    }
+    bytes.extend(1_000_000_000u32.to_le_bytes().repeat(64));
+    for _ in 0..cues * ways {
+        bytes.extend(0u64.to_le_bytes());
+        bytes.extend(u64::MAX.to_le_bytes());
+    }
+    bytes
+}
+
+fn number(bytes: &[u8]) -> u64 {
+    let add = |n, &byte| n << 8 | u64::from(byte);
+    bytes.iter().rev().fold(0, add)
+}
+
+/// The fields that a way's words name, rising; `0` if none.
+fn fields(way: &[u8]) -> Vec<String> {
+    let (present, absent) = (number(&way[..8]), number(&way[8..]));
+    let mut fields = Vec::new();
+    for fault in 0..64 {
+        if present >> fault & 1 == 1 {
+            fields.push(format!("{}", fault + 1));
+        }
+        if absent >> fault & 1 == 1 {
+            fields.push(format!("-{}", fault + 1));
+        }
+    }
+    if fields.is_empty() {
+        fields.push("0".to_string());
+    }
+    fields
+}
+
+/// The comma separated text of a sheet, each of its fields in such quotes.
+pub fn text(sheet: &[u8], quote: &str) -> Vec<u8> {
+    let decimal = |at: usize, len: usize| number(&sheet[at..at + len]).to_string();
+    let (faults, cues) = (number(&sheet[..2]) as usize, number(&sheet[2..4]) as usize);
+    let bodies = 12 + 8 * cues + 4 * faults;
+    let mut weights = vec!["weights".to_string()];
+    weights.extend((0..faults).map(|fault| decimal(12 + 8 * cues + 4 * fault, 4)));
+    let mut records = vec![
+        vec!["run".to_string(), decimal(4, 4), decimal(8, 2)],
+        weights,
+    ];
+    let mut ways = sheet[bodies..].chunks(16);
+    for entry in sheet[12..].chunks(8).take(cues) {
+        let cue = vec![number(&entry[..2]).to_string()];
+        let count = number(&entry[2..4]) as usize;
+        if count == 0 {
+            records.push(cue.clone());
+        }
+        for way in ways.by_ref().take(count) {
+            records.push([cue.clone(), fields(way)].concat());
+        }
+    }
+    let quoted = |field: &String| format!("{quote}{field}{quote}");
+    let line = |record: &Vec<String>| record.iter().map(quoted).collect::<Vec<_>>().join(",");
+    let lines = records.iter().map(|record| line(record) + "\r\n");
+    lines.collect::<String>().into_bytes()
+}

@@ -1,0 +1,519 @@
+//! One line of a text read: where it ends, its fields, and what it says as the record of the limits, of the weights or of a way.
+//! The library's crate `csv_rows`. The record of a way is read by one cursor, each byte once.
+
+use super::decimal::numeral_in;
+use super::Limits;
+use crate::csv::unquoted;
+
+// Lines and fields
+
+/// CR LF stands at a position.
+fn breaks(text: &[u8], i: usize) -> bool {
+    if text[i] != b'\r' {
+        return false;
+    }
+    if text.len() - i == 1 {
+        return false;
+    }
+    text[i + 1] == b'\n'
+}
+
+/// Where the line ends that starts at a position: at the next CR LF, or at the end of the text.
+pub fn line_end(text: &[u8], at: usize) -> usize {
+    let mut i = at;
+    while i < text.len() {
+        if breaks(text, i) {
+            return i;
+        }
+        i += 1;
+    }
+    i
+}
+
+/// Where the field ends that starts at a position: at the next comma, or at the end of the line.
+fn field_end(line: &[u8], at: usize) -> usize {
+    let mut i = at;
+    while i < line.len() {
+        if line[i] == b',' {
+            return i;
+        }
+        i += 1;
+    }
+    i
+}
+
+/// A field as a number, and where the next field starts.
+struct NumeralAt {
+    good: bool,
+    value: u64,
+    next: usize,
+}
+
+/// The field at a position as a number; there is none behind the end of the line.
+fn numeral_at(line: &[u8], at: usize) -> NumeralAt {
+    if line.len() < at {
+        return NumeralAt {
+            good: false,
+            value: 0,
+            next: at,
+        };
+    }
+    let end = field_end(line, at);
+    let n = numeral_in(unquoted(&line[at..end]));
+    NumeralAt {
+        good: n.good,
+        value: n.value,
+        next: end + 1,
+    }
+}
+
+// The first two records
+
+/// What a line says as the record of the limits; not good, both are 0.
+pub struct RunSaid {
+    pub good: bool,
+    pub limits: Limits,
+}
+
+/// The record of the limits: `run`, allowance, budget.
+pub fn run(line: &[u8]) -> RunSaid {
+    let none = RunSaid {
+        good: false,
+        limits: Limits {
+            allowance: 0,
+            budget: 0,
+        },
+    };
+    let end = field_end(line, 0);
+    if unquoted(&line[..end]) != b"run" {
+        return none;
+    }
+    let a = numeral_at(line, end + 1);
+    if !a.good {
+        return none;
+    }
+    let b = numeral_at(line, a.next);
+    if !b.good {
+        return none;
+    }
+    if b.next <= line.len() {
+        return none;
+    }
+    RunSaid {
+        good: true,
+        limits: Limits {
+            allowance: a.value,
+            budget: b.value,
+        },
+    }
+}
+
+/// What a line says as the record of the weights: how many there are; not good, the count is 0.
+pub struct WeightsSaid {
+    pub good: bool,
+    pub count: usize,
+}
+
+/// A weight, cut to one above the limit.
+fn cut(weight: u64) -> u32 {
+    weight.min(1_000_000_001) as u32
+}
+
+/// The record of the weights: `weights`, then each weight. The list takes as many as it has room for; all are counted.
+pub fn weights(line: &[u8], weights: &mut [u32]) -> WeightsSaid {
+    let none = WeightsSaid {
+        good: false,
+        count: 0,
+    };
+    let end = field_end(line, 0);
+    if unquoted(&line[..end]) != b"weights" {
+        return none;
+    }
+    let mut at = end + 1;
+    let mut count = 0;
+    while at <= line.len() {
+        let w = numeral_at(line, at);
+        if !w.good {
+            return none;
+        }
+        if count < weights.len() {
+            weights[count] = cut(w.value);
+        }
+        count += 1;
+        at = w.next;
+    }
+    WeightsSaid { good: true, count }
+}
+
+// The cursor
+
+/// The number at a position of a text, and where its digits end.
+struct NumberAt {
+    value: u64,
+    end: usize,
+}
+
+/// The same, perhaps behind a minus; not good, there is no digit.
+struct SignedAt {
+    good: bool,
+    absent: bool,
+    value: u64,
+    end: usize,
+}
+
+/// A field of a text as a number, perhaps behind a minus, whether a further field follows, and the position behind the byte that ends it:
+/// that field starts there, or else the next line one further on.
+struct FieldAt {
+    good: bool,
+    absent: bool,
+    value: u64,
+    more: bool,
+    next: usize,
+}
+
+/// A byte stands at a position.
+fn stands(text: &[u8], i: usize, byte: u8) -> bool {
+    i < text.len() && text[i] == byte
+}
+
+/// A record ends at a position.
+fn ends(text: &[u8], i: usize) -> bool {
+    if i < text.len() {
+        return breaks(text, i);
+    }
+    true
+}
+
+/// The number at a position: `0`, or up to ten digits of which the first is another.
+fn number_at(text: &[u8], at: usize) -> NumberAt {
+    if stands(text, at, b'0') {
+        return NumberAt {
+            value: 0,
+            end: at + 1,
+        };
+    }
+    let mut value = 0;
+    let mut i = at;
+    while i < text.len() {
+        let byte = text[i];
+        if !byte.is_ascii_digit() {
+            return NumberAt { value, end: i };
+        }
+        if value > 999_999_999 {
+            return NumberAt { value, end: i };
+        }
+        value = 10 * value + u64::from(byte - b'0');
+        i += 1;
+    }
+    NumberAt { value, end: i }
+}
+
+/// The number at a position, perhaps behind a minus.
+fn signed_at(text: &[u8], at: usize) -> SignedAt {
+    let absent = stands(text, at, b'-');
+    let mut from = at;
+    if absent {
+        from = at + 1;
+        if from == text.len() {
+            return SignedAt {
+                good: false,
+                absent,
+                value: 0,
+                end: from,
+            };
+        }
+    }
+    let n = number_at(text, from);
+    SignedAt {
+        good: from < n.end,
+        absent,
+        value: n.value,
+        end: n.end,
+    }
+}
+
+/// A number whose field must end at a position.
+fn ended(text: &[u8], c: SignedAt, end: usize) -> FieldAt {
+    if stands(text, end, b',') {
+        return FieldAt {
+            good: c.good,
+            absent: c.absent,
+            value: c.value,
+            more: true,
+            next: end + 1,
+        };
+    }
+    FieldAt {
+        good: c.good && ends(text, end),
+        absent: c.absent,
+        value: c.value,
+        more: false,
+        next: end + 1,
+    }
+}
+
+/// The field that a quote at a position opens.
+fn quoted_at(text: &[u8], at: usize) -> FieldAt {
+    let c = signed_at(text, at + 1);
+    let end = c.end;
+    if stands(text, end, b'"') {
+        return ended(text, c, end + 1);
+    }
+    FieldAt {
+        good: false,
+        absent: c.absent,
+        value: c.value,
+        more: false,
+        next: end,
+    }
+}
+
+/// The field at a position, read as a number, perhaps behind a minus. Quotes are rare: they have a path of their own.
+fn field_at(text: &[u8], at: usize) -> FieldAt {
+    if stands(text, at, b'"') {
+        return quoted_at(text, at);
+    }
+    let c = signed_at(text, at);
+    let end = c.end;
+    ended(text, c, end)
+}
+
+// The records of ways
+
+/// A fault by its place, and in which sense it is named.
+#[derive(Clone, Copy, PartialEq, Eq)]
+struct Fault {
+    place: u64,
+    absent: bool,
+}
+
+/// A field as a fault, whether a further field follows, and where that or the next line starts, as with `FieldAt`.
+struct FaultAt {
+    good: bool,
+    fault: Fault,
+    more: bool,
+    next: usize,
+}
+
+/// The words of faults, and whether one of them is beyond the 64th.
+#[derive(Clone, Copy)]
+struct Words {
+    far: bool,
+    present: u64,
+    absent: u64,
+}
+
+/// Fields as the faults of a way, and where the next line starts; not good, the words are 0.
+struct NamesSaid {
+    good: bool,
+    words: Words,
+    next: usize,
+}
+
+/// What a line says as the record of a way: its cue, whether there is a way, whether that names a fault beyond the 64th,
+/// and if not, the words of the faults that it names. Then where the next line starts.
+#[derive(Clone, Copy)]
+pub struct RowSaid {
+    pub good: bool,
+    pub cue: u16,
+    pub way: bool,
+    pub far: bool,
+    pub present: u64,
+    pub absent: u64,
+    pub next: usize,
+}
+
+/// A field as a fault.
+fn fault_of(f: FieldAt) -> FaultAt {
+    if f.value == 0 {
+        return FaultAt {
+            good: false,
+            fault: Fault {
+                place: 0,
+                absent: f.absent,
+            },
+            more: f.more,
+            next: f.next,
+        };
+    }
+    FaultAt {
+        good: f.good,
+        fault: Fault {
+            place: f.value - 1,
+            absent: f.absent,
+        },
+        more: f.more,
+        next: f.next,
+    }
+}
+
+/// The field at a position as a fault. A bare field is read in place, as this is done for every fault of a text.
+fn fault_at(text: &[u8], at: usize) -> FaultAt {
+    if stands(text, at, b'"') {
+        return fault_of(quoted_at(text, at));
+    }
+    let c = signed_at(text, at);
+    let end = c.end;
+    fault_of(ended(text, c, end))
+}
+
+/// The fault is among those that are left from a position on, in the same sense, if all fields there are faults.
+fn among(x: Fault, text: &[u8], more: bool, start: usize) -> bool {
+    let mut at = start;
+    let mut left = more;
+    while left {
+        let y = fault_of(field_at(text, at));
+        if !y.good {
+            return false;
+        }
+        if x == y.fault {
+            return true;
+        }
+        at = y.next;
+        left = y.more;
+    }
+    false
+}
+
+/// A near fault is in the word of its sense.
+fn named(w: Words, x: Fault) -> bool {
+    if x.absent {
+        return (w.absent >> x.place) % 2 == 1;
+    }
+    (w.present >> x.place) % 2 == 1
+}
+
+/// The fault was named before, or, if it is far, is named behind a position.
+fn named_twice(w: Words, x: Fault, text: &[u8], more: bool, at: usize) -> bool {
+    if x.place < 64 {
+        return named(w, x);
+    }
+    among(x, text, more, at)
+}
+
+/// The words with one fault more.
+fn with_fault(w: Words, x: Fault) -> Words {
+    if x.place >= 64 {
+        return Words { far: true, ..w };
+    }
+    let bit = 1 << x.place;
+    if x.absent {
+        return Words {
+            absent: w.absent | bit,
+            ..w
+        };
+    }
+    Words {
+        present: w.present | bit,
+        ..w
+    }
+}
+
+/// The fields from a position on as the faults of a way, none of them twice in the same sense.
+fn names(text: &[u8], start: usize) -> NamesSaid {
+    let mut words = Words {
+        far: false,
+        present: 0,
+        absent: 0,
+    };
+    let none = NamesSaid {
+        good: false,
+        words,
+        next: start,
+    };
+    let mut at = start;
+    let mut more = true;
+    while more {
+        let f = fault_at(text, at);
+        if !f.good {
+            return none;
+        }
+        at = f.next;
+        more = f.more;
+        if named_twice(words, f.fault, text, more, at) {
+            return none;
+        }
+        words = with_fault(words, f.fault);
+    }
+    NamesSaid {
+        good: true,
+        words,
+        next: at + 1,
+    }
+}
+
+/// The field `0` alone: the empty way.
+fn nothing(text: &[u8], at: usize) -> NamesSaid {
+    let f = field_at(text, at);
+    let mut said = NamesSaid {
+        good: false,
+        words: Words {
+            far: false,
+            present: 0,
+            absent: 0,
+        },
+        next: f.next,
+    };
+    if f.more {
+        return said;
+    }
+    if f.absent {
+        return said;
+    }
+    if f.value != 0 {
+        return said;
+    }
+    if f.good {
+        said.good = true;
+        said.next = f.next + 1;
+    }
+    said
+}
+
+/// The fields behind a cue number: faults, or `0` alone for the empty way.
+fn way(text: &[u8], at: usize) -> NamesSaid {
+    let said = names(text, at);
+    if said.good {
+        return said;
+    }
+    nothing(text, at)
+}
+
+/// The record of a way in the line at a position: a cue number, then the fields of the way, or none for a cue without ways.
+pub fn row(text: &[u8], at: usize) -> RowSaid {
+    let c = field_at(text, at);
+    let mut said = RowSaid {
+        good: false,
+        cue: 0,
+        way: false,
+        far: false,
+        present: 0,
+        absent: 0,
+        next: c.next,
+    };
+    if !c.good {
+        return said;
+    }
+    if c.absent {
+        return said;
+    }
+    if c.value > 65535 {
+        return said;
+    }
+    said.cue = c.value as u16;
+    if !c.more {
+        said.good = true;
+        said.next = c.next + 1;
+        return said;
+    }
+    let n = way(text, c.next);
+    RowSaid {
+        good: n.good,
+        cue: c.value as u16,
+        way: true,
+        far: n.words.far,
+        present: n.words.present,
+        absent: n.words.absent,
+        next: n.next,
+    }
+}
