@@ -264,6 +264,7 @@ pub misread-none : (t : List ℕ) → (misread t ≡ 0) ↔ ((j : ℕ) → j < d
 unfolding misread
 misread-none t = records-none (recordsIn t)
 
+-- And so is the record that is told.
 pub misread-first : (t : List ℕ) (k : ℕ) → (misread t ≡ suc k) ↔ FirstAmiss (recordsIn t) k
 unfolding misread
 misread-first t = records-first (recordsIn t)

@@ -501,6 +501,7 @@ pub record ReadsRfc (t : List ℕ) (rs : List (List (List ℕ))) : Type 0 where
   -- Else the record that is told is the first of them that is not fine.
   pub told : (k : ℕ) → (misread t ≡ suc k) ↔ FirstAmiss rs k
 
+-- EVERY TEXT OF THE GRAMMAR is read so.
 pub reads-rfc : (t : List ℕ) (rs : List (List (List ℕ))) → Rfc t rs → ReadsRfc t rs
 unfolding sheetIn
 reads-rfc t rs h =

@@ -103,6 +103,7 @@ pub rendered-cons : (r : List (List ℕ)) (rs : List (List (List ℕ))) → leng
 unfolding rendered
 rendered-cons r rs = omega (arith, length-append (recordText r) (13 ∷ 10 ∷ rendered rs))
 
+-- Records behind others: the bytes add up.
 rendered-both : (rs ss : List (List (List ℕ))) → length (rendered (rs ++ ss)) ≡ length (rendered rs) + length (rendered ss)
 unfolding rendered
 rendered-both [] ss = omega arith
@@ -156,6 +157,7 @@ run-length a b h k =
       decimal-length b 2 (omega arith),
     )
 
+-- A comma and at most ten digits for each weight.
 weights-length : (ws : List ℕ) → ((w : ℕ) → In w ws → w ≤ S) → length (furtherFields (map decimal ws)) ≤ 11 * length ws
 unfolding furtherFields
 weights-length [] h = omega arith
@@ -195,10 +197,11 @@ csv-length s w =
 abbrev every : ℕ
 every = 18446744073709551615
 
--- A cue of 128 ways that each name 64 faults absent, and k such cues, numbered from c on.
+-- A cue of 128 ways that each name 64 faults absent.
 widest : ℕ → Cue
 widest c = record { number = c; present = replicate 128 0; absent = replicate 128 every }
 
+-- k such cues, numbered from c on.
 widestFrom : ℕ → ℕ → List Cue
 widestFrom c zero = []
 widestFrom c (suc k) = widest c ∷ widestFrom (suc c) k
@@ -372,5 +375,6 @@ wordiest-fields =
 pub csv-widest : (s : Sheet) × Within s × (length (csvOf s) ≡ 781021) × (fieldsOf (sheetRecords s) ≡ 199748)
 csv-widest = (wordiest, wordiest-within, wordiest-length, wordiest-fields)
 
+-- So the bound on an exported text is attained.
 pub csv-attained : (s : Sheet) × Within s × (length (csvOf s) ≡ 781021)
 csv-attained = (csv-widest .0, csv-widest .1, csv-widest .2)

@@ -24,6 +24,7 @@ textLists t = listsOf (sheetIn t)
 unfoldable pub importRefusals : List ℕ → ℕ → List Refusal
 importRefusals t n = refusal 23 (ltb 0 (misread t)) ∷ writeRefusals (textLists t) n
 
+-- The first of them that applies.
 unfoldable pub importNumber : List ℕ → ℕ → ℕ
 importNumber t n = first (importRefusals t n)
 
@@ -32,10 +33,12 @@ unfoldable pub takenOver : WriteAnswer → ImportAnswer
 takenOver (WriteAnswer.Written n) = ImportAnswer.Written n
 takenOver (WriteAnswer.Refused n) = ImportAnswer.Refused n
 
+-- By the record that is misread: the writer's answer if there is none.
 unfoldable pub importAnswerBy : ℕ → WriteAnswer → ImportAnswer
 importAnswerBy zero a = takenOver a
 importAnswerBy (suc k) a = ImportAnswer.Misread (suc k)
 
+-- The answer of an import.
 unfoldable pub importAnswer : List ℕ → ℕ → ImportAnswer
 importAnswer t n = importAnswerBy (misread t) (writeAnswer (textLists t) n)
 
@@ -60,6 +63,7 @@ imported t space = writtenBy (importNumber t (length space)) (encode (sheetIn t)
 unfoldable pub exportRefusals : List ℕ → ℕ → List Refusal
 exportRefusals bs n = readRefusals bs ++ refusal 22 (ltb n (length (csvOf (decode bs)))) ∷ []
 
+-- The first of them that applies.
 unfoldable pub exportNumber : List ℕ → ℕ → ℕ
 exportNumber bs n = first (exportRefusals bs n)
 

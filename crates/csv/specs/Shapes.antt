@@ -17,6 +17,7 @@ use Rattle.csv.specs.Cut.{recordsIn}
 
 -- ---- run and weights
 
+-- All fields are numbers.
 unfoldable pub allNumerals : List (List ℕ) → Bool
 allNumerals [] = true
 allNumerals (f ∷ fs) = isNumeral f && allNumerals fs
@@ -26,6 +27,7 @@ unfoldable pub isRun : List (List ℕ) → Bool
 isRun [] = false
 isRun (w ∷ fs) = sameNumbers w (bytes "run") && (eqb (length fs) 2 && allNumerals fs)
 
+-- The limits that it says.
 unfoldable pub limitsSaid : List (List ℕ) → Limits
 limitsSaid r = record { allowance = decimalValue (getD r 1 []); budget = decimalValue (getD r 2 []) }
 
@@ -34,6 +36,7 @@ unfoldable pub isWeights : List (List ℕ) → Bool
 isWeights [] = false
 isWeights (w ∷ fs) = sameNumbers w (bytes "weights") && allNumerals fs
 
+-- The weights that it says.
 unfoldable pub weightsSaid : List (List ℕ) → List ℕ
 weightsSaid r = map decimalValue (drop 1 r)
 
@@ -52,9 +55,11 @@ unsigned f = elim (signed f) as (λ x. List ℕ) [ true ↦ drop 1 f | false ↦
 unfoldable pub isFault : List ℕ → Bool
 isFault f = isNumeral (unsigned f) && ltb 0 (decimalValue (unsigned f))
 
+-- The fault that such a field names.
 unfoldable pub faultIn : List ℕ → Fault
 faultIn f = record { place = decimalValue (unsigned f) - 1; absent = signed f }
 
+-- All fields are faults.
 unfoldable pub allFaults : List (List ℕ) → Bool
 allFaults [] = true
 allFaults (f ∷ fs) = isFault f && allFaults fs
@@ -96,6 +101,7 @@ unfoldable pub isRow : List (List ℕ) → Bool
 isRow [] = false
 isRow (c ∷ fs) = (isNumeral c && ltb (decimalValue c) 65536) && isNames fs
 
+-- The faults that they name: none for `0` alone.
 unfoldable pub faultsNamed : List (List ℕ) → List Fault
 faultsNamed fs = elim (isEmptyWay fs) as (λ x. List Fault) [ true ↦ [] | false ↦ map faultIn fs ]
 
@@ -123,10 +129,12 @@ misreadRows k before [] = 0
 misreadRows k before (r ∷ rs) =
     elim (isRow r && follows before (rowIn r)) as (λ x. ℕ) [ true ↦ misreadRows (suc k) (some (rowIn r)) rs | false ↦ k ]
 
+-- From the second record on, which must be that of the weights.
 unfoldable pub misreadWeights : List (List (List ℕ)) → ℕ
 misreadWeights [] = 2
 misreadWeights (w ∷ rs) = elim (isWeights w) as (λ x. ℕ) [ true ↦ misreadRows 3 none rs | false ↦ 2 ]
 
+-- From the first record on, which must be that of the run.
 unfoldable pub misreadRecords : List (List (List ℕ)) → ℕ
 misreadRecords [] = 1
 misreadRecords (r ∷ rs) = elim (isRun r) as (λ x. ℕ) [ true ↦ misreadWeights rs | false ↦ 1 ]

@@ -38,6 +38,7 @@ orZero (f ∷ fs) = f ∷ fs
 unfoldable pub wayRecord : ℕ → ℕ → ℕ → ℕ → List (List ℕ)
 wayRecord n c p q = decimal c ∷ orZero (map faultText (faultsFrom 0 n p q))
 
+-- The ways of a cue, one after the other.
 unfoldable pub wayRecords : ℕ → ℕ → List ℕ → List ℕ → List (List (List ℕ))
 wayRecords n c [] qs = []
 wayRecords n c (p ∷ ps) [] = []
@@ -48,17 +49,20 @@ unfoldable pub orAlone : ℕ → List (List (List ℕ)) → List (List (List ℕ
 orAlone c [] = (decimal c ∷ []) ∷ []
 orAlone c (r ∷ rs) = r ∷ rs
 
+-- The records of all cues, one cue after the other.
 unfoldable pub cueRecords : ℕ → List Cue → List (List (List ℕ))
 cueRecords n [] = []
 cueRecords n (c ∷ cs) = orAlone (c .number) (wayRecords n (c .number) (c .present) (c .absent)) ++ cueRecords n cs
 
--- The limits, the weights, and then the cues.
+-- The limits.
 unfoldable pub runRecord : Limits → List (List ℕ)
 runRecord m = bytes "run" ∷ decimal (m .allowance) ∷ decimal (m .budget) ∷ []
 
+-- The weights.
 unfoldable pub weightsRecord : List ℕ → List (List ℕ)
 weightsRecord ws = bytes "weights" ∷ map decimal ws
 
+-- The limits, the weights, and then the cues.
 unfoldable pub sheetRecords : Sheet → List (List (List ℕ))
 sheetRecords s = runRecord (s .limits) ∷ weightsRecord (s .weights) ∷ cueRecords (length (s .weights)) (s .cues)
 

@@ -31,6 +31,7 @@ first-cue : (c : Cue) (cs : List Cue) → cuesText (c ∷ cs) ≡ cueText (c .nu
 unfolding cuesText cueText cueRecords
 first-cue c cs = rendered-both (orAlone (c .number) (wayRecords 64 (c .number) (c .present) (c .absent))) (cueRecords 64 cs)
 
+-- What stands for a cue where there is none.
 pub no-cue : Cue
 no-cue = record { number = 0; present = []; absent = [] }
 

@@ -22,6 +22,7 @@ use Rattle.csv.proofs.Imports.{export-replies}
 
 -- ---- the number
 
+-- 22, which an export tries last.
 abbrev of-space : List ℕ → ℕ → Refusal
 of-space bs n = refusal 22 (ltb n (length (csvOf (decode bs))))
 
@@ -46,6 +47,7 @@ space-enough bs n h l = sym (sheet-kept bs n h ∙ first-later (of-space bs n) [
 
 -- ---- what is promised
 
+-- An answer and a space by the definitions are what is promised.
 promised : (bs before after : List ℕ) (r : WriteAnswer) → r ≡ exportAnswer bs (length before) → after ≡ exported bs before → Exporting bs before after r
 unfolding exportAnswer
 promised bs before after r e s =
@@ -76,11 +78,13 @@ module _ (bs space : List ℕ) (kept : exportNumber bs (length space) ≡ 0) whe
       let front : new ≡ out ++ drop (length out) space = w .holds ∙ over-front space out in
       promised bs space new (WriteAnswer.Written end) (rw kept (ap WriteAnswer.Written counted)) (rw kept front)
 
+-- Any number but 0 is a refusal,
 refused-answer : (k n : ℕ) → (k ≡ 0 → ⊥) → writeAnswerBy k n ≡ WriteAnswer.Refused k
 unfolding writeAnswerBy
 refused-answer zero n h = absurd (h refl)
 refused-answer (suc k) n h = refl
 
+-- and leaves the space as it was.
 refused-space : (k : ℕ) (out space : List ℕ) → (k ≡ 0 → ⊥) → writtenBy k out space ≡ space
 unfolding writtenBy
 refused-space zero out space h = absurd (h refl)

@@ -26,6 +26,7 @@ use Rattle.csv_export.proofs.Records.{next-row, next-weight}
 
 -- ---- the digits of a number
 
+-- There are as many as the bytes that hold them have behind their start.
 pub digits-length : (n : ℕ) (d : Digits) → digitsIn d ≡ decimal n → length (d .bytes) ≡ 20 → length (decimal n) ≡ 20 - d .from
 digits-length n d e l = omega (arith, ap length e, length-drop (d .from) (d .bytes))
 
@@ -44,19 +45,22 @@ bit-length w k f e = split (odd w) refl
         let none : w % 2 ≡ 0 = omega arith in
         rw none (omega (arith, ap length (named-none false f refl)))
 
--- The first nine faults have one digit, the others two.
+-- The first nine faults have one digit.
 one-digit : (i : ℕ) → i < 9 → length (decimal (i + 1)) ≡ 1
 one-digit i h = ap length (decimal-one (i + 1) (omega arith))
 
+-- From the tenth on, two.
 two-digits : (i : ℕ) → 9 ≤ i → i < 99 → length (decimal (i + 1)) ≡ 2
 two-digits i h l = ap length (decimal-two (i + 1) (omega arith) (omega arith))
 
+-- A fault named present: a comma and its digits, if its bit is set.
 present-length : (w i k : ℕ) → length (decimal (i + 1)) ≡ k → length (namedText (odd w) (record { place = i; absent = false })) ≡ w % 2 * suc k
 present-length w i k e = bit-length w (suc k) f (ap length (named-present f refl) ∙ ap suc e)
   where
     f : Fault
     f = record { place = i; absent = false }
 
+-- Named absent: a minus more.
 absent-length : (w i k : ℕ) → length (decimal (i + 1)) ≡ k → length (namedText (odd w) (record { place = i; absent = true })) ≡ w % 2 * suc (suc k)
 absent-length w i k e = bit-length w (suc (suc k)) f (ap length (named-absent f refl) ∙ ap (λ (m : ℕ). suc (suc m)) e)
   where
@@ -129,6 +133,7 @@ weights-left ws i h =
 
 -- ---- the records in front of the cues
 
+-- Their words and ends take 14 bytes; the rest are their numbers, a comma before each.
 pub front-length : (m : Limits) (ws : List ℕ)
     → length (frontText m ws)
     ≡ 14 + (length (44 ∷ decimal (m .allowance)) + length (44 ∷ decimal (m .budget))) + length (furtherFields (map decimal ws))

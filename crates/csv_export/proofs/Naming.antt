@@ -20,10 +20,11 @@ use Rattle.csv.specs.declared.Fault.{Fault}
 use Rattle.csv.specs.Texts.{faultText, mark, faultsFrom, orZero, furtherFields}
 use Rattle.csv_export.specs.Parts.{namedText, placeText, faultsText}
 
--- The fault at place i, in each sense.
+-- The fault at place i, named present.
 abbrev pub present-at : ℕ → Fault
 present-at i = record { place = i; absent = false }
 
+-- Named absent.
 abbrev pub absent-at : ℕ → Fault
 absent-at i = record { place = i; absent = true }
 
@@ -77,6 +78,7 @@ named-zero i (suc n) p q hp hq e =
 abbrev pub tested : ℕ → ℕ → Bool
 tested i w = eqb (bitAnd (w / 2 ^ i) 1) 1
 
+-- It is the bit of the rules.
 tested-bit : (i w : ℕ) → bit i w ≡ tested i w
 tested-bit i w = bit-shift i w ∙ sym (ap (λ (x : ℕ). eqb x 1) (and-mask (w / 2 ^ i) 1))
 

@@ -46,11 +46,12 @@ pub named-none : (b : Bool) (f : Fault) → b ≡ false → namedText b f ≡ []
 unfolding namedText mark furtherFields
 named-none b f h = rw h refl
 
--- A fault that is named: absent, or present.
+-- A fault that is named absent.
 pub named-absent : (f : Fault) → f .absent ≡ true → namedText true f ≡ (44 ∷ 45 ∷ []) ++ decimal (f .place + 1)
 unfolding namedText mark furtherFields faultText
 named-absent f k = ap (λ (t : List ℕ). 44 ∷ t) (append-nil (faultText f) ∙ rw (k, faultText) (rw add-one))
 
+-- Named present.
 pub named-present : (f : Fault) → f .absent ≡ false → namedText true f ≡ (44 ∷ []) ++ decimal (f .place + 1)
 unfolding namedText mark furtherFields faultText
 named-present f k = ap (λ (t : List ℕ). 44 ∷ t) (append-nil (faultText f) ∙ rw (k, faultText) (rw add-one))

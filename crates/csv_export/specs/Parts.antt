@@ -28,6 +28,7 @@ faultsText p q = furtherFields (orZero (map faultText (faultsFrom 0 64 p q)))
 unfoldable pub wayText : List ℕ → ℕ → ℕ → List ℕ
 wayText d p q = d ++ faultsText p q ++ 13 ∷ 10 ∷ []
 
+-- Those of the ways of a cue, one behind the other.
 unfoldable pub waysText : List ℕ → List ℕ → List ℕ → List ℕ
 waysText d [] qs = []
 waysText d (p ∷ ps) [] = []
@@ -37,13 +38,15 @@ waysText d (p ∷ ps) (q ∷ qs) = wayText d p q ++ waysText d ps qs
 unfoldable pub cueText : ℕ → List ℕ → List ℕ → List ℕ
 cueText c ps qs = rendered (orAlone c (wayRecords 64 c ps qs))
 
--- The same of an entry, whose words stand in the bytes of a sheet.
+-- The present words of an entry, which stand in the bytes of a sheet.
 abbrev pub presentAt : List ℕ → Entry → List ℕ
 presentAt bs e = column 8 16 (e .start) (e .ways) bs
 
+-- Its absent words.
 abbrev pub absentAt : List ℕ → Entry → List ℕ
 absentAt bs e = column 8 16 (e .start + 8) (e .ways) bs
 
+-- Its records.
 abbrev pub entryText : List ℕ → Entry → List ℕ
 entryText bs e = cueText (e .cue) (presentAt bs e) (absentAt bs e)
 

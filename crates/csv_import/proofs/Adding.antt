@@ -108,13 +108,14 @@ follows-told (some d) c s r p q =
     let same : eqb (s .cue) (r .cue) ≡ eqb (d .number) (c .number) = ap₂ eqb (sym (p .1)) (sym (q .cue)) in
     rw (more, same, some-way (length (d .present)) (s .way) (p .2), some-way (length (c .present)) (r .way) (q .ways))
 
--- What it says that a record begins a cue, and that it does not.
+-- A record that begins a cue is not of the number of a record before it.
 begins-true : (s : Sums) (r : RowSaid) → beginsCue s r ≡ true → 0 < s .cues → s .cue ≡ r .cue → ⊥
 unfolding beginsCue
 begins-true s r e h same =
     let both : beginsCue s r ≡ false = or-neither _ _ (ne-eqb (s .cues) 0 (λ z. omega arith)) (ap not (eq-eqb (s .cue) (r .cue) same)) in
     true≢false (sym e ∙ both)
 
+-- One that begins no cue has a record before it, of the same number.
 pub begins-false : (s : Sums) (r : RowSaid) → beginsCue s r ≡ false → (0 < s .cues) × (s .cue ≡ r .cue)
 unfolding beginsCue
 begins-false s r e =

@@ -122,6 +122,7 @@ front-outside ws ns ks h =
 
 -- ---- a text that is read, with its lists in room for the largest sheet
 
+-- No record of it is misread, and this is what the lists hold.
 pub record Listed (t ws ns ks ps qs : List ℕ) (r : TextRead) : Type 0 where
   pub told : ToldText t r ws ns ks ps qs
   pub read : r .misread ≡ 0

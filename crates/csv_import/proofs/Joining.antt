@@ -132,23 +132,25 @@ module _ (rs front : List Cue) (d c : Cue) (whole : grouped rs ≡ front ++ d �
 
 -- ---- the lists of cues with one more at the end
 
--- A number and a count more.
+-- A number more.
 pub numbers-more : (cs : List Cue) (c : Cue) → numbersOf (cs ++ c ∷ []) ≡ numbersOf cs ++ c .number ∷ []
 unfolding numbersOf
 numbers-more [] c = refl
 numbers-more (d ∷ cs) c = ap (λ (l : List ℕ). d .number ∷ l) (numbers-more cs c)
 
+-- A count more.
 pub counts-more : (cs : List Cue) (c : Cue) → countsOf (cs ++ c ∷ []) ≡ countsOf cs ++ length (c .present) ∷ []
 unfolding countsOf
 counts-more [] c = refl
 counts-more (d ∷ cs) c = ap (λ (l : List ℕ). length (d .present) ∷ l) (counts-more cs c)
 
--- Its words behind the others.
+-- Its present words behind the others.
 present-more : (cs : List Cue) (c : Cue) → presentOf (cs ++ c ∷ []) ≡ presentOf cs ++ c .present
 unfolding presentOf
 present-more [] c = append-nil (c .present)
 present-more (d ∷ cs) c = ap (λ (l : List ℕ). d .present ++ l) (present-more cs c) ∙ sym (append-assoc (d .present) (presentOf cs) (c .present))
 
+-- Its absent words behind the others.
 absent-more : (cs : List Cue) (c : Cue) → absentOf (cs ++ c ∷ []) ≡ absentOf cs ++ c .absent
 unfolding absentOf
 absent-more [] c = append-nil (c .absent)
@@ -166,6 +168,7 @@ present-attach c (d ∷ ds) = split (eqb (c .number) (d .number)) refl
     split true e = rw (e, attach) (append-assoc (c .present) (d .present) (presentOf ds))
     split false e = rw (e, attach)
 
+-- So with absent words.
 absent-attach : (c : Cue) (cs : List Cue) → absentOf (attach c cs) ≡ c .absent ++ absentOf cs
 unfolding attach absentOf
 absent-attach c [] = refl
@@ -175,12 +178,13 @@ absent-attach c (d ∷ ds) = split (eqb (c .number) (d .number)) refl
     split true e = rw (e, attach) (append-assoc (c .absent) (d .absent) (absentOf ds))
     split false e = rw (e, attach)
 
--- All cues: the words as they stand in the records.
+-- All cues: the present words as they stand in the records.
 present-grouped : (cs : List Cue) → presentOf (grouped cs) ≡ presentOf cs
 unfolding grouped presentOf
 present-grouped [] = refl
 present-grouped (c ∷ cs) = present-attach c (grouped cs) ∙ ap (λ (l : List ℕ). c .present ++ l) (present-grouped cs)
 
+-- The absent words likewise.
 absent-grouped : (cs : List Cue) → absentOf (grouped cs) ≡ absentOf cs
 unfolding grouped absentOf
 absent-grouped [] = refl

@@ -13,18 +13,20 @@ use Rattle.csv_rows.specs.declared.RowSaid.{RowSaid}
 use Rattle.csv_import.specs.declared.sums.Sums.{Sums}
 use Rattle.csv_import.specs.Gather.{beginsCue, mayFollow, countBefore, withRow, setIf}
 
--- One more, or none.
+-- One more.
 pub more-one : (n : ℕ) (b : Bool) → b ≡ true → n + 1 ≡ n + indicator b
 more-one n b e = rw e
 
+-- None more.
 pub more-none : (n : ℕ) (b : Bool) → b ≡ false → n ≡ n + indicator b
 more-none n b e = rw e (sym (add-zero n))
 
--- A place that is stored at, or not.
+-- A place that is stored at.
 pub set-on : (b : Bool) (xs : List ℕ) (i v : ℕ) → b ≡ true → set xs i v ≡ setIf b xs i v
 unfolding setIf
 set-on b xs i v e = rw e
 
+-- A place that is not.
 pub set-off : (b : Bool) (xs : List ℕ) (i v : ℕ) → b ≡ false → xs ≡ setIf b xs i v
 unfolding setIf
 set-off b xs i v e = rw e

@@ -25,10 +25,12 @@ or-assoc : (x y z : Bool) → x || (y || z) ≡ (x || y) || z
 or-assoc true y z = refl
 or-assoc false y z = refl
 
+-- Beside false, the other decides;
 pub or-false : (x : Bool) → x || false ≡ x
 or-false true = refl
 or-false false = refl
 
+-- beside true, it does not matter.
 or-true : (x : Bool) → x || true ≡ true
 or-true true = refl
 or-true false = refl

@@ -75,6 +75,7 @@ nought-more b s = sym (nought-told (48 ∷ b ∷ s) (omega arith) refl .good) �
 
 -- ---- the digits read so far
 
+-- From `at` up to i they are a number of at most ten digits, n.
 pub record Reading (t : List ℕ) (at i n : ℕ) : Type 0 where
   pub from : at ≤ i
   pub inside : i ≤ length t
@@ -167,6 +168,7 @@ unfolding signed
 digits-bare [] b s h k = ne-eqb b 45 (k refl)
 digits-bare (c ∷ p) b s h k = ne-eqb c 45 (λ e. omega (arith, h .0))
 
+-- Digits have no minus in front.
 digits-unsigned : (p : List ℕ) → AllDigits p → signed p ≡ false
 unfolding signed
 digits-unsigned [] h = refl

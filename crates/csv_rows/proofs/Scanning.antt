@@ -143,11 +143,12 @@ pub is-bare : (f : List ℕ) → quoted f ≡ false → unquoted f ≡ f
 unfolding unquoted
 is-bare f h = rw (h, unquoted)
 
--- A test of three that fails in the middle, or at the end.
+-- A test of three that fails in the middle.
 middle-off : (x y z : Bool) → y ≡ false → x && (y && z) ≡ false
 middle-off true y z e = rw e
 middle-off false y z e = refl
 
+-- Or at the end.
 last-off : (x y z : Bool) → z ≡ false → x && (y && z) ≡ false
 last-off true true z e = e
 last-off true false z e = refl
@@ -200,11 +201,12 @@ pieces-span (b ∷ l) = split (eqb b 44) refl (pieces-span l)
     split true e rest = comma b l e
     split false e rest = bare b l e rest
 
--- From the front, and from a later position.
+-- From the front.
 start : (l : List ℕ) → rawFieldsFrom l 0 ≡ take (fieldSpan l) l ∷ rawFieldsFrom l (suc (0 + fieldSpan l))
 unfolding rawFieldsFrom
 start l = rw zero-add (pieces-span l)
 
+-- From a later position.
 later : (b : ℕ) (l : List ℕ) (at : ℕ) → rawFieldsFrom l at ≡ take (fieldSpan (drop at l)) (drop at l) ∷ rawFieldsFrom l (suc (at + fieldSpan (drop at l)))
     → rawFieldsFrom (b ∷ l) (suc at) ≡ take (fieldSpan (drop at l)) (drop at l) ∷ rawFieldsFrom (b ∷ l) (suc (suc at + fieldSpan (drop at l)))
 unfolding rawFieldsFrom
@@ -238,10 +240,11 @@ pub next-above : (l : List ℕ) (at : ℕ) → at < nextField l at
 unfolding nextField
 next-above l at = omega arith
 
--- A test of a walk that asks for any.
+-- A walk that asks for any ends where the test at the front holds.
 pub any-found : {t R : Bool} (rest : Bool) → t ≡ true → t || rest ≡ R → true ≡ R
 any-found rest h e = rw h at e
 
+-- It goes on where the test at the front fails.
 pub any-passed : {t rest R : Bool} → t ≡ false → t || rest ≡ R → rest ≡ R
 any-passed h e = rw h at e
 

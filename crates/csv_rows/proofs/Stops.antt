@@ -26,9 +26,11 @@ use Rattle.csv_rows.proofs.Reading.{stands-in, stands-out, stands-yes, 
 
 -- ---- the raw field at a position, and those behind it
 
+-- The field that starts there, quotes included.
 pub raw : List ℕ → ℕ → List ℕ
 raw t at = getD (rawFields (lineAt t at)) 0 []
 
+-- Those behind it in the line.
 pub later : List ℕ → ℕ → List (List ℕ)
 later t at = drop 1 (rawFields (lineAt t at))
 
@@ -44,6 +46,7 @@ raw-some (b ∷ l) = split (eqb b 44) refl (rawFields l) refl
     split false e [] f = rw (e, rawFields, f)
     split false e (q ∷ qs) f = rw (e, rawFields, f)
 
+-- They are the fields of the line from there on.
 raw-both : (t : List ℕ) (at : ℕ) → rawFields (lineAt t at) ≡ raw t at ∷ later t at
 unfolding raw later
 raw-both t at = raw-some (lineAt t at)
@@ -66,9 +69,11 @@ record Goes (t : List ℕ) (at e : ℕ) (p : List ℕ) : Type 0 where
   rest : later t at ≡ later t e
   line : nextLine t at ≡ nextLine t e
 
+-- Over no byte.
 goes-none : (t : List ℕ) (at : ℕ) → Goes t at at []
 goes-none t at = record { field = refl; rest = refl; line = refl }
 
+-- Over some bytes and then others.
 goes-on : {t : List ℕ} {i j k : ℕ} {p q : List ℕ} → Goes t i j p → Goes t j k q → Goes t i k (p ++ q)
 goes-on {t} {i} {j} {k} {p} {q} a b =
     record {
@@ -135,6 +140,7 @@ line-none t e s = split (decLt e (length t))
     split (yes h) = line-stop t e h (ends-in t e h ∙ s)
     split (no h) = line-over t e (omega arith)
 
+-- At the end of a record no field is left, and the next line starts behind the CR LF.
 raw-end : (t : List ℕ) (e : ℕ) → endsAt t e ≡ true → (raw t e ≡ []) × (later t e ≡ []) × (nextLine t e ≡ e + 2)
 unfolding raw later nextLine rawFields lineAt
 raw-end t e s = let z = line-none t e s in (rw z, rw z, omega (arith, z))
@@ -364,11 +370,12 @@ module _ (t : List ℕ) (at from e : ℕ) (c : SignedAt) (r : SignedRead t from 
         let w = raw-on t e k (sym n) in
         field-none t at (c .value) (e + 1) (c .absent) false (r .small) (s .broken (w .0) _ (w .1 .field))
 
--- What follows a number that was read.
+-- A comma follows a number that was read: a further field comes.
 pub ended-comma : (t : List ℕ) (c : SignedAt) (e : ℕ) → standsAt t e 44 ≡ true
     → EndedAt t c e (record { good = c .good; absent = c .absent; value = c .value; more = true; next = e + 1 })
 ended-comma t c e k = record { comma = λ p. rw add-one; last = λ p. absurd (false≢true (sym p ∙ k)) }
 
+-- No comma follows: the record must end there.
 pub ended-last : (t : List ℕ) (c : SignedAt) (e : ℕ) (b : Bool) → standsAt t e 44 ≡ false → b ≡ (c .good && endsAt t e)
     → EndedAt t c e (record { good = b; absent = c .absent; value = c .value; more = false; next = e + 1 })
 ended-last t c e b k g = record { comma = λ p. absurd (false≢true (sym k ∙ p)); last = λ p. rw (g, add-one) }

@@ -31,6 +31,7 @@ numeral-decimal f h = same-equal (decimal (decimalValue f)) f (and-right (leb (l
 not-numeral : (f : List ℕ) → ((n : ℕ) → decimal n ≡ f → ⊥) → isNumeral f ≡ false
 not-numeral f h = is-false (isNumeral f) (λ e. h (decimalValue f) (numeral-decimal f e))
 
+-- What such a field tells.
 told-bad : (f : List ℕ) → isNumeral f ≡ false → ToldNumeral f (record { good = false; value = 0 })
 told-bad f h = record { good = sym h; value = λ e. absurd (never e); small = omega arith }
   where
@@ -39,23 +40,28 @@ told-bad f h = record { good = sym h; value = λ e. absurd (never e); small = om
 
 -- ---- what ends the reading
 
+-- An empty field is no number;
 pub none-told : (f : List ℕ) → length f ≡ 0 → ToldNumeral f (record { good = false; value = 0 })
 unfolding isNumeral sameNumbers decimal digits decimalValue valueAfter
 none-told [] h = told-bad [] refl
 none-told (b ∷ f) h = absurd (omega arith)
 
+-- nor is one of more than ten bytes,
 pub long-told : (f : List ℕ) → 10 < length f → ToldNumeral f (record { good = false; value = 0 })
 unfolding isNumeral
 long-told f h = told-bad f (rw (lt-leb (length f) 10 h))
 
+-- A byte among digits is one.
 digit-at : (bs : List ℕ) (i : ℕ) → AllDigits bs → i < length bs → (48 ≤ getD bs i 0) × (getD bs i 0 ≤ 57)
 digit-at [] i h l = absurd (omega arith)
 digit-at (b ∷ bs) zero h l = (h .0, h .1)
 digit-at (b ∷ bs) (suc i) h l = digit-at bs i (h .2) (omega arith)
 
+-- nor one with a byte that is no digit.
 pub letter-told : (f : List ℕ) (i : ℕ) → i < length f → (48 ≤ getD f i 0 → getD f i 0 ≤ 57 → ⊥) → ToldNumeral f (record { good = false; value = 0 })
 letter-told f i l h = told-bad f (not-numeral f (λ n e. let d = digit-at f i (subst AllDigits e (decimal-digits n)) l in h (d .0) (d .1)))
 
+-- One that begins with 0 is `0` or no number.
 pub nought-told : (f : List ℕ) → 0 < length f → getD f 0 0 ≡ 48 → ToldNumeral f (record { good = eqb (length f) 1; value = 0 })
 unfolding isNumeral sameNumbers decimal digits decimalValue valueAfter
 nought-told [] h e = absurd (omega arith)
@@ -69,6 +75,7 @@ nought-told (b ∷ c ∷ f) h e =
 
 -- ---- the digits read so far
 
+-- The first i bytes of the field are the number n in decimal.
 pub record Read (f : List ℕ) (i n : ℕ) : Type 0 where
   pub within : i ≤ length f
   pub small : n < 10 ^ i
@@ -76,6 +83,7 @@ pub record Read (f : List ℕ) (i n : ℕ) : Type 0 where
   pub some : 0 < i → 0 < n
   pub front : 0 < i → decimal n ≡ take i f
 
+-- At first there are none.
 pub read-none : (f : List ℕ) → Read f 0 0
 read-none f = record { within = omega arith; small = omega arith; nothing = λ e. refl; some = λ h. absurd (omega arith); front = λ h. absurd (omega arith) }
 
@@ -126,6 +134,7 @@ module _ (f : List ℕ) (i n : ℕ) (r : Read f i n) (more : i < length f) (firs
         front = λ h. front-more;
       })
 
+-- All of them: the field is that number.
 pub read-all : (f : List ℕ) (i n : ℕ) → Read f i n → length f ≤ i → 0 < length f → length f ≤ 10 → ToldNumeral f (record { good = true; value = n })
 read-all f i n r end h l =
     let e : decimal n ≡ f = r .front (omega arith) ∙ take-all i f end in
@@ -134,6 +143,7 @@ read-all f i n r end h l =
     let small : n < 10 ^ 10 = omega (arith, r .small) in
     record { good = sym (ap isNumeral (sym e) ∙ decimal-numeral n small); value = λ p. sym (ap decimalValue (sym e) ∙ decimal-value n); small = small }
 
+-- It stays below ten digits on the way.
 pub read-small : (f : List ℕ) (i n : ℕ) → Read f i n → i < length f → length f ≤ 10 → n < 10 ^ 10
 read-small f i n r h l =
     let le : i ≤ 10 = omega arith in
