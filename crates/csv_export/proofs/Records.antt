@@ -15,7 +15,7 @@ use Rattle.csv.specs.Texts.{wayRecord, wayRecords, orAlone, furtherFields, reco
 use Rattle.csv_export.specs.Parts.{faultsText, wayText, waysText, cueText}
 
 -- What is left at i: the way at i comes first.
-pub next-way : (d ps qs : List ℕ) (i : ℕ) → i < length ps → length qs ≡ length ps
+next-way : (d ps qs : List ℕ) (i : ℕ) → i < length ps → length qs ≡ length ps
     → waysText d (drop i ps) (drop i qs) ≡ wayText d (getD ps i 0) (getD qs i 0) ++ waysText d (drop (i + 1) ps) (drop (i + 1) qs)
 unfolding waysText
 next-way d ps qs i h e = rw (add-one, drop-cons ps i 0 h, drop-cons qs i 0 (omega arith))

@@ -8,9 +8,11 @@ ghost use lib.ListN.{length};
 ghost use Rattle.rules.specs.Table.{bit, indicator};
 ghost use Rattle.rules.specs.Text.{decimal};
 ghost use Rattle.writer.specs.Pieces.{Room, Wrote};
-ghost use Rattle.csv_export.specs.Parts.{namedText, placeText, faultsText, wayText, waysText, cueText};
+ghost use Rattle.csv_export.specs.Parts.{namedText, placeText, faultsText, wayText, presentAt, absentAt, waysText, entryText};
 use csv::Fault;
 use decimal::digits_of;
+use rules::Entry;
+use sheet::fields::u64_at;
 
 /// Bytes as they are.
 pub fn put_bytes(space: &mut [u8], at: usize, piece: &[u8]) -> usize
@@ -151,36 +153,38 @@ fn put_way(space: &mut [u8], at: usize, cue: &[u8], present: u64, absent: u64) -
     put_end(space, next)
 }
 
-/// The records of the ways of a cue.
-fn put_ways(space: &mut [u8], at: usize, cue: &[u8], present: &[u64], absent: &[u64]) -> usize
-    requires { ⌜ length (now absent) ≡ length (now present) ⌝ }
-    requires { ⌜ Room (now space) at (waysText (now cue) (now present) (now absent)) ⌝ }
+/// The records of the ways of an entry behind the digits of its cue, each word read where it stands.
+fn put_ways(space: &mut [u8], at: usize, cue: &[u8], s: &[u8], e: Entry) -> usize
+    requires { ⌜ Room (now space) at (waysText (now cue) (presentAt (now s) e) (absentAt (now s) e)) ⌝ }
     ensures { λ r. ⌜ Wrote (now (space .entry)) at
-        (waysText (now (cue .entry)) (now (present .entry)) (now (absent .entry))) (now (space .exit)) r ⌝ }
+        (waysText (now (cue .entry)) (presentAt (now (s .entry)) e) (absentAt (now (s .entry)) e)) (now (space .exit)) r ⌝ }
 {
+    let present = e.start as usize;
+    let absent = present + 8;
+    let ways = e.ways as usize;
     let mut next = at;
     let mut i: usize = 0;
-    while i < present.len() {
-        next = put_way(space, next, cue, present[i], absent[i]);
+    while i < ways {
+        let p = u64_at(s, present + 16 * i);
+        let q = u64_at(s, absent + 16 * i);
+        next = put_way(space, next, cue, p, q);
         i += 1;
     }
     next
 }
 
-/// The records of a cue; without ways, its number alone.
-pub fn put_cue(space: &mut [u8], at: usize, number: u64, present: &[u64], absent: &[u64]) -> usize
-    requires { ⌜ length (now absent) ≡ length (now present) ⌝ }
-    requires { ⌜ Room (now space) at (cueText number (now present) (now absent)) ⌝ }
-    ensures { λ r. ⌜ Wrote (now (space .entry)) at
-        (cueText number (now (present .entry)) (now (absent .entry))) (now (space .exit)) r ⌝ }
+/// The records of an entry; without ways, the cue's number alone.
+pub fn put_entry(space: &mut [u8], at: usize, s: &[u8], e: Entry) -> usize
+    requires { ⌜ Room (now space) at (entryText (now s) e) ⌝ }
+    ensures { λ r. ⌜ Wrote (now (space .entry)) at (entryText (now (s .entry)) e) (now (space .exit)) r ⌝ }
 {
-    let d = digits_of(number);
+    let d = digits_of(e.cue as u64);
     let digits = d.bytes;
     let from = d.from;
     let cue = &digits[from..];
-    if present.len() == 0 {
+    if e.ways == 0 {
         let next = put_bytes(space, at, cue);
         return put_end(space, next);
     }
-    put_ways(space, at, cue, present, absent)
+    put_ways(space, at, cue, s, e)
 }

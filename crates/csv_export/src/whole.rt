@@ -7,17 +7,15 @@ ghost use Rattle.rules.specs.Sheet.{readNumber, decode};
 ghost use Rattle.rules.specs.Text.{decimal};
 ghost use Rattle.writer.specs.Pieces.{Room, Wrote};
 ghost use Rattle.csv.specs.Texts.{furtherFields, csvOf};
-ghost use Rattle.csv_export.specs.Parts.{frontText, entryText, cuesText};
+ghost use Rattle.csv_export.specs.Parts.{frontText, cuesText};
 use super::entries::stated_entry;
 use super::pieces::put_bytes;
-use super::pieces::put_cue;
 use super::pieces::put_end;
+use super::pieces::put_entry;
 use decimal::digits_of;
-use rules::Entry;
 use rules::Limits;
 use sheet::arrays::at_most;
 use sheet::arrays::weights;
-use sheet::arrays::words;
 use sheet::head::cues_in;
 use sheet::head::faults_in;
 use sheet::head::limits_in;
@@ -59,19 +57,6 @@ fn put_front(space: &mut [u8], at: usize, limits: Limits, weights: &[u32]) -> us
     let next = put_bytes(space, next, b"\r\nweights");
     let next = put_weights(space, next, weights);
     put_end(space, next)
-}
-
-/// The records of an entry.
-fn put_entry(space: &mut [u8], at: usize, s: &[u8], e: Entry) -> usize
-    requires { ⌜ e .ways ≤ 128 ⌝ }
-    requires { ⌜ Room (now space) at (entryText (now s) e) ⌝ }
-    ensures { λ r. ⌜ Wrote (now (space .entry)) at (entryText (now (s .entry)) e) (now (space .exit)) r ⌝ }
-{
-    let start = e.start as usize;
-    let ways = e.ways as usize;
-    let present = words(s, start, ways);
-    let absent = words(s, start + 8, ways);
-    put_cue(space, at, e.cue as u64, &present[..ways], &absent[..ways])
 }
 
 /// The records of all cues of an accepted sheet.

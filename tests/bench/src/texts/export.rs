@@ -4,7 +4,7 @@
 use super::decimal::digits_of;
 use super::Limits;
 use crate::csv::accepted;
-use crate::formula::{MOST_FAULTS, MOST_WAYS};
+use crate::formula::MOST_FAULTS;
 use crate::run::{refused, Answer};
 use crate::sheet::{self, u64_at, Sheet};
 
@@ -37,15 +37,6 @@ fn weights(sheet: &Sheet) -> [u32; MOST_FAULTS] {
         *weight = sheet.weight(fault);
     }
     weights
-}
-
-/// The words of so many rows, the first at start.
-fn words(sheet: &Sheet, start: usize, rows: usize) -> [u64; MOST_WAYS] {
-    let mut words = [0; MOST_WAYS];
-    for (i, word) in words[..rows].iter_mut().enumerate() {
-        *word = u64_at(sheet.bytes, start + 16 * i);
-    }
-    words
 }
 
 // The length
@@ -186,24 +177,26 @@ fn put_way(space: &mut [u8], at: usize, cue: &[u8], present: u64, absent: u64) -
     put_end(space, next)
 }
 
-/// The records of the ways of a cue.
-fn put_ways(space: &mut [u8], at: usize, cue: &[u8], present: &[u64], absent: &[u64]) -> usize {
+/// The records of the ways of an entry behind the digits of its cue, each word read where it stands.
+fn put_ways(space: &mut [u8], at: usize, cue: &[u8], sheet: &Sheet, entry: Entry) -> usize {
     let mut next = at;
-    for (&present, &absent) in present.iter().zip(absent) {
+    for i in 0..entry.ways {
+        let present = u64_at(sheet.bytes, entry.start + 16 * i);
+        let absent = u64_at(sheet.bytes, entry.start + 8 + 16 * i);
         next = put_way(space, next, cue, present, absent);
     }
     next
 }
 
-/// The records of a cue; without ways, its number alone.
-fn put_cue(space: &mut [u8], at: usize, number: u64, present: &[u64], absent: &[u64]) -> usize {
-    let digits = digits_of(number);
+/// The records of an entry; without ways, the cue's number alone.
+fn put_entry(space: &mut [u8], at: usize, sheet: &Sheet, entry: Entry) -> usize {
+    let digits = digits_of(entry.cue.into());
     let cue = &digits.bytes[digits.from..];
-    if present.is_empty() {
+    if entry.ways == 0 {
         let next = put_bytes(space, at, cue);
         return put_end(space, next);
     }
-    put_ways(space, at, cue, present, absent)
+    put_ways(space, at, cue, sheet, entry)
 }
 
 // The whole text
@@ -232,14 +225,6 @@ fn put_front(space: &mut [u8], at: usize, limits: Limits, weights: &[u32]) -> us
     let next = put_bytes(space, next, b"\r\nweights");
     let next = put_weights(space, next, weights);
     put_end(space, next)
-}
-
-/// The records of an entry.
-fn put_entry(space: &mut [u8], at: usize, sheet: &Sheet, entry: Entry) -> usize {
-    let Entry { cue, ways, start } = entry;
-    let present = words(sheet, start, ways);
-    let absent = words(sheet, start + 8, ways);
-    put_cue(space, at, cue.into(), &present[..ways], &absent[..ways])
 }
 
 /// The records of all cues.

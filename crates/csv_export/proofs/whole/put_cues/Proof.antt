@@ -10,7 +10,7 @@ use Rattle.rules.specs.Sheet.{AllBelow, cuesIn, decode}
 use Rattle.rules.proofs.Bytes.{each-below}
 use Rattle.writer.proofs.Over.{Left, left-all, left-long, left-none, next-room, next-written}
 use Rattle.csv_export.specs.Parts.{entryText, cuesText}
-use Rattle.csv_export.proofs.Cues.{none-left, few-ways, next-cue}
+use Rattle.csv_export.proofs.Cues.{none-left, next-cue}
 use Rattle.csv_export.proofs.whole.put_cues.Statement.{statement}
 use Rattle.csv_export.proofs.whole.put_cues.Tie as tie
 
@@ -54,10 +54,8 @@ stated-entry-requires c κs = (start (c .before .before) .pre .0, within (c .bef
 
 put-entry-requires : tie.Need-put-entry-requires Inv-loop μ-loop
 put-entry-requires c κs =
-    let n = c .before .before in
-    let l = n .before in
-    let s = start l in
-    (few-ways _ (narrow l) (s .pre .0) (l .loop .i) (within n) (c .stated-entry .ensures), next-room _ (s .pre .1) (rw (left-here c) at (l .loop .inv)))
+    let l = c .before .before .before in
+    next-room _ (start l .pre .1) (rw (left-here c) at (l .loop .inv))
 
 add-i : tie.Need-add-i Inv-loop μ-loop
 add-i c = search needs
