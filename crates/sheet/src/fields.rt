@@ -63,5 +63,9 @@ pub fn u64_at(s: &[u8], i: usize) -> u64
     ensures { λ r. ⌜ r ≡ field 8 i (now (s .entry)) ⌝ }
 {
     let t = rest(s, i);
+    // Apart for the same reason.
+    if 8 <= t.len() {
+        return first_u32(t) as u64 + 4294967296 * (first_u32(&t[4..]) as u64);
+    }
     u32_at(t, 0) as u64 + 4294967296 * (u32_at(t, 4) as u64)
 }
