@@ -22,20 +22,6 @@ use Rattle.csv_import.specs.declared.read.RowsRead.{RowsRead}
 use Rattle.csv_import.specs.Gather.{beginsCue, mayFollow, noSums, countBefore, withRow, setIf, Gathered, ToldRows}
 use Rattle.csv_import.proofs.Adding.{SaysCue, told-says, SaidBefore, follows-told, Keeps, keeps-none, keeps-next, begins-false}
 
--- ---- positions
-
--- The part of the text up to where a line ends is that line.
-pub line-part : (t : List ℕ) (at end : ℕ) → end ≡ at + lineSpan (drop at t) → take (end - at) (drop at t) ≡ lineAt t at
-unfolding lineAt
-line-part t at end e =
-    let long : end - at ≡ lineSpan (drop at t) = omega (arith, e) in
-    ap (λ (n : ℕ). take n (drop at t)) long
-
--- The next line starts two bytes behind.
-pub line-next : (t : List ℕ) (at end : ℕ) → end ≡ at + lineSpan (drop at t) → end + 2 ≡ nextLine t at
-unfolding nextLine
-line-next t at end e = ap (λ (n : ℕ). n + 2) e
-
 -- ---- one record
 
 -- It is of no way or does not follow, so that it is misread.

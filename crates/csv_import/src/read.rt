@@ -7,7 +7,6 @@ use super::keep::keep_row;
 use super::sums::may_follow;
 use super::sums::no_sums;
 use super::sums::with_row;
-use csv_rows::fields::line_end;
 use csv_rows::heads::run;
 use csv_rows::heads::weights as weights_in;
 use csv_rows::ways::row;
@@ -112,22 +111,20 @@ pub fn read_text(
     if text.len() == 0 {
         return misread_at(1);
     }
-    let end = line_end(text, 0);
-    let first = run(&text[0..end]);
+    let first = run(text, 0);
     if !first.good {
         return misread_at(1);
     }
     let limits = first.limits;
-    let second = end + 2;
+    let second = first.next;
     if text.len() <= second {
         return misread_at(2);
     }
-    let end = line_end(text, second);
-    let w = weights_in(&text[second..end], weights);
+    let w = weights_in(text, second, weights);
     if !w.good {
         return misread_at(2);
     }
-    let rows = read_rows(text, end + 2, numbers, counts, present, absent);
+    let rows = read_rows(text, w.next, numbers, counts, present, absent);
     TextRead {
         misread: rows.misread,
         limits,

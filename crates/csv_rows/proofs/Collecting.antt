@@ -73,7 +73,7 @@ module _ (t : List ℕ) (start : ℕ) (w : Words) (at : ℕ) (more : Bool) (inv 
         (e : allFaults (behind (r .more) t (r .next)) ≡ true → b ≡ twice w (r .fault) (map faultIn (behind (r .more) t (r .next)))) where
       -- The field there, and those behind it.
       here : behind more t at ≡ firstField t at ∷ behind (r .more) t (r .next)
-      here = left-are ∙ s .fields g
+      here = left-are ∙ s .passed g .fields
 
       -- The faults behind that one.
       fs : List Fault
@@ -105,9 +105,9 @@ module _ (t : List ℕ) (start : ℕ) (w : Words) (at : ℕ) (more : Bool) (inv 
             far = sym (far-next w (r .fault) fs) ∙ sym (ap (λ (x : List (List ℕ)). w .far || someFar (map faultIn x)) here ∙ rw (s .fault g)) ∙ inv .far;
             words = λ c k. sym (words-next c w (r .fault) fs k)
                 ∙ sym (ap (λ (x : List (List ℕ)). bitOr (wordFor c w) (wordOf c (map faultIn x))) here ∙ rw (s .fault g)) ∙ inv .words c (near k);
-            line = s .line g ∙ ap (λ (x : Bool). lineBehind x t at) (sym h) ∙ inv .line;
-            inside = s .inside g;
-            near = s .near g;
+            line = s .passed g .line ∙ ap (λ (x : Bool). lineBehind x t at) (sym h) ∙ inv .line;
+            inside = s .passed g .inside;
+            near = s .passed g .near;
           })
         where
           split : (x : Bool) → allFaults (behind (r .more) t (r .next)) ≡ x

@@ -32,11 +32,7 @@ module _ (t : List ℕ) (at : ℕ) (f : FieldAt) (s : FieldNext t at f) where
       record {
         good = sym (split (f .good) refl);
         fault = λ p. absurd (false≢true p);
-        fields = λ p. absurd (false≢true p);
-        line = λ p. absurd (false≢true p);
-        further = λ p. absurd (false≢true p);
-        inside = λ p. absurd (false≢true p);
-        near = λ p. absurd (false≢true p);
+        passed = λ p. absurd (false≢true p);
       }
     where
       split : (b : Bool) → f .good ≡ b → isFault (firstField t at) ≡ false
@@ -54,11 +50,7 @@ module _ (t : List ℕ) (at : ℕ) (f : FieldAt) (s : FieldNext t at f) where
       record {
         good = split (f .good) refl;
         fault = λ p. ap₂ (λ (k : ℕ) (x : Bool). record { place = k - 1; absent = x }) (s .value p) (s .absent p);
-        fields = s .fields;
-        line = s .line;
-        further = s .further;
-        inside = s .inside;
-        near = s .near;
+        passed = s .passed;
       }
     where
       above : (k : ℕ) → (k ≡ 0 → ⊥) → 0 < k
@@ -125,7 +117,7 @@ module _ (x : Fault) (t : List ℕ) (more : Bool) (start : ℕ) (left : Bool) (a
     module _ (g : r .good ≡ true) where
       -- The field there, and those behind it.
       next-are : behind left t at ≡ firstField t at ∷ behind (r .more) t (r .next)
-      next-are = left-are ∙ s .fields g
+      next-are = left-are ∙ s .passed g .fields
 
       -- The fault is the one there, or is among those behind it.
       either : allFaults (behind more t start) ≡ true
@@ -142,7 +134,7 @@ module _ (x : Fault) (t : List ℕ) (more : Bool) (start : ℕ) (left : Bool) (a
       unfolding allFaults
       looking-on e =
           record {
-            inside = s .inside g;
+            inside = s .passed g .inside;
             all = λ p. and-split (isFault (firstField t at)) _ (ap allFaults (sym next-are) ∙ inv .all p) .1;
             same = λ p. any-passed e (either p);
           }

@@ -23,7 +23,7 @@ use Rattle.csv.specs.Shapes.{signed, unsigned}
 use Rattle.csv_rows.specs.declared.NumberAt.{NumberAt}
 use Rattle.csv_rows.specs.declared.SignedAt.{SignedAt}
 use Rattle.csv_rows.specs.Scan.{breaksAt}
-use Rattle.csv_rows.specs.Cursor.{standsAt, endsAt, part, Plain, isSigned, NumberRead, SignedRead}
+use Rattle.csv_rows.specs.Cursor.{standsAt, endsAt, part, Plain, isSigned, NumberRead, Longest, SignedRead}
 
 -- ---- a byte at a position
 
@@ -208,14 +208,17 @@ module _ (t : List ℕ) (at : ℕ) (n : NumberAt) (r : NumberRead t at n) where
       let u : signed (part t at (n .end)) ≡ false = digits-unsigned (part t at (n .end)) read-digits in
       let v : unsigned (part t at (n .end)) ≡ part t at (n .end) = unsigned-bare _ u in
       record {
-        from = r .from;
-        inside = r .inside;
+        taken =
+            record {
+              from = r .from;
+              inside = r .inside;
+              plain = digits-plain (part t at (n .end)) read-digits;
+              good = rw v read-good;
+              longest = λ h s. ap isNumeral (unsigned-bare _ (digits-bare (part t at (n .end)) (getD t (n .end) 0) s read-digits (first h))) ∙ r .longest h s;
+            };
         small = r .small;
-        plain = digits-plain (part t at (n .end)) read-digits;
-        good = rw v read-good;
         value = λ h. rw v (read-value h);
         absent = λ h. sym u;
-        longest = λ h s. ap isNumeral (unsigned-bare _ (digits-bare (part t at (n .end)) (getD t (n .end) 0) s read-digits (first h))) ∙ r .longest h s;
       }
     where
       first : n .end < length t → length (part t at (n .end)) ≡ 0 → getD t (n .end) 0 ≡ 45 → ⊥
@@ -232,14 +235,17 @@ signed-minus t at n r m =
     let p : part t at (n .end) ≡ 45 ∷ part t (at + 1) (n .end)
     = part-cons t at (n .end) (omega (arith, r .from)) (s .0) ∙ ap (λ (b : ℕ). b ∷ part t (at + 1) (n .end)) (s .1) in
     record {
-      from = omega (arith, r .from);
-      inside = r .inside;
+      taken =
+          record {
+            from = omega (arith, r .from);
+            inside = r .inside;
+            plain = rw p (λ e. omega (arith, e), λ e. omega (arith, e), λ e. omega (arith, e), digits-plain (part t (at + 1) (n .end)) (read-digits t (at + 1) n r));
+            good = rw p (read-good t (at + 1) n r);
+            longest = λ h q. rw p (r .longest h q);
+          };
       small = r .small;
-      plain = rw p (λ e. omega (arith, e), λ e. omega (arith, e), λ e. omega (arith, e), digits-plain (part t (at + 1) (n .end)) (read-digits t (at + 1) n r));
-      good = rw p (read-good t (at + 1) n r);
       value = λ h. rw p (read-value t (at + 1) n r h);
       absent = λ h. rw p;
-      longest = λ h q. rw p (r .longest h q);
     }
 
 -- There is one, and the text ends.

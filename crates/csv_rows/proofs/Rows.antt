@@ -24,10 +24,9 @@ use Rattle.csv.specs.Shapes.{signed, unsigned, isFault, faultIn, allFaults, rep
 use Rattle.csv_rows.specs.declared.FieldAt.{FieldAt}
 use Rattle.csv_rows.specs.declared.NamesSaid.{NamesSaid}
 use Rattle.csv_rows.specs.Scan.{lineAt, nextLine}
-use Rattle.csv_rows.specs.Cursor.{isSigned, firstField, behind, lineBehind, FieldNext}
+use Rattle.csv_rows.specs.Cursor.{firstField, behind, lineBehind, NumeralNext}
 use Rattle.csv_rows.specs.Told.{wide, wordIf, cueSaid, ToldRow}
 use Rattle.csv_rows.specs.Walks.{wordFor, someFar, apart, ToldFaults}
-use Rattle.csv_rows.proofs.Reading.{unsigned-bare, signed-numeral}
 use Rattle.csv_rows.proofs.Stops.{later, fields-raw}
 
 -- ---- the empty way
@@ -48,16 +47,15 @@ unfolding isEmptyWay bytes
 empty-first f [] h = is-false (sameNumbers f (48 ∷ [])) (λ e. h (same-equal f (48 ∷ []) e))
 empty-first f (g ∷ fs) h = refl
 
-module _ (t : List ℕ) (at : ℕ) (f : FieldAt) (s : FieldNext t at f) where
+module _ (t : List ℕ) (at : ℕ) (f : FieldAt) (s : NumeralNext t at f) where
   -- Another field than `0`.
   not-first : (firstField t at ≡ 48 ∷ [] → ⊥) → isEmptyWay (fieldsIn (lineAt t at)) ≡ false
   not-first h = ap isEmptyWay (fields-raw t at) ∙ empty-first (firstField t at) (map unquoted (later t at)) h
 
-  -- `0` is a number without a minus.
-  nought-is : firstField t at ≡ 48 ∷ [] → (f .good ≡ true) × (f .good ≡ true → (f .absent ≡ false) × (f .value ≡ 0))
-  unfolding isSigned signed unsigned isNumeral sameNumbers decimal digits decimalValue valueAfter
-  nought-is e =
-      (s .good ∙ ap isSigned e, λ p. (s .absent p ∙ ap signed e, s .value p ∙ ap (λ (l : List ℕ). decimalValue (unsigned l)) e))
+  -- `0` is a number.
+  nought-is : firstField t at ≡ 48 ∷ [] → (f .good ≡ true) × (f .good ≡ true → f .value ≡ 0)
+  unfolding isNumeral sameNumbers decimal digits decimalValue valueAfter
+  nought-is e = (s .good ∙ ap isNumeral e, λ p. s .value p ∙ ap decimalValue e)
 
   -- A further field follows.
   pub nothing-more : f .more ≡ true → false ≡ isEmptyWay (fieldsIn (lineAt t at))
@@ -67,37 +65,31 @@ module _ (t : List ℕ) (at : ℕ) (f : FieldAt) (s : FieldNext t at f) where
       split : (x : Bool) → f .good ≡ x → isEmptyWay (fieldsIn (lineAt t at)) ≡ false
       split true g =
           ap isEmptyWay
-          (s .fields g
+          (s .passed g .fields
           ∙ ap (λ (b : Bool). firstField t at ∷ behind b t (f .next)) m
           ∙ ap (λ (fs : List (List ℕ)). firstField t at ∷ fs) (fields-raw t (f .next)))
       split false g = not-first (λ e. false≢true (sym g ∙ nought-is e .0))
 
-  -- A minus.
-  pub nothing-absent : f .absent ≡ true → false ≡ isEmptyWay (fieldsIn (lineAt t at))
-  nothing-absent a = sym (not-first (λ e. let z = nought-is e in false≢true (sym (z .1 (z .0) .0) ∙ a)))
-
   -- Another number.
   pub nothing-other : (f .value ≡ 0 → ⊥) → false ≡ isEmptyWay (fieldsIn (lineAt t at))
-  nothing-other v = sym (not-first (λ e. let z = nought-is e in v (z .1 (z .0) .1)))
+  nothing-other v = sym (not-first (λ e. let z = nought-is e in v (z .1 (z .0))))
 
-  -- `0` alone, if it is a field at all.
-  pub nothing-here : f .more ≡ false → f .absent ≡ false → f .value ≡ 0 → f .good ≡ isEmptyWay (fieldsIn (lineAt t at))
-  unfolding isEmptyWay behind bytes isSigned decimal digits sameNumbers
-  nothing-here m a v = split (f .good) refl
+  -- `0` alone, if it is a number at all.
+  pub nothing-here : f .more ≡ false → f .value ≡ 0 → f .good ≡ isEmptyWay (fieldsIn (lineAt t at))
+  unfolding isEmptyWay behind bytes decimal digits sameNumbers
+  nothing-here m v = split (f .good) refl
     where
       split : (x : Bool) → f .good ≡ x → f .good ≡ isEmptyWay (fieldsIn (lineAt t at))
       split true g =
-          let u : unsigned (firstField t at) ≡ firstField t at = unsigned-bare (firstField t at) (sym (s .absent g) ∙ a) in
-          let n : isNumeral (firstField t at) ≡ true = ap isNumeral (sym u) ∙ sym (s .good) ∙ g in
-          let z : decimalValue (firstField t at) ≡ 0 = ap decimalValue (sym u) ∙ sym (s .value g) ∙ v in
-          let e : firstField t at ≡ 48 ∷ [] = sym (ap decimal (sym z) ∙ numeral-decimal (firstField t at) n) in
-          g ∙ sym (ap isEmptyWay (s .fields g ∙ ap (λ (b : Bool). firstField t at ∷ behind b t (f .next)) m ∙ ap (λ (l : List ℕ). l ∷ []) e))
+          let z : decimalValue (firstField t at) ≡ 0 = sym (s .value g) ∙ v in
+          let e : firstField t at ≡ 48 ∷ [] = sym (ap decimal (sym z) ∙ numeral-decimal (firstField t at) (sym (s .good) ∙ g)) in
+          g ∙ sym (ap isEmptyWay (s .passed g .fields ∙ ap (λ (b : Bool). firstField t at ∷ behind b t (f .next)) m ∙ ap (λ (l : List ℕ). l ∷ []) e))
       split false g = g ∙ sym (not-first (λ e. false≢true (sym g ∙ nought-is e .0)))
 
   -- The next line starts behind it.
   pub nothing-line : f .more ≡ false → f .good ≡ true → f .next + 1 ≡ nextLine t at
   unfolding lineBehind
-  nothing-line m g = add-one (f .next) ∙ ap (λ (b : Bool). lineBehind b t (f .next)) (sym m) ∙ s .line g
+  nothing-line m g = add-one (f .next) ∙ ap (λ (b : Bool). lineBehind b t (f .next)) (sym m) ∙ s .passed g .line
 
 -- `0` is no fault.
 apart-some : (fs : List (List ℕ)) → apart fs ≡ true → isEmptyWay fs ≡ false
@@ -222,38 +214,18 @@ row-not fs n h =
       near = λ p. absurd (false≢true p);
     }
 
-module _ (t : List ℕ) (at : ℕ) (c : FieldAt) (s : FieldNext t at c) where
-  -- A record whose first field is no numeral.
-  no-cue : isNumeral (firstField t at) ≡ false → (n : ℕ)
-      → ToldRow (fieldsIn (lineAt t at)) (record { good = false; cue = 0; way = false; far = false; present = 0; absent = 0; next = n })
-  unfolding isRow
-  no-cue h n = row-not (fieldsIn (lineAt t at)) n (ap isRow (fields-raw t at) ∙ rw h)
-
-  -- No number.
+module _ (t : List ℕ) (at : ℕ) (c : FieldAt) (s : NumeralNext t at c) where
+  -- No number in front.
   pub row-bad : c .good ≡ false → (n : ℕ)
       → ToldRow (fieldsIn (lineAt t at)) (record { good = false; cue = 0; way = false; far = false; present = 0; absent = 0; next = n })
-  unfolding isSigned
-  row-bad h =
-      no-cue (is-false (isNumeral (firstField t at))
-      (λ e. false≢true (sym h ∙ s .good ∙ ap isNumeral (unsigned-bare (firstField t at) (signed-numeral (firstField t at) e)) ∙ e)))
+  unfolding isRow
+  row-bad h n = row-not (fieldsIn (lineAt t at)) n (ap isRow (fields-raw t at) ∙ rw (sym (s .good) ∙ h))
 
-  -- A minus in front of it.
-  pub row-minus : c .good ≡ true → c .absent ≡ true → (n : ℕ)
-      → ToldRow (fieldsIn (lineAt t at)) (record { good = false; cue = 0; way = false; far = false; present = 0; absent = 0; next = n })
-  row-minus g h = no-cue (is-false (isNumeral (firstField t at)) (λ e. false≢true (sym (signed-numeral (firstField t at) e) ∙ sym (s .absent g) ∙ h)))
-
-  module _ (g : c .good ≡ true) (a : c .absent ≡ false) where
-    -- The cue, then the fields behind it.
-    bare-cue : unsigned (firstField t at) ≡ firstField t at
-    bare-cue = unsigned-bare (firstField t at) (sym (s .absent g) ∙ a)
-
-    value-is : c .value ≡ decimalValue (firstField t at)
-    value-is = s .value g ∙ ap decimalValue bare-cue
-
-    -- So the cue's size and those fields decide.
+  module _ (g : c .good ≡ true) where
+    -- The cue's size and the fields behind it decide.
     row-is : isRow (fieldsIn (lineAt t at)) ≡ ltb (c .value) 65536 && isNames (behind (c .more) t (c .next))
-    unfolding isRow isSigned
-    row-is = ap isRow (s .fields g) ∙ rw (ap isNumeral (sym bare-cue) ∙ sym (s .good) ∙ g, value-is)
+    unfolding isRow
+    row-is = ap isRow (s .passed g .fields) ∙ rw (sym (s .good) ∙ g, s .value g)
 
     -- A cue number too large.
     pub row-high : 65535 < c .value → (n : ℕ)
@@ -267,13 +239,13 @@ module _ (t : List ℕ) (at : ℕ) (c : FieldAt) (s : FieldNext t at c) where
       unfolding behind isNames isEmptyWay allFaults repeats rowIn wide someAbove cueSaid wordIf
       row-alone k n =
           let none : behind (c .more) t (c .next) ≡ [] = ap (λ (b : Bool). behind b t (c .next)) k in
-          let only : fieldsIn (lineAt t at) ≡ firstField t at ∷ [] = s .fields g ∙ ap (λ (fs : List (List ℕ)). firstField t at ∷ fs) none in
+          let only : fieldsIn (lineAt t at) ≡ firstField t at ∷ [] = s .passed g .fields ∙ ap (λ (fs : List (List ℕ)). firstField t at ∷ fs) none in
           record {
             good = sym (row-is ∙ rw (lt-ltb (c .value) 65536 (omega arith), none));
-            cue = λ p. rw only (sym value-is);
+            cue = λ p. rw only (sym (s .value g));
             ways = λ p. rw only;
             far = λ p. rw only;
-            near = λ p q. rw (only, value-is);
+            near = λ p q. rw (only, s .value g);
           }
 
       -- A way.
@@ -284,10 +256,10 @@ module _ (t : List ℕ) (at : ℕ) (c : FieldAt) (s : FieldNext t at c) where
       row-way k n u =
           let rest : behind (c .more) t (c .next) ≡ fieldsIn (lineAt t (c .next)) = ap (λ (b : Bool). behind b t (c .next)) k in
           let all : fieldsIn (lineAt t at) ≡ firstField t at ∷ fieldsIn (lineAt t (c .next))
-          = s .fields g ∙ ap (λ (fs : List (List ℕ)). firstField t at ∷ fs) rest in
+          = s .passed g .fields ∙ ap (λ (fs : List (List ℕ)). firstField t at ∷ fs) rest in
           let xs : List Fault = faultsNamed (fieldsIn (lineAt t (c .next))) in
           let said : rowIn (fieldsIn (lineAt t at)) ≡ record { number = c .value; present = wordOf false xs ∷ []; absent = wordOf true xs ∷ [] } =
-          ap rowIn all ∙ rw (value-is, fields-raw t (c .next)) in
+          ap rowIn all ∙ rw (s .value g, fields-raw t (c .next)) in
           record {
             good = u .same ∙ sym (row-is ∙ rw (lt-ltb (c .value) 65536 (omega arith), rest));
             cue = λ p. rw said;
@@ -307,4 +279,4 @@ module _ (t : List ℕ) (at : ℕ) (c : FieldAt) (s : FieldNext t at c) where
 
   pub row-behind : c .good ≡ true → c .more ≡ true → (n : ℕ) → n ≡ nextLine t (c .next) → n ≡ nextLine t at
   unfolding lineBehind
-  row-behind g m n e = e ∙ ap (λ (b : Bool). lineBehind b t (c .next)) (sym m) ∙ s .line g
+  row-behind g m n e = e ∙ ap (λ (b : Bool). lineBehind b t (c .next)) (sym m) ∙ s .passed g .line

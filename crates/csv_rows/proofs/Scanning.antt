@@ -1,4 +1,4 @@
--- What a walk over a text finds, byte by byte: where lines and fields end, and the lines and fields from a position on.
+-- What a walk over a text finds, byte by byte: where lines end, and the records from a position on; and when a field stands in quotes.
 -- Rests on specs, Scan.
 use mathlib.Core.Path.{_≡_, refl, ap, ap₂, _∙_}
 use mathlib.Core.Bool.{Bool, true, false, _&&_, _||_, false≢true}
@@ -14,7 +14,7 @@ use borrow.Author.Tests.{ne-eqb, eq-eqb, le-leb, lt-leb}
 use Rattle.rules.specs.Sheet.{sameNumbers}
 use Rattle.rules.proofs.Booleans.{and-both, and-false}
 use Rattle.csv.specs.Cut.{onto, linesIn, rawFields, quoted, unquoted, fieldsIn, recordsIn}
-use Rattle.csv_rows.specs.Scan.{breaksAt, lineSpan, fieldSpan, rawFieldsFrom, fieldsFrom, fieldAt, nextField, lineAt, nextLine, recordsFrom}
+use Rattle.csv_rows.specs.Scan.{breaksAt, lineSpan, lineAt, nextLine, recordsFrom}
 
 -- ---- where a line ends
 
@@ -73,23 +73,6 @@ pub line-over : (t : List ℕ) (i : ℕ) → length t ≤ i → lineSpan (drop i
 unfolding lineSpan
 line-over t i h = ap lineSpan (drop-of-length-le t h)
 
--- ---- where a field ends
-
--- A field ends where a comma stands.
-pub field-stop : (l : List ℕ) (i : ℕ) → i < length l → getD l i 0 ≡ 44 → fieldSpan (drop i l) ≡ 0
-unfolding fieldSpan
-field-stop l i h e = ap fieldSpan (drop-cons l i 0 h) ∙ rw (e)
-
--- It goes on where none stands.
-pub field-on : (l : List ℕ) (i : ℕ) → i < length l → (getD l i 0 ≡ 44 → ⊥) → fieldSpan (drop i l) ≡ suc (fieldSpan (drop (i + 1) l))
-unfolding fieldSpan
-field-on l i h f = ap fieldSpan (drop-cons l i 0 h) ∙ rw (ne-eqb (getD l i 0) 44 f, fieldSpan) (rw add-one)
-
--- It ends where the line ends.
-pub field-over : (l : List ℕ) (i : ℕ) → length l ≤ i → fieldSpan (drop i l) ≡ 0
-unfolding fieldSpan
-field-over l i h = ap fieldSpan (drop-of-length-le l h)
-
 -- ---- CR LF at a position, test by test
 
 -- Not where there is no CR.
@@ -107,7 +90,7 @@ pub breaks-so : (t : List ℕ) (i : ℕ) → getD t i 0 ≡ 13 → breaksAt t i 
 unfolding breaksAt
 breaks-so t i h = rw (h, add-one)
 
--- ---- two lists side by side
+-- ---- tests
 
 -- Lists of two lengths differ.
 pub same-lengths : (xs ys : List ℕ) → (length xs ≡ length ys → ⊥) → sameNumbers xs ys ≡ false
@@ -117,24 +100,13 @@ same-lengths [] (y ∷ ys) h = refl
 same-lengths (x ∷ xs) [] h = refl
 same-lengths (x ∷ xs) (y ∷ ys) h = rw (same-lengths xs ys (λ e. h (ap suc e))) (and-false (eqb x y))
 
--- Equal from a position on: equal there, and behind it.
-pub same-turn : (xs ys : List ℕ) (i : ℕ) → i < length xs → i < length ys
-    → sameNumbers (drop i xs) (drop i ys) ≡ eqb (getD xs i 0) (getD ys i 0) && sameNumbers (drop (i + 1) xs) (drop (i + 1) ys)
-unfolding sameNumbers
-same-turn xs ys i h k = ap₂ sameNumbers (drop-cons xs i 0 h) (drop-cons ys i 0 k) ∙ rw add-one
+-- A walk that asks for any ends where the test at the front holds.
+pub any-found : {t R : Bool} (rest : Bool) → t ≡ true → t || rest ≡ R → true ≡ R
+any-found rest h e = rw h at e
 
--- Behind both ends they are equal.
-pub same-ended : (xs ys : List ℕ) (i : ℕ) → length xs ≤ i → length ys ≤ i → sameNumbers (drop i xs) (drop i ys) ≡ true
-unfolding sameNumbers
-same-ended xs ys i h k = rw (drop-of-length-le xs h, drop-of-length-le ys k)
-
--- Two numbers that differ decide the test.
-pub same-not : (x y : ℕ) (b : Bool) → (x ≡ y → ⊥) → eqb x y && b ≡ false
-same-not x y b h = rw (ne-eqb x y h)
-
--- Two equal ones leave it to the others.
-pub same-on : (x y : ℕ) (b : Bool) → x ≡ y → eqb x y && b ≡ b
-same-on x y b h = rw (eq-eqb x y h)
+-- It goes on where the test at the front fails.
+pub any-passed : {t rest R : Bool} → t ≡ false → t || rest ≡ R → rest ≡ R
+any-passed h e = rw h at e
 
 -- ---- quotes
 
@@ -175,78 +147,6 @@ unfolding quoted unquoted
 quoted-both f h a b =
     let q : quoted f ≡ true = and-both _ _ (le-leb 2 (length f) h) (and-both _ _ (eq-eqb (getD f 0 0) 34 a) (eq-eqb (getD f (length f - 1) 0) 34 b)) in
     rw (q, unquoted)
-
--- ---- the fields from a position on
-
-module _ (b : ℕ) (l : List ℕ) where
-  -- The first piece is empty in front of a comma.
-  comma : eqb b 44 ≡ true → rawFields (b ∷ l) ≡ take (fieldSpan (b ∷ l)) (b ∷ l) ∷ rawFieldsFrom (b ∷ l) (suc (fieldSpan (b ∷ l)))
-  unfolding rawFields fieldSpan rawFieldsFrom
-  comma e = rw (e, rawFields, fieldSpan)
-
-  -- Any other byte belongs to it.
-  bare : eqb b 44 ≡ false → rawFields l ≡ take (fieldSpan l) l ∷ rawFieldsFrom l (suc (fieldSpan l))
-      → rawFields (b ∷ l) ≡ take (fieldSpan (b ∷ l)) (b ∷ l) ∷ rawFieldsFrom (b ∷ l) (suc (fieldSpan (b ∷ l)))
-  unfolding rawFields fieldSpan rawFieldsFrom onto
-  bare e rest = rw (e, rawFields, fieldSpan) (ap (onto b) rest)
-
--- The first piece, and those behind its comma.
-pieces-span : (l : List ℕ) → rawFields l ≡ take (fieldSpan l) l ∷ rawFieldsFrom l (suc (fieldSpan l))
-unfolding rawFields rawFieldsFrom fieldSpan onto
-pieces-span [] = refl
-pieces-span (b ∷ l) = split (eqb b 44) refl (pieces-span l)
-  where
-    split : (x : Bool) → eqb b 44 ≡ x → rawFields l ≡ take (fieldSpan l) l ∷ rawFieldsFrom l (suc (fieldSpan l))
-        → rawFields (b ∷ l) ≡ take (fieldSpan (b ∷ l)) (b ∷ l) ∷ rawFieldsFrom (b ∷ l) (suc (fieldSpan (b ∷ l)))
-    split true e rest = comma b l e
-    split false e rest = bare b l e rest
-
--- From the front.
-start : (l : List ℕ) → rawFieldsFrom l 0 ≡ take (fieldSpan l) l ∷ rawFieldsFrom l (suc (0 + fieldSpan l))
-unfolding rawFieldsFrom
-start l = rw zero-add (pieces-span l)
-
--- From a later position.
-later : (b : ℕ) (l : List ℕ) (at : ℕ) → rawFieldsFrom l at ≡ take (fieldSpan (drop at l)) (drop at l) ∷ rawFieldsFrom l (suc (at + fieldSpan (drop at l)))
-    → rawFieldsFrom (b ∷ l) (suc at) ≡ take (fieldSpan (drop at l)) (drop at l) ∷ rawFieldsFrom (b ∷ l) (suc (suc at + fieldSpan (drop at l)))
-unfolding rawFieldsFrom
-later b l at e = rw suc-add e
-
--- The fields from a position on: the one there, then those behind it.
-pub fields-next : (l : List ℕ) (at : ℕ) → at ≤ length l → fieldsFrom l at ≡ fieldAt l at ∷ fieldsFrom l (nextField l at)
-unfolding fieldsFrom fieldAt nextField
-fields-next l at h = ap (map unquoted) (go l at h)
-  where
-    go : (l : List ℕ) (at : ℕ) → at ≤ length l
-        → rawFieldsFrom l at ≡ take (fieldSpan (drop at l)) (drop at l) ∷ rawFieldsFrom l (suc (at + fieldSpan (drop at l)))
-    go l zero h = start l
-    go [] (suc at) h = absurd (omega arith)
-    go (b ∷ l) (suc at) h = later b l at (go l at (omega arith))
-
--- There is none behind the end.
-pub fields-past : (l : List ℕ) (at : ℕ) → length l < at → fieldsFrom l at ≡ []
-unfolding fieldsFrom rawFieldsFrom
-fields-past l zero h = absurd (omega arith)
-fields-past [] (suc at) h = refl
-fields-past (b ∷ l) (suc at) h = fields-past l at (omega arith)
-
--- From the front on there are all.
-pub fields-start : (l : List ℕ) → fieldsFrom l 0 ≡ fieldsIn l
-unfolding fieldsFrom rawFieldsFrom fieldsIn
-fields-start l = refl
-
--- The next field starts further on.
-pub next-above : (l : List ℕ) (at : ℕ) → at < nextField l at
-unfolding nextField
-next-above l at = omega arith
-
--- A walk that asks for any ends where the test at the front holds.
-pub any-found : {t R : Bool} (rest : Bool) → t ≡ true → t || rest ≡ R → true ≡ R
-any-found rest h e = rw h at e
-
--- It goes on where the test at the front fails.
-pub any-passed : {t rest R : Bool} → t ≡ false → t || rest ≡ R → rest ≡ R
-any-passed h e = rw h at e
 
 -- ---- the records from a position on
 

@@ -1,5 +1,5 @@
 -- What a cursor over a text finds: the field at a position, and those that are left of its record.
--- Rests on Reading.antt and Scanning.antt. A field is read as far as its bytes are those of a number; then it ends there, or it is none.
+-- Rests on Reading.antt and Scanning.antt. A field is read as far as its bytes may be those of a number, or of a word; then it ends there, or it is none.
 use mathlib.Core.Path.{_≡_, refl, sym, ap, ap₂, _∙_, subst}
 use mathlib.Core.Bool.{Bool, true, false, _&&_, false≢true}
 use mathlib.Core.List.{List, [], _∷_, _++_, map, append-nil, append-assoc}
@@ -20,7 +20,7 @@ use Rattle.csv.specs.Shapes.{signed, unsigned}
 use Rattle.csv_rows.specs.declared.SignedAt.{SignedAt}
 use Rattle.csv_rows.specs.declared.FieldAt.{FieldAt}
 use Rattle.csv_rows.specs.Scan.{breaksAt, lineSpan, lineAt, nextLine}
-use Rattle.csv_rows.specs.Cursor.{standsAt, endsAt, part, Plain, isSigned, firstField, behind, lineBehind, SignedRead, EndedAt, FieldNext}
+use Rattle.csv_rows.specs.Cursor.{standsAt, endsAt, part, Plain, isSigned, firstField, behind, lineBehind, Longest, SignedRead, EndedAt, Passed, FieldNext}
 use Rattle.csv_rows.proofs.Scanning.{line-on, line-stop, line-over, breaks-not, quoted-short, quoted-first, quoted-last, quoted-both, is-bare}
 use Rattle.csv_rows.proofs.Reading.{stands-in, stands-out, stands-yes, stands-no, ends-in, ends-out, part-none, part-cons, letter, unsigned-bare}
 
@@ -170,56 +170,29 @@ raw-first t e = split (standsAt t e 44) refl (endsAt t e) refl
 
 -- ---- quotes around what is read
 
--- What begins with a quote is no number.
-quote-first : (h : List ℕ) → isSigned (34 ∷ h) ≡ false
-unfolding isSigned signed unsigned
-quote-first h = letter [] 34 h (λ low high. omega (arith, low))
-
--- A byte behind the number, and one behind that: no number, whatever quotes do.
-quote-long : (p : List ℕ) (x y : ℕ) (q : List ℕ) → ((s : List ℕ) → isSigned (p ++ x ∷ s) ≡ false) → isSigned (unquoted (34 ∷ (p ++ x ∷ y ∷ q))) ≡ false
-unfolding unquoted
-quote-long p x y q never-so = split (quoted f) refl
-  where
-    f : List ℕ
-    f = 34 ∷ (p ++ x ∷ y ∷ q)
-
-    count : length f - 2 ≡ length p + suc (length q)
-    count = omega (arith, length-append p (x ∷ y ∷ q))
-
-    split : (b : Bool) → quoted f ≡ b → isSigned (unquoted f) ≡ false
-    split true e =
-        let inner : unquoted f ≡ p ++ x ∷ take (length q) (y ∷ q)
-        = rw (e, unquoted) (ap (λ (n : ℕ). take n (p ++ x ∷ y ∷ q)) count ∙ take-append-add p (x ∷ y ∷ q) (suc (length q))) in
-        ap isSigned inner ∙ never-so (take (length q) (y ∷ q))
-    split false e = ap isSigned (is-bare f e) ∙ quote-first (p ++ x ∷ y ∷ q)
-
 -- The last byte.
 last-byte : (p : List ℕ) (x : ℕ) → getD (p ++ x ∷ []) (length (p ++ x ∷ []) - 1) 0 ≡ x
 last-byte p x =
     let n : length (p ++ x ∷ []) - 1 ≡ length p = omega (arith, length-append p (x ∷ [])) in
     rw (n, getD-append-seam p x [] 0)
 
--- A byte behind the number that is no quote.
-quote-other : (p : List ℕ) (x : ℕ) → (x ≡ 34 → ⊥) → isSigned (unquoted (34 ∷ (p ++ x ∷ []))) ≡ false
-quote-other p x h = rw (bare) (quote-first (p ++ x ∷ []))
-  where
-    bare : unquoted (34 ∷ (p ++ x ∷ [])) ≡ 34 ∷ (p ++ x ∷ [])
-    bare = quoted-last (34 ∷ (p ++ x ∷ [])) (rw (last-byte (34 ∷ p) x) h)
+-- A quote in front of something else than a quote: bare.
+quote-other : (p : List ℕ) (x : ℕ) → (x ≡ 34 → ⊥) → unquoted (34 ∷ (p ++ x ∷ [])) ≡ 34 ∷ (p ++ x ∷ [])
+quote-other p x h = quoted-last (34 ∷ (p ++ x ∷ [])) (rw (last-byte (34 ∷ p) x) h)
 
--- Nothing behind it.
-quote-open : (p : List ℕ) → Plain p → isSigned (unquoted (34 ∷ p)) ≡ false
-quote-open [] h = ap isSigned (quoted-short (34 ∷ []) (omega arith)) ∙ quote-first []
+-- Nothing behind plain bytes: bare.
+quote-open : (p : List ℕ) → Plain p → unquoted (34 ∷ p) ≡ 34 ∷ p
+quote-open [] h = quoted-short (34 ∷ []) (omega arith)
 quote-open (b ∷ p) h =
     let n : length (34 ∷ b ∷ p) - 1 ≡ suc (length p) = omega arith in
-    ap isSigned (quoted-last (34 ∷ b ∷ p) (λ e. no-quote (b ∷ p) (length p) h (omega arith) (sym (ap (λ (k : ℕ). getD (34 ∷ b ∷ p) k 0) n) ∙ e)))
-    ∙ quote-first (b ∷ p)
+    quoted-last (34 ∷ b ∷ p) (λ e. no-quote (b ∷ p) (length p) h (omega arith) (sym (ap (λ (k : ℕ). getD (34 ∷ b ∷ p) k 0) n) ∙ e))
   where
     no-quote : (p : List ℕ) (i : ℕ) → Plain p → i < length p → getD p i 0 ≡ 34 → ⊥
     no-quote [] i h l e = omega arith
     no-quote (b ∷ p) zero h l e = h .1 e
     no-quote (b ∷ p) (suc i) h l e = no-quote p i (h .3) (omega arith) e
 
--- A quote, and nothing behind that.
+-- A quote, and nothing behind that: both go.
 quote-both : (p : List ℕ) → unquoted (34 ∷ (p ++ 34 ∷ [])) ≡ p
 quote-both p =
     let m : length (34 ∷ (p ++ 34 ∷ [])) - 2 ≡ length p = omega (arith, length-append p (34 ∷ [])) in
@@ -227,81 +200,185 @@ quote-both p =
     = quoted-both (34 ∷ (p ++ 34 ∷ [])) (omega (arith, length-append p (34 ∷ []))) refl (last-byte (34 ∷ p) 34) in
     rw (inner, m, take-append-seam p (34 ∷ []))
 
--- ---- the field at the cursor
+-- ---- the field at the cursor, read as far as a test may accept it
 
--- A field that holds the bytes p as far as position e: it is p if it ends there, and no number if not.
-pub record Closed (t : List ℕ) (at e : ℕ) (p : List ℕ) : Type 0 where
-  pub from : at ≤ e
-  pub inside : e ≤ length t
-  pub rest : later t at ≡ later t e
-  pub line : nextLine t at ≡ nextLine t e
-  pub whole : raw t e ≡ [] → firstField t at ≡ p
-  pub broken : e < length t → (s : List ℕ) → raw t e ≡ getD t e 0 ∷ s → isSigned (firstField t at) ≡ false
-
--- A bare one.
-pub closed-bare : (t : List ℕ) (at : ℕ) (c : SignedAt) → standsAt t at 34 ≡ false → SignedRead t at c → Closed t at (c .end) (part t at (c .end))
-closed-bare t at c n r =
-    let g : Goes t at (c .end) (part t at (c .end)) = goes-plain t at (c .end) (r .from) (r .inside) (r .plain) in
-    let f : firstField t at ≡ part t at (c .end) ++ raw t (c .end) = first-raw t at ∙ quoted-first (raw t at) (first (raw-first t at)) ∙ g .field in
-    record {
-      from = r .from;
-      inside = r .inside;
-      rest = g .rest;
-      line = g .line;
-      whole = λ z. f ∙ ap (λ (s : List ℕ). part t at (c .end) ++ s) z ∙ append-nil (part t at (c .end));
-      broken = λ h s z. ap isSigned (f ∙ ap (λ (s : List ℕ). part t at (c .end) ++ s) z) ∙ r .longest h s;
-    }
-  where
-    first : (raw t at ≡ []) ⊎ ((at < length t) × (raw t at ≡ getD t at 0 ∷ raw t (at + 1))) → getD (raw t at) 0 0 ≡ 34 → ⊥
-    first (inl z) e = let k : _≡_ {A = ℕ} 0 34 = ap (λ (l : List ℕ). getD l 0 0) (sym z) ∙ e in omega (arith, k)
-    first (inr z) e = stands-no t at 34 n (z .0) (ap (λ (l : List ℕ). getD l 0 0) (sym (z .1)) ∙ e)
-
-module _ (t : List ℕ) (at : ℕ) (c : SignedAt) (y : standsAt t at 34 ≡ true) (r : SignedRead t (at + 1) c) where
-  -- One that a quote begins.
-  opened : Goes t at (c .end) (34 ∷ part t (at + 1) (c .end))
-  opened = goes-on (raw-quote t at y) (goes-plain t (at + 1) (c .end) (r .from) (r .inside) (r .plain))
-
-  opened-first : firstField t at ≡ unquoted (34 ∷ (part t (at + 1) (c .end) ++ raw t (c .end)))
-  opened-first = first-raw t at ∙ ap unquoted (opened .field)
-
-  -- And one ends.
-  pub closed-quoted : standsAt t (c .end) 34 ≡ true → Closed t at (c .end + 1) (part t (at + 1) (c .end))
-  closed-quoted e =
-      let g : Goes t (c .end) (c .end + 1) (34 ∷ []) = raw-quote t (c .end) e in
-      let k = stands-yes t (c .end) 34 e in
-      let bad : (s : List ℕ) → isSigned (part t (at + 1) (c .end) ++ 34 ∷ s) ≡ false = λ s. rw (k .1) at (r .longest (k .0) s) in
-      let f : firstField t at ≡ unquoted (34 ∷ (part t (at + 1) (c .end) ++ 34 ∷ raw t (c .end + 1)))
-      = opened-first ∙ ap (λ (s : List ℕ). unquoted (34 ∷ (part t (at + 1) (c .end) ++ s))) (g .field) in
-      record {
-        from = omega (arith, r .from);
-        inside = omega (arith, k .0);
-        rest = opened .rest ∙ g .rest;
-        line = opened .line ∙ g .line;
-        whole = λ z. f ∙ ap (λ (s : List ℕ). unquoted (34 ∷ (part t (at + 1) (c .end) ++ 34 ∷ s))) z ∙ quote-both (part t (at + 1) (c .end));
-        broken = λ h s z. ap isSigned (f ∙ ap (λ (s : List ℕ). unquoted (34 ∷ (part t (at + 1) (c .end) ++ 34 ∷ s))) z)
-            ∙ quote-long (part t (at + 1) (c .end)) 34 (getD t (c .end + 1) 0) s bad;
-      }
-
-  -- And none ends: no number.
-  pub unclosed : standsAt t (c .end) 34 ≡ false → isSigned (firstField t at) ≡ false
-  unclosed n = split (raw-first t (c .end))
+-- The test accepts no field that begins with a quote.
+module _ (accepts : List ℕ → Bool) (no-quote : (h : List ℕ) → accepts (34 ∷ h) ≡ false) where
+  -- A byte behind what is accepted, and one behind that: not accepted, whatever quotes do.
+  quote-long : (p : List ℕ) (x y : ℕ) (q : List ℕ) → ((s : List ℕ) → accepts (p ++ x ∷ s) ≡ false) → accepts (unquoted (34 ∷ (p ++ x ∷ y ∷ q))) ≡ false
+  unfolding unquoted
+  quote-long p x y q never-so = split (quoted f) refl
     where
-      whole : (s : List ℕ) → raw t (c .end) ≡ s → isSigned (firstField t at) ≡ isSigned (unquoted (34 ∷ (part t (at + 1) (c .end) ++ s)))
-      whole s z = ap isSigned (opened-first ∙ ap (λ (s : List ℕ). unquoted (34 ∷ (part t (at + 1) (c .end) ++ s))) z)
+      f : List ℕ
+      f = 34 ∷ (p ++ x ∷ y ∷ q)
 
-      two : c .end < length t → (s : List ℕ) → isSigned (unquoted (34 ∷ (part t (at + 1) (c .end) ++ getD t (c .end) 0 ∷ s))) ≡ false
-      two h [] = quote-other (part t (at + 1) (c .end)) (getD t (c .end) 0) (stands-no t (c .end) 34 n h)
-      two h (x ∷ s) = quote-long (part t (at + 1) (c .end)) (getD t (c .end) 0) x s (r .longest h)
+      count : length f - 2 ≡ length p + suc (length q)
+      count = omega (arith, length-append p (x ∷ y ∷ q))
 
-      split : (raw t (c .end) ≡ []) ⊎ ((c .end < length t) × (raw t (c .end) ≡ getD t (c .end) 0 ∷ raw t (c .end + 1)))
-          → isSigned (firstField t at) ≡ false
-      split (inl z) =
-          whole [] z
-          ∙ ap (λ (s : List ℕ). isSigned (unquoted (34 ∷ s))) (append-nil (part t (at + 1) (c .end)))
-          ∙ quote-open (part t (at + 1) (c .end)) (r .plain)
-      split (inr z) = whole _ (z .1) ∙ two (z .0) (raw t (c .end + 1))
+      split : (b : Bool) → quoted f ≡ b → accepts (unquoted f) ≡ false
+      split true e =
+          let inner : unquoted f ≡ p ++ x ∷ take (length q) (y ∷ q)
+          = rw (e, unquoted) (ap (λ (n : ℕ). take n (p ++ x ∷ y ∷ q)) count ∙ take-append-add p (x ∷ y ∷ q) (suc (length q))) in
+          ap accepts inner ∙ never-so (take (length q) (y ∷ q))
+      split false e = ap accepts (is-bare f e) ∙ no-quote (p ++ x ∷ y ∷ q)
 
--- ---- what the cursor tells
+  -- A field that holds the bytes p as far as position e: it is p if it ends there, and not accepted if not.
+  pub record Closed (t : List ℕ) (at e : ℕ) (p : List ℕ) : Type 0 where
+    pub from : at ≤ e
+    pub inside : e ≤ length t
+    pub rest : later t at ≡ later t e
+    pub line : nextLine t at ≡ nextLine t e
+    pub whole : raw t e ≡ [] → firstField t at ≡ p
+    pub broken : e < length t → (s : List ℕ) → raw t e ≡ getD t e 0 ∷ s → accepts (firstField t at) ≡ false
+
+  -- A bare one.
+  pub closed-bare : (t : List ℕ) (at e : ℕ) {b : Bool} → standsAt t at 34 ≡ false → Longest accepts t at e b → Closed t at e (part t at e)
+  closed-bare t at e n r =
+      let g : Goes t at e (part t at e) = goes-plain t at e (r .from) (r .inside) (r .plain) in
+      let f : firstField t at ≡ part t at e ++ raw t e = first-raw t at ∙ quoted-first (raw t at) (first (raw-first t at)) ∙ g .field in
+      record {
+        from = r .from;
+        inside = r .inside;
+        rest = g .rest;
+        line = g .line;
+        whole = λ z. f ∙ ap (λ (s : List ℕ). part t at e ++ s) z ∙ append-nil (part t at e);
+        broken = λ h s z. ap accepts (f ∙ ap (λ (s : List ℕ). part t at e ++ s) z) ∙ r .longest h s;
+      }
+    where
+      first : (raw t at ≡ []) ⊎ ((at < length t) × (raw t at ≡ getD t at 0 ∷ raw t (at + 1))) → getD (raw t at) 0 0 ≡ 34 → ⊥
+      first (inl z) q = let k : _≡_ {A = ℕ} 0 34 = ap (λ (l : List ℕ). getD l 0 0) (sym z) ∙ q in omega (arith, k)
+      first (inr z) q = stands-no t at 34 n (z .0) (ap (λ (l : List ℕ). getD l 0 0) (sym (z .1)) ∙ q)
+
+  module _ (t : List ℕ) (at e : ℕ) {b : Bool} (y : standsAt t at 34 ≡ true) (r : Longest accepts t (at + 1) e b) where
+    -- One that a quote begins.
+    opened : Goes t at e (34 ∷ part t (at + 1) e)
+    opened = goes-on (raw-quote t at y) (goes-plain t (at + 1) e (r .from) (r .inside) (r .plain))
+
+    opened-first : firstField t at ≡ unquoted (34 ∷ (part t (at + 1) e ++ raw t e))
+    opened-first = first-raw t at ∙ ap unquoted (opened .field)
+
+    -- And one ends.
+    pub closed-quoted : standsAt t e 34 ≡ true → Closed t at (e + 1) (part t (at + 1) e)
+    closed-quoted q =
+        let g : Goes t e (e + 1) (34 ∷ []) = raw-quote t e q in
+        let k = stands-yes t e 34 q in
+        let bad : (s : List ℕ) → accepts (part t (at + 1) e ++ 34 ∷ s) ≡ false = λ s. rw (k .1) at (r .longest (k .0) s) in
+        let f : firstField t at ≡ unquoted (34 ∷ (part t (at + 1) e ++ 34 ∷ raw t (e + 1)))
+        = opened-first ∙ ap (λ (s : List ℕ). unquoted (34 ∷ (part t (at + 1) e ++ s))) (g .field) in
+        record {
+          from = omega (arith, r .from);
+          inside = omega (arith, k .0);
+          rest = opened .rest ∙ g .rest;
+          line = opened .line ∙ g .line;
+          whole = λ z. f ∙ ap (λ (s : List ℕ). unquoted (34 ∷ (part t (at + 1) e ++ 34 ∷ s))) z ∙ quote-both (part t (at + 1) e);
+          broken = λ h s z. ap accepts (f ∙ ap (λ (s : List ℕ). unquoted (34 ∷ (part t (at + 1) e ++ 34 ∷ s))) z)
+              ∙ quote-long (part t (at + 1) e) 34 (getD t (e + 1) 0) s bad;
+        }
+
+    -- And none ends: not accepted.
+    pub unclosed : standsAt t e 34 ≡ false → accepts (firstField t at) ≡ false
+    unclosed n = split (raw-first t e)
+      where
+        whole : (s : List ℕ) → raw t e ≡ s → accepts (firstField t at) ≡ accepts (unquoted (34 ∷ (part t (at + 1) e ++ s)))
+        whole s z = ap accepts (opened-first ∙ ap (λ (s : List ℕ). unquoted (34 ∷ (part t (at + 1) e ++ s))) z)
+
+        two : e < length t → (s : List ℕ) → accepts (unquoted (34 ∷ (part t (at + 1) e ++ getD t e 0 ∷ s))) ≡ false
+        two h [] = ap accepts (quote-other (part t (at + 1) e) (getD t e 0) (stands-no t e 34 n h)) ∙ no-quote _
+        two h (x ∷ s) = quote-long (part t (at + 1) e) (getD t e 0) x s (r .longest h)
+
+        split : (raw t e ≡ []) ⊎ ((e < length t) × (raw t e ≡ getD t e 0 ∷ raw t (e + 1))) → accepts (firstField t at) ≡ false
+        split (inl z) =
+            whole [] z
+            ∙ ap (λ (s : List ℕ). accepts (unquoted (34 ∷ s))) (append-nil (part t (at + 1) e))
+            ∙ ap accepts (quote-open (part t (at + 1) e) (r .plain))
+            ∙ no-quote _
+        split (inr z) = whole _ (z .1) ∙ two (z .0) (raw t (e + 1))
+
+  -- Bytes of which a test says b, and where their field may end: what is told of it then.
+  module _ (t : List ℕ) (at from i e : ℕ) {b : Bool} (r : Longest accepts t from i b) (s : Closed t at e (part t from i)) where
+    -- A field that is told: accepted or not, and if it is, passed.
+    pub record Told (good more : Bool) (next : ℕ) : Type 0 where
+      pub same : good ≡ accepts (firstField t at)
+      pub field : good ≡ true → firstField t at ≡ part t from i
+      pub passed : good ≡ true → Passed t at more next
+
+    -- It is not accepted.
+    told-not : (more : Bool) (next : ℕ) → accepts (firstField t at) ≡ false → Told false more next
+    told-not more next h = record { same = sym h; field = λ p. absurd (false≢true p); passed = λ p. absurd (false≢true p) }
+
+    -- The bytes by themselves are not.
+    bytes-not : b ≡ false → accepts (firstField t at) ≡ false
+    bytes-not n = split (raw-first t e)
+      where
+        split : (raw t e ≡ []) ⊎ ((e < length t) × (raw t e ≡ getD t e 0 ∷ raw t (e + 1))) → accepts (firstField t at) ≡ false
+        split (inl z) = ap accepts (s .whole z) ∙ sym (r .good) ∙ n
+        split (inr z) = s .broken (z .0) _ (z .1)
+
+    -- A comma follows.
+    told-comma : (x : Bool) → b ≡ x → standsAt t e 44 ≡ true → Told x true (suc e)
+    unfolding behind lineBehind fieldsIn
+    told-comma false n k = told-not true (suc e) (bytes-not n)
+    told-comma true g k =
+        let w = raw-comma t e k in
+        let f : firstField t at ≡ part t from i = s .whole (w .0) in
+        let one : e + 1 ≡ suc e = add-one e in
+        record {
+          same = sym g ∙ r .good ∙ ap accepts (sym f);
+          field = λ p. f;
+          passed = λ p. rw (← one) (record {
+            fields = fields-raw t at ∙ ap (λ (ls : List (List ℕ)). firstField t at ∷ map unquoted ls) (s .rest ∙ w .1);
+            line = sym (s .line ∙ w .2);
+            further = omega (arith, s .from);
+            inside = λ m. omega (arith, w .3);
+            near = omega (arith, s .inside);
+          });
+        }
+
+    -- The record ends, or the field goes on and is not accepted.
+    told-last : (x y : Bool) → b ≡ x → endsAt t e ≡ y → standsAt t e 44 ≡ false → Told (x && y) false (suc e)
+    unfolding behind lineBehind fieldsIn
+    told-last false y n h k = told-not false (suc e) (bytes-not n)
+    told-last true false g h k = let w = raw-on t e k h in told-not false (suc e) (s .broken (w .0) _ (w .1 .field))
+    told-last true true g h k =
+        let w = raw-end t e h in
+        let f : firstField t at ≡ part t from i = s .whole (w .0) in
+        record {
+          same = sym g ∙ r .good ∙ ap accepts (sym f);
+          field = λ p. f;
+          passed = λ p. record {
+            fields = fields-raw t at ∙ ap (λ (ls : List (List ℕ)). firstField t at ∷ map unquoted ls) (s .rest ∙ w .1);
+            line = omega (arith, s .line, w .2);
+            further = omega (arith, s .from);
+            inside = λ m. absurd (false≢true m);
+            near = omega (arith, s .inside);
+          };
+        }
+
+    -- So the field is told.
+    pub told-ended : (c : SignedAt) → c .good ≡ b → (f : FieldAt) → EndedAt t c e f
+        → Told (f .good) (f .more) (f .next) × (f .absent ≡ c .absent) × (f .value ≡ c .value)
+    told-ended c g f a = split (standsAt t e 44) refl
+      where
+        split : (x : Bool) → standsAt t e 44 ≡ x → Told (f .good) (f .more) (f .next) × (f .absent ≡ c .absent) × (f .value ≡ c .value)
+        split true k = rw (a .comma k, g) (told-comma b refl k, refl, refl)
+        split false k = rw (a .last k, g) (told-last b (endsAt t e) refl refl k, refl, refl)
+
+-- A comma follows what was read: a further field comes.
+pub ended-comma : (t : List ℕ) (c : SignedAt) (e : ℕ) → standsAt t e 44 ≡ true
+    → EndedAt t c e (record { good = c .good; absent = c .absent; value = c .value; more = true; next = e + 1 })
+ended-comma t c e k = record { comma = λ p. rw add-one; last = λ p. absurd (false≢true (sym p ∙ k)) }
+
+-- No comma follows: the record must end there.
+pub ended-last : (t : List ℕ) (c : SignedAt) (e : ℕ) (b : Bool) → standsAt t e 44 ≡ false → b ≡ (c .good && endsAt t e)
+    → EndedAt t c e (record { good = b; absent = c .absent; value = c .value; more = false; next = e + 1 })
+ended-last t c e b k g = record { comma = λ p. absurd (false≢true (sym k ∙ p)); last = λ p. rw (g, add-one) }
+
+-- ---- a number
+
+-- What begins with a quote is none.
+pub quote-first : (h : List ℕ) → isSigned (34 ∷ h) ≡ false
+unfolding isSigned signed unsigned
+quote-first h = letter [] 34 h (λ low high. omega (arith, low))
 
 -- No number.
 pub field-none : (t : List ℕ) (at v n : ℕ) (a m : Bool) → v < 10 ^ 10 → isSigned (firstField t at) ≡ false
@@ -312,87 +389,26 @@ field-none t at v n a m small bad =
       good = sym bad;
       value = λ p. absurd (false≢true p);
       absent = λ p. absurd (false≢true p);
-      fields = λ p. absurd (false≢true p);
-      line = λ p. absurd (false≢true p);
-      further = λ p. absurd (false≢true p);
-      inside = λ p. absurd (false≢true p);
-      near = λ p. absurd (false≢true p);
+      passed = λ p. absurd (false≢true p);
     }
 
-module _ (t : List ℕ) (at from e : ℕ) (c : SignedAt) (r : SignedRead t from c) (s : Closed t at e (part t from (c .end))) where
-  -- There was no digit.
-  pub field-bare : c .good ≡ false → isSigned (firstField t at) ≡ false
-  field-bare b = split (raw-first t e)
-    where
-      split : (raw t e ≡ []) ⊎ ((e < length t) × (raw t e ≡ getD t e 0 ∷ raw t (e + 1))) → isSigned (firstField t at) ≡ false
-      split (inl z) = ap isSigned (s .whole z) ∙ sym (r .good) ∙ b
-      split (inr z) = s .broken (z .0) _ (z .1)
-
-  module _ (g : c .good ≡ true) where
-    -- A comma follows.
-    pub field-comma : standsAt t e 44 ≡ true
-        → FieldNext t at (record { good = true; absent = c .absent; value = c .value; more = true; next = e + 1 })
-    unfolding behind lineBehind fieldsIn
-    field-comma k =
-        let w = raw-comma t e k in
-        let f : firstField t at ≡ part t from (c .end) = s .whole (w .0) in
-        record {
-          small = r .small;
-          good = sym g ∙ r .good ∙ ap isSigned (sym f);
-          value = λ p. r .value g ∙ ap (λ (l : List ℕ). decimalValue (unsigned l)) (sym f);
-          absent = λ p. r .absent g ∙ ap signed (sym f);
-          fields = λ p. fields-raw t at ∙ ap (λ (ls : List (List ℕ)). firstField t at ∷ map unquoted ls) (s .rest ∙ w .1);
-          line = λ p. sym (s .line ∙ w .2);
-          further = λ p. omega (arith, s .from);
-          inside = λ p m. omega (arith, w .3);
-          near = λ p. omega (arith, s .inside);
-        }
-
-    -- The record ends, or the field goes on and is no number.
-    pub field-last : standsAt t e 44 ≡ false → (b : Bool) → b ≡ endsAt t e
-        → FieldNext t at (record { good = b; absent = c .absent; value = c .value; more = false; next = e + 1 })
-    unfolding behind lineBehind fieldsIn
-    field-last k true n =
-        let w = raw-end t e (sym n) in
-        let f : firstField t at ≡ part t from (c .end) = s .whole (w .0) in
-        record {
-          small = r .small;
-          good = sym g ∙ r .good ∙ ap isSigned (sym f);
-          value = λ p. r .value g ∙ ap (λ (l : List ℕ). decimalValue (unsigned l)) (sym f);
-          absent = λ p. r .absent g ∙ ap signed (sym f);
-          fields = λ p. fields-raw t at ∙ ap (λ (ls : List (List ℕ)). firstField t at ∷ map unquoted ls) (s .rest ∙ w .1);
-          line = λ p. omega (arith, s .line, w .2);
-          further = λ p. omega (arith, s .from);
-          inside = λ p m. absurd (false≢true m);
-          near = λ p. omega (arith, s .inside);
-        }
-    field-last k false n =
-        let w = raw-on t e k (sym n) in
-        field-none t at (c .value) (e + 1) (c .absent) false (r .small) (s .broken (w .0) _ (w .1 .field))
-
--- A comma follows a number that was read: a further field comes.
-pub ended-comma : (t : List ℕ) (c : SignedAt) (e : ℕ) → standsAt t e 44 ≡ true
-    → EndedAt t c e (record { good = c .good; absent = c .absent; value = c .value; more = true; next = e + 1 })
-ended-comma t c e k = record { comma = λ p. rw add-one; last = λ p. absurd (false≢true (sym p ∙ k)) }
-
--- No comma follows: the record must end there.
-pub ended-last : (t : List ℕ) (c : SignedAt) (e : ℕ) (b : Bool) → standsAt t e 44 ≡ false → b ≡ (c .good && endsAt t e)
-    → EndedAt t c e (record { good = b; absent = c .absent; value = c .value; more = false; next = e + 1 })
-ended-last t c e b k g = record { comma = λ p. absurd (false≢true (sym k ∙ p)); last = λ p. rw (g, add-one) }
-
--- So the field is told.
-pub field-ended : (t : List ℕ) (at from e : ℕ) (c : SignedAt) → SignedRead t from c → Closed t at e (part t from (c .end)) → (r : FieldAt) → EndedAt t c e r
-    → FieldNext t at r
-field-ended t at from e c s w r a = split (standsAt t e 44) refl (c .good) refl
+-- A number that was read, and its field ended.
+pub field-ended : (t : List ℕ) (at from e : ℕ) (c : SignedAt) → SignedRead t from c → Closed isSigned quote-first t at e (part t from (c .end))
+    → (r : FieldAt) → EndedAt t c e r → FieldNext t at r
+field-ended t at from e c s w r a =
+    let told = told-ended isSigned quote-first t at from (c .end) e (s .taken) w c refl r a in
+    record {
+      small = rw (told .2) (s .small);
+      good = told .0 .same;
+      value = λ p. told .2 ∙ s .value (good p) ∙ ap (λ (l : List ℕ). decimalValue (unsigned l)) (sym (told .0 .field p));
+      absent = λ p. told .1 ∙ s .absent (good p) ∙ ap signed (sym (told .0 .field p));
+      passed = told .0 .passed;
+    }
   where
-    one : e + 1 ≡ suc e
-    one = omega arith
-
-    split : (x : Bool) → standsAt t e 44 ≡ x → (g : Bool) → c .good ≡ g → FieldNext t at r
-    split true k true g = rw (a .comma k, g, ← one) (field-comma t at from e c s w g k)
-    split false k true g = rw (a .last k, g, ← one) (field-last t at from e c s w g k (endsAt t e) refl)
-    split true k false g = rw (a .comma k, g) (field-none t at (c .value) (suc e) (c .absent) true (s .small) (field-bare t at from e c s w g))
-    split false k false g = rw (a .last k, g) (field-none t at (c .value) (suc e) (c .absent) false (s .small) (field-bare t at from e c s w g))
+    good : r .good ≡ true → c .good ≡ true
+    good p =
+        let told = told-ended isSigned quote-first t at from (c .end) e (s .taken) w c refl r a in
+        s .taken .good ∙ ap isSigned (sym (told .0 .field p)) ∙ sym (told .0 .same) ∙ p
 
 -- ---- the measure of a walk
 

@@ -6,6 +6,7 @@ use mathlib.Core.List.{List, [], _∷_, _++_}
 use Prim.Native.Nat.{ℕ, suc, _-_, _<_, _≤_, _^_}
 use lib.ListN.{length, getD, take, drop}
 use lib.Dec.{eqb, ltb}
+use Rattle.rules.specs.Sheet.{sameNumbers}
 use Rattle.rules.specs.Text.{decimal, decimalValue}
 use Rattle.decimal.specs.Numerals.{isNumeral}
 use Rattle.csv.specs.Cut.{fieldsIn}
@@ -37,6 +38,10 @@ Plain (b ∷ bs) = (b ≡ 13 → ⊥) × (b ≡ 34 → ⊥) × (b ≡ 44 → ⊥
 unfoldable pub isSigned : List ℕ → Bool
 isSigned f = isNumeral (unsigned f)
 
+-- A field that is this word.
+abbrev pub isWord : List ℕ → List ℕ → Bool
+isWord w f = sameNumbers f w
+
 -- The field at a position of a text.
 unfoldable pub firstField : List ℕ → ℕ → List ℕ
 firstField t at = getD (fieldsIn (lineAt t at)) 0 []
@@ -59,41 +64,57 @@ pub record NumberRead (t : List ℕ) (at : ℕ) (r : NumberAt) : Type 0 where
   pub number : at < r .end → decimal (r .value) ≡ part t at (r .end)
   pub longest : r .end < length t → (s : List ℕ) → isNumeral (part t at (r .end) ++ getD t (r .end) 0 ∷ s) ≡ false
 
--- The same with a minus in front, or without.
+-- What stands between two positions is the longest start of a field that a test may accept; b says whether it is accepted as it is.
+pub record Longest (accepts : List ℕ → Bool) (t : List ℕ) (at e : ℕ) (b : Bool) : Type 0 where
+  pub from : at ≤ e
+  pub inside : e ≤ length t
+  pub plain : Plain (part t at e)
+  pub good : b ≡ accepts (part t at e)
+  pub longest : e < length t → (s : List ℕ) → accepts (part t at e ++ getD t e 0 ∷ s) ≡ false
+
+-- A number at a position, with a minus in front or without.
 pub record SignedRead (t : List ℕ) (at : ℕ) (r : SignedAt) : Type 0 where
-  pub from : at ≤ r .end
-  pub inside : r .end ≤ length t
+  pub taken : Longest isSigned t at (r .end) (r .good)
   pub small : r .value < 10 ^ 10
-  pub plain : Plain (part t at (r .end))
-  pub good : r .good ≡ isSigned (part t at (r .end))
   pub value : r .good ≡ true → r .value ≡ decimalValue (unsigned (part t at (r .end)))
   pub absent : r .good ≡ true → r .absent ≡ signed (part t at (r .end))
-  pub longest : r .end < length t → (s : List ℕ) → isSigned (part t at (r .end) ++ getD t (r .end) 0 ∷ s) ≡ false
 
--- A number that was read, and whether its field ends at a position: a comma, the end of the record, or neither.
+-- What was read, and whether its field ends at a position: a comma, the end of the record, or neither.
 pub record EndedAt (t : List ℕ) (c : SignedAt) (e : ℕ) (r : FieldAt) : Type 0 where
   pub comma : standsAt t e 44 ≡ true → r ≡ record { good = c .good; absent = c .absent; value = c .value; more = true; next = suc e }
   pub last : standsAt t e 44 ≡ false
       → r ≡ record { good = c .good && endsAt t e; absent = c .absent; value = c .value; more = false; next = suc e }
 
--- The field at a position, bare or in quotes, and what follows it.
+-- The field at a position was passed: those that are left are behind `next`, if there are more.
+pub record Passed (t : List ℕ) (at : ℕ) (more : Bool) (next : ℕ) : Type 0 where
+  pub fields : fieldsIn (lineAt t at) ≡ firstField t at ∷ behind more t next
+  pub line : lineBehind more t next ≡ nextLine t at
+  pub further : at < next
+  pub inside : more ≡ true → next ≤ length t
+  pub near : next ≤ suc (length t)
+
+-- The field at a position as a number, perhaps behind a minus.
 pub record FieldNext (t : List ℕ) (at : ℕ) (r : FieldAt) : Type 0 where
   pub small : r .value < 10 ^ 10
   pub good : r .good ≡ isSigned (firstField t at)
   pub value : r .good ≡ true → r .value ≡ decimalValue (unsigned (firstField t at))
   pub absent : r .good ≡ true → r .absent ≡ signed (firstField t at)
-  pub fields : r .good ≡ true → fieldsIn (lineAt t at) ≡ firstField t at ∷ behind (r .more) t (r .next)
-  pub line : r .good ≡ true → lineBehind (r .more) t (r .next) ≡ nextLine t at
-  pub further : r .good ≡ true → at < r .next
-  pub inside : r .good ≡ true → r .more ≡ true → r .next ≤ length t
-  pub near : r .good ≡ true → r .next ≤ suc (length t)
+  pub passed : r .good ≡ true → Passed t at (r .more) (r .next)
 
--- The same as a fault.
+-- As a number without one.
+pub record NumeralNext (t : List ℕ) (at : ℕ) (r : FieldAt) : Type 0 where
+  pub small : r .value < 10 ^ 10
+  pub good : r .good ≡ isNumeral (firstField t at)
+  pub value : r .good ≡ true → r .value ≡ decimalValue (firstField t at)
+  pub passed : r .good ≡ true → Passed t at (r .more) (r .next)
+
+-- As a word.
+pub record WordNext (w : List ℕ) (t : List ℕ) (at : ℕ) (r : FieldAt) : Type 0 where
+  pub good : r .good ≡ isWord w (firstField t at)
+  pub passed : r .good ≡ true → Passed t at (r .more) (r .next)
+
+-- As a fault.
 pub record FaultNext (t : List ℕ) (at : ℕ) (r : FaultAt) : Type 0 where
   pub good : r .good ≡ isFault (firstField t at)
   pub fault : r .good ≡ true → r .fault ≡ faultIn (firstField t at)
-  pub fields : r .good ≡ true → fieldsIn (lineAt t at) ≡ firstField t at ∷ behind (r .more) t (r .next)
-  pub line : r .good ≡ true → lineBehind (r .more) t (r .next) ≡ nextLine t at
-  pub further : r .good ≡ true → at < r .next
-  pub inside : r .good ≡ true → r .more ≡ true → r .next ≤ length t
-  pub near : r .good ≡ true → r .next ≤ suc (length t)
+  pub passed : r .good ≡ true → Passed t at (r .more) (r .next)

@@ -1,31 +1,17 @@
--- What the steps of a walk over the fields of a line tell.
--- Rests on Scan.antt and on `csv`, Shapes.
+-- What the steps of a walk over the faults of a way tell.
+-- Rests on `csv`, Shapes.
 -- Faults at places below 64 are near: they have a bit in the words of a sheet. A far one has none.
 use mathlib.Core.Path.{_≡_}
 use mathlib.Core.Bool.{Bool, true, false, not, _&&_, _||_}
 use mathlib.Core.List.{List, [], _∷_, map}
-use Prim.Native.Nat.{ℕ, _<_, _^_}
-use lib.ListN.{length}
-use lib.Dec.{ltb, leb}
+use Prim.Native.Nat.{ℕ, _^_}
+use lib.Dec.{ltb}
 use lib.Bits.{bitOr}
 use Rattle.rules.specs.Table.{bit}
-use Rattle.rules.specs.Text.{decimalValue}
-use Rattle.decimal.specs.Numerals.{isNumeral}
 use Rattle.csv.specs.declared.Fault.{Fault}
 use Rattle.csv.specs.Shapes.{faultIn, allFaults, among, repeats, wordOf}
-use Rattle.csv_rows.specs.declared.NumeralAt.{NumeralAt}
 use Rattle.csv_rows.specs.declared.Words.{Words}
 use Rattle.csv_rows.specs.declared.NamesSaid.{NamesSaid}
-use Rattle.csv_rows.specs.Scan.{fieldAt, nextField}
-
--- The field at a position as a number, and where the next one starts.
-pub record NumeralNext (l : List ℕ) (at : ℕ) (r : NumeralAt) : Type 0 where
-  pub good : r .good ≡ (leb at (length l) && isNumeral (fieldAt l at))
-  pub value : r .good ≡ true → r .value ≡ decimalValue (fieldAt l at)
-  pub small : r .value < 10 ^ 10
-  pub next : r .good ≡ true → r .next ≡ nextField l at
-
--- ---- the words of the faults so far
 
 -- The word of a sense.
 unfoldable pub wordFor : Bool → Words → ℕ

@@ -1,14 +1,28 @@
 //! A field of a text read where it stands, by one cursor: no end is looked for ahead, so every byte is read once.
-//! Rests on `fields`. A number, perhaps behind a minus, bare or in quotes, is all that such a field may be.
+//! Rests on nothing but the text. A number, perhaps behind a minus, or a word, bare or in quotes, is all that such a field may be.
 ghost use mathlib.Core.Path.{_≡_};
 ghost use mathlib.Core.Bool.{true};
-ghost use Prim.Native.Nat.{_≤_};
+ghost use Prim.Native.Nat.{_≤_, _<_};
 ghost use lib.ListN.{length};
-ghost use Rattle.csv_rows.specs.Cursor.{standsAt, endsAt, NumberRead, SignedRead, EndedAt, FieldNext};
+ghost use Rattle.csv_rows.specs.Scan.{breaksAt};
+ghost use Rattle.csv_rows.specs.Cursor.{standsAt, endsAt, Plain, isWord, NumberRead, Longest, SignedRead, EndedAt, FieldNext, NumeralNext, WordNext};
 use super::FieldAt;
 use super::NumberAt;
 use super::SignedAt;
-use super::fields::breaks;
+
+/// CR LF stands at a position.
+fn breaks(text: &[u8], i: usize) -> bool
+    requires { ⌜ i < length (now text) ⌝ }
+    ensures { λ r. ⌜ r ≡ breaksAt (now (text .entry)) i ⌝ }
+{
+    if text[i] != 13 {
+        return false;
+    }
+    if text.len() - i == 1 {
+        return false;
+    }
+    text[i + 1] == 10
+}
 
 /// A byte stands at a position.
 pub fn stands(text: &[u8], i: usize, b: u8) -> bool
@@ -142,6 +156,71 @@ pub fn field_at(text: &[u8], at: usize) -> FieldAt
         return quoted_at(text, at);
     }
     let c = signed_at(text, at);
+    let end = c.end;
+    ended(text, c, end)
+}
+
+/// The field at a position, read as a number without a minus.
+pub fn numeral_at(text: &[u8], at: usize) -> FieldAt
+    requires { ⌜ at ≤ length (now text) ⌝ }
+    ensures { λ r. ⌜ NumeralNext (now (text .entry)) at r ⌝ }
+{
+    let mut f = field_at(text, at);
+    if f.absent {
+        f.good = false;
+    }
+    f
+}
+
+/// The bytes of a word at a position, as far as they stand there.
+fn spelled(text: &[u8], at: usize, word: &[u8]) -> SignedAt
+    requires { ⌜ at ≤ length (now text) ⌝ }
+    requires { ⌜ Plain (now word) ⌝ }
+    ensures { λ r. ⌜ Longest (isWord (now (word .entry))) (now (text .entry)) at (r .end) (r .good) ⌝ }
+{
+    let mut n: usize = 0;
+    let mut end = at;
+    while n < word.len() {
+        if !stands(text, end, word[n]) {
+            return SignedAt {
+                good: false,
+                absent: false,
+                value: 0,
+                end,
+            };
+        }
+        n += 1;
+        end += 1;
+    }
+    SignedAt {
+        good: true,
+        absent: false,
+        value: 0,
+        end,
+    }
+}
+
+/// The field at a position, read as a word.
+pub fn word_at(text: &[u8], at: usize, word: &[u8]) -> FieldAt
+    requires { ⌜ at ≤ length (now text) ⌝ }
+    requires { ⌜ Plain (now word) ⌝ }
+    ensures { λ r. ⌜ WordNext (now (word .entry)) (now (text .entry)) at r ⌝ }
+{
+    if stands(text, at, 34) {
+        let c = spelled(text, at + 1, word);
+        let end = c.end;
+        if stands(text, end, 34) {
+            return ended(text, c, end + 1);
+        }
+        return FieldAt {
+            good: false,
+            absent: false,
+            value: 0,
+            more: false,
+            next: end,
+        };
+    }
+    let c = spelled(text, at, word);
     let end = c.end;
     ended(text, c, end)
 }

@@ -1,20 +1,22 @@
-//! The first two records of a text: the limits and the weights. Rests on `fields`.
+//! The first two records of a text: the limits and the weights. Rests on `cursor`.
 ghost use mathlib.Core.Path.{_≡_};
-ghost use Prim.Native.Nat.{ℕ, min};
-ghost use lib.ListN.{set};
+ghost use mathlib.Core.Bool.{true};
+ghost use Prim.Native.Nat.{ℕ, _≤_, min};
+ghost use lib.ListN.{length, set};
 ghost use Rattle.csv.specs.Cut.{fieldsIn};
+ghost use Rattle.csv_rows.specs.Scan.{lineAt, nextLine};
 ghost use Rattle.csv_rows.specs.Told.{ToldRun, ToldWeights};
 use super::RunSaid;
 use super::WeightsSaid;
-use super::fields::field_end;
-use super::fields::numeral_at;
-use super::fields::same;
-use super::fields::unquoted;
+use super::cursor::numeral_at;
+use super::cursor::word_at;
 use rules::Limits;
 
-/// The record of the limits: `run`, allowance, budget.
-pub fn run(line: &[u8]) -> RunSaid
-    ensures { λ r. ⌜ ToldRun (fieldsIn (now (line .entry))) r ⌝ }
+/// The record of the limits in the line at a position: `run`, allowance, budget.
+pub fn run(text: &[u8], at: usize) -> RunSaid
+    requires { ⌜ at ≤ length (now text) ⌝ }
+    ensures { λ r. ⌜ ToldRun (fieldsIn (lineAt (now (text .entry)) at)) r ⌝ }
+    ensures { λ r. ⌜ (r .good ≡ true → r .next ≡ nextLine (now (text .entry)) at) ⌝ }
 {
     let none = RunSaid {
         good: false,
@@ -22,20 +24,27 @@ pub fn run(line: &[u8]) -> RunSaid
             allowance: 0,
             budget: 0,
         },
+        next: at,
     };
-    let end = field_end(line, 0);
-    if !same(unquoted(&line[0..end]), b"run") {
+    let w = word_at(text, at, b"run");
+    if !w.good {
         return none;
     }
-    let a = numeral_at(line, end + 1);
+    if !w.more {
+        return none;
+    }
+    let a = numeral_at(text, w.next);
     if !a.good {
         return none;
     }
-    let b = numeral_at(line, a.next);
+    if !a.more {
+        return none;
+    }
+    let b = numeral_at(text, a.next);
     if !b.good {
         return none;
     }
-    if b.next <= line.len() {
+    if b.more {
         return none;
     }
     RunSaid {
@@ -44,6 +53,7 @@ pub fn run(line: &[u8]) -> RunSaid
             allowance: a.value,
             budget: b.value,
         },
+        next: b.next + 1,
     }
 }
 
@@ -63,22 +73,26 @@ fn store(weights: &mut [u32], i: usize, w: u32)
     }
 }
 
-/// The record of the weights: `weights`, then each weight. The list takes as many as it has room for; all are counted.
-pub fn weights(line: &[u8], weights: &mut [u32]) -> WeightsSaid
-    ensures { λ r. ⌜ ToldWeights (fieldsIn (now (line .entry))) (now (weights .entry)) (now (weights .exit)) r ⌝ }
+/// The record of the weights in the line at a position: `weights`, then each weight. The list takes as many as it has room for; all are counted.
+pub fn weights(text: &[u8], start: usize, weights: &mut [u32]) -> WeightsSaid
+    requires { ⌜ start ≤ length (now text) ⌝ }
+    ensures { λ r. ⌜ ToldWeights (fieldsIn (lineAt (now (text .entry)) start)) (now (weights .entry)) (now (weights .exit)) r ⌝ }
+    ensures { λ r. ⌜ (r .good ≡ true → r .next ≡ nextLine (now (text .entry)) start) ⌝ }
 {
     let none = WeightsSaid {
         good: false,
         count: 0,
+        next: start,
     };
-    let end = field_end(line, 0);
-    if !same(unquoted(&line[0..end]), b"weights") {
+    let word = word_at(text, start, b"weights");
+    if !word.good {
         return none;
     }
-    let mut at = end + 1;
+    let mut at = word.next;
+    let mut more = word.more;
     let mut n: usize = 0;
-    while at <= line.len() {
-        let w = numeral_at(line, at);
+    while more {
+        let w = numeral_at(text, at);
         if !w.good {
             return none;
         }
@@ -86,9 +100,11 @@ pub fn weights(line: &[u8], weights: &mut [u32]) -> WeightsSaid
         store(weights, n, value);
         n += 1;
         at = w.next;
+        more = w.more;
     }
     WeightsSaid {
         good: true,
         count: n,
+        next: at + 1,
     }
 }

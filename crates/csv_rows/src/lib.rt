@@ -4,20 +4,21 @@ use csv::Fault;
 use rules::Limits;
 
 pub mod cursor;
-pub mod fields;
 pub mod heads;
 pub mod ways;
 
-/// What a line says as the record of the limits; not good, both are 0.
+/// What a line says as the record of the limits, and where the next line starts; not good, both limits are 0.
 pub struct RunSaid {
     pub good: bool,
     pub limits: Limits,
+    pub next: usize,
 }
 
-/// What a line says as the record of the weights: how many there are; not good, the count is 0.
+/// What a line says as the record of the weights: how many there are; not good, the count is 0. Then where the next line starts.
 pub struct WeightsSaid {
     pub good: bool,
     pub count: usize,
+    pub next: usize,
 }
 
 /// What a line says as the record of a way: its cue, whether there is a way, whether that names a fault beyond the 64th,
@@ -32,20 +33,13 @@ pub struct RowSaid {
     pub next: usize,
 }
 
-/// A field as a number, and where the next field starts.
-pub struct NumeralAt {
-    pub good: bool,
-    pub value: u64,
-    pub next: usize,
-}
-
 /// The number at a position of a text, and where its digits end.
 pub struct NumberAt {
     pub value: u64,
     pub end: usize,
 }
 
-/// The same, perhaps behind a minus; not good, there is no digit.
+/// The same, perhaps behind a minus; not good, there is no digit. Of a word, only where its bytes end, and whether all are there.
 pub struct SignedAt {
     pub good: bool,
     pub absent: bool,
@@ -53,8 +47,8 @@ pub struct SignedAt {
     pub end: usize,
 }
 
-/// A field of a text as a number, perhaps behind a minus, whether a further field follows, and the position behind the byte that ends it:
-/// that field starts there, or else the next line one further on.
+/// A field of a text as a number, perhaps behind a minus, or as a word, whether a further field follows, and the position behind the byte
+/// that ends it: that field starts there, or else the next line one further on.
 pub struct FieldAt {
     pub good: bool,
     pub absent: bool,

@@ -19,6 +19,7 @@ use super::RowSaid;
 use super::Words;
 use super::cursor::ended;
 use super::cursor::field_at;
+use super::cursor::numeral_at;
 use super::cursor::quoted_at;
 use super::cursor::signed_at;
 use super::cursor::stands;
@@ -192,7 +193,7 @@ fn nothing(text: &[u8], at: usize) -> NamesSaid
     ensures { λ r. ⌜ ToldFaults (isEmptyWay (fieldsIn (lineAt (now (text .entry)) at))) [] r ⌝ }
     ensures { λ r. ⌜ (r .good ≡ true → r .next ≡ nextLine (now (text .entry)) at) ⌝ }
 {
-    let f = field_at(text, at);
+    let f = numeral_at(text, at);
     let mut n = NamesSaid {
         good: false,
         words: Words {
@@ -203,9 +204,6 @@ fn nothing(text: &[u8], at: usize) -> NamesSaid
         next: f.next,
     };
     if f.more {
-        return n;
-    }
-    if f.absent {
         return n;
     }
     if f.value != 0 {
@@ -237,7 +235,7 @@ pub fn row(text: &[u8], at: usize) -> RowSaid
     ensures { λ r. ⌜ ToldRow (fieldsIn (lineAt (now (text .entry)) at)) r ⌝ }
     ensures { λ r. ⌜ (r .good ≡ true → r .next ≡ nextLine (now (text .entry)) at) ⌝ }
 {
-    let c = field_at(text, at);
+    let c = numeral_at(text, at);
     let mut r = RowSaid {
         good: false,
         cue: 0,
@@ -248,9 +246,6 @@ pub fn row(text: &[u8], at: usize) -> RowSaid
         next: c.next,
     };
     if !c.good {
-        return r;
-    }
-    if c.absent {
         return r;
     }
     if 65535 < c.value {

@@ -1,7 +1,8 @@
 -- `field_at` meets its contract.
 -- Rests on Stops.antt.
 use mathlib.Core.Path.{sym, _∙_}
-use Rattle.csv_rows.proofs.Stops.{closed-bare, field-ended}
+use Rattle.csv_rows.specs.Cursor.{isSigned}
+use Rattle.csv_rows.proofs.Stops.{quote-first, closed-bare, field-ended}
 use borrow.Author.Needs.{needs}
 use Rattle.csv_rows.proofs.cursor.field_at.Statement.{statement}
 use Rattle.csv_rows.proofs.cursor.field_at.Tie as tie
@@ -25,7 +26,7 @@ signed-at-requires c κs = search needs
 
 ended-requires : tie.Need-ended-requires
 ended-requires c κs =
-    c .signed-at .ensures .inside
+    c .signed-at .ensures .taken .inside
 
 returns-2 : tie.Need-returns-2
 returns-2 c =
@@ -40,7 +41,7 @@ returns-2 c =
     (r .signed-at .result .end)
     (r .signed-at .result)
     (r .signed-at .ensures)
-    (closed-bare (s .args .text .now) (s .args .at) (r .signed-at .result) bare (r .signed-at .ensures))
+    (closed-bare isSigned quote-first (s .args .text .now) (s .args .at) (r .signed-at .result .end) bare (r .signed-at .ensures .taken))
     (c .ended .result)
     (c .ended .ensures)
 

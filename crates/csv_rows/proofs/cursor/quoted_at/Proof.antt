@@ -3,8 +3,9 @@
 use mathlib.Core.Path.{sym, _∙_}
 use Prim.Native.Nat.{_+_}
 use native.Mathlib.Omega.{arith}
+use Rattle.csv_rows.specs.Cursor.{isSigned}
 use Rattle.csv_rows.proofs.Reading.{stands-yes}
-use Rattle.csv_rows.proofs.Stops.{closed-quoted, unclosed, field-none, field-ended}
+use Rattle.csv_rows.proofs.Stops.{quote-first, closed-quoted, unclosed, field-none, field-ended}
 use borrow.Author.Needs.{needs}
 use Rattle.csv_rows.proofs.cursor.quoted_at.Statement.{statement}
 use Rattle.csv_rows.proofs.cursor.quoted_at.Tie as tie
@@ -48,7 +49,7 @@ returns c =
     (r .signed-at .result .end + 1)
     (r .signed-at .result)
     (r .signed-at .ensures)
-    (closed-quoted (s .args .text .now) (s .args .at) (r .signed-at .result) (s .pre) (r .signed-at .ensures) shut)
+    (closed-quoted isSigned quote-first (s .args .text .now) (s .args .at) (r .signed-at .result .end) (s .pre) (r .signed-at .ensures .taken) shut)
     (c .ended .result)
     (c .ended .ensures)
 
@@ -58,7 +59,7 @@ returns-2 c =
     let s = r .before .before in
     let bare = sym (c .before .stands .ensures) ∙ c .if1 .left in
     field-none (s .args .text .now) (s .args .at) _ _ _ _ (r .signed-at .ensures .small)
-    (unclosed (s .args .text .now) (s .args .at) (r .signed-at .result) (s .pre) (r .signed-at .ensures) bare)
+    (unclosed isSigned quote-first (s .args .text .now) (s .args .at) (r .signed-at .result .end) (s .pre) (r .signed-at .ensures .taken) bare)
 
 pub quoted-at-spec : {M : Type 1} → statement M
 quoted-at-spec =

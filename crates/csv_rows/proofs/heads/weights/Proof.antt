@@ -1,67 +1,56 @@
 -- `weights` meets its contract. The loop's invariant: the weights before position `at` are stored and counted.
 -- Rests on Heading.antt.
-use mathlib.Core.Path.{sym, _∙_}
-use Prim.Native.Nat.{suc, _-_}
-use native.Mathlib.Omega.{arith}
-use lib.ListN.{length}
+use mathlib.Core.Bool.{false≢true}
 use borrow.Author.Tests.{not-true, not-false}
-use Rattle.rules.specs.Text.{bytes}
-use Rattle.csv_rows.proofs.Scanning.{next-above}
-use Rattle.csv_rows.proofs.Steps.{fields-first}
-use Rattle.csv_rows.proofs.Heading.{weights-word, Filled, filled-none, filled-bad, filled-next, filled-all}
 use borrow.Author.Needs.{needs}
+use Rattle.rules.specs.Text.{bytes}
+use Rattle.csv_rows.specs.Cursor.{WordNext}
+use Rattle.csv_rows.proofs.Stops.{ahead, ahead-less}
+use Rattle.csv_rows.proofs.Heading.{weights-plain, weights-word, Filled, filled-none, filled-bad, filled-next, filled-all, filled-line}
 use Rattle.csv_rows.proofs.heads.weights.Statement.{statement}
 use Rattle.csv_rows.proofs.heads.weights.Tie as tie
 
 abbrev Inv-loop : tie.InvT-loop
-Inv-loop line weights₀ none end at₀ n₀ weights at n = Filled line at₀ weights₀ weights at n
+Inv-loop text start weights₀ none at₀ more₀ n₀ weights at more n = Filled text start weights₀ weights at more n
 
 abbrev μ-loop : tie.MeasureT-loop
-μ-loop line weights₀ none end at₀ n₀ weights at n = suc (length line) - at
+μ-loop text start weights₀ none at₀ more₀ n₀ weights at more n = ahead more text at
 
-field-end-requires : tie.Need-field-end-requires Inv-loop μ-loop
-field-end-requires c κs = search needs
+abbrev start : tie.After-word-at Inv-loop μ-loop → tie.Start Inv-loop μ-loop
+start w = w .before .before .before .before
 
-sub-unquoted : tie.Need-sub-unquoted Inv-loop μ-loop
-sub-unquoted c = search needs
+-- From the loop back to after the word.
+abbrev worded : tie.At-loop Inv-loop μ-loop → tie.After-word-at Inv-loop μ-loop
+worded l = l .before .before .before
 
-part-unquoted-start : tie.Need-part-unquoted-start Inv-loop μ-loop
-part-unquoted-start c = search needs
+-- What is told of the first field.
+word : (w : tie.After-word-at Inv-loop μ-loop) → WordNext (bytes "weights") (start w .args .text .now) (start w .args .start) (w .word-at .result)
+unfolding bytes
+word w = w .word-at .ensures
 
-part-unquoted-end : tie.Need-part-unquoted-end Inv-loop μ-loop
-part-unquoted-end c = search needs
+slice-aggregate-word-at : tie.Need-slice-aggregate-word-at Inv-loop μ-loop
+slice-aggregate-word-at c = search needs
 
-unquoted-requires : tie.Need-unquoted-requires Inv-loop μ-loop
-unquoted-requires c κs = search needs
-
-slice-aggregate-same : tie.Need-slice-aggregate-same Inv-loop μ-loop
-slice-aggregate-same c = search needs
-
-same-requires : tie.Need-same-requires Inv-loop μ-loop
-same-requires c κs = search needs
+word-at-requires : tie.Need-word-at-requires Inv-loop μ-loop
+unfolding bytes
+word-at-requires c κs = (c .before .before .before .pre, weights-plain)
 
 returns : tie.Need-returns Inv-loop μ-loop
-unfolding bytes
 returns c =
-    let u = c .before .before .before in
-    let e = u .before .before in
-    let s = e .before .before .before in
-    weights-word
-    (s .args .line .now)
-    _
-    _
-    (fields-first (s .args .line .now) (e .field-end .result) _ (e .field-end .ensures .0) (u .unquoted .ensures))
-    (s .args .weights .now)
-    (sym (c .before .same .ensures) ∙ not-true _ (c .if1 .taken))
-
-add-at : tie.Need-add-at Inv-loop μ-loop
-add-at c = search needs
+    let w = c .before .before in
+    let s = start w in (
+      weights-word (s .args .text .now) (s .args .start) (w .word-at .result) (word w) (s .args .weights .now) (not-true _ (c .if1 .taken)),
+      λ p. absurd (false≢true p),
+    )
 
 loop-holds : tie.Need-loop-holds Inv-loop μ-loop
-loop-holds c = filled-none _ _ _
+loop-holds c =
+    let w = c .before .before in
+    let s = start w in
+    filled-none (s .args .text .now) (s .args .start) (w .word-at .result) (word w) (s .args .weights .now) (not-false _ (c .if1 .left))
 
 numeral-at-requires : tie.Need-numeral-at-requires Inv-loop μ-loop
-numeral-at-requires c κs = search needs
+numeral-at-requires c κs = c .before .loop .inv .inside (c .loop-test .taken)
 
 same-length : tie.Need-same-length Inv-loop μ-loop
 same-length c = search needs
@@ -70,19 +59,11 @@ returns-2 : tie.Need-returns-2 Inv-loop μ-loop
 returns-2 c =
     let r = c .before .before in
     let l = r .before .before in
-    let u = l .before .before .before .before in
-    let e = u .before .before in
-    let s = e .before .before .before in
-    filled-bad
-    (s .args .line .now)
-    _
-    _
-    (fields-first (s .args .line .now) (e .field-end .result) _ (e .field-end .ensures .0) (u .unquoted .ensures))
-    (l .loop .inv)
-    (r .numeral-at .result)
-    (r .numeral-at .ensures)
-    (r .before .loop-test .taken)
-    (not-true _ (c .if2 .taken))
+    let s = start (worded l) in (
+      filled-bad (s .args .text .now) (s .args .start) (l .loop .inv) (r .before .loop-test .taken)
+          (r .numeral-at .result) (r .numeral-at .ensures) (not-true _ (c .if2 .taken)),
+      λ p. absurd (false≢true p),
+    )
 
 cut-requires : tie.Need-cut-requires Inv-loop μ-loop
 cut-requires c κs = search needs
@@ -98,9 +79,11 @@ loop-less c =
     let k = c .before .before .before .before in
     let r = k .before .before .before in
     let l = r .before .before in
-    let s = l .before .before .before .before .before .before .before .before .before in
-    let next = r .numeral-at .ensures .next (not-false _ (k .before .if2 .left)) in
-    omega (arith, next-above (s .args .line .now) (l .loop .at), next, r .before .loop-test .taken)
+    let s = start (worded l) in
+    let p = r .numeral-at .ensures .passed (not-false _ (k .before .if2 .left)) in
+    let h = r .before .loop-test .taken in
+    ahead-less (s .args .text .now) (l .loop .more) (r .numeral-at .result .more) (l .loop .at) (r .numeral-at .result .next) h (l .loop .inv .inside h)
+    (p .further) (p .inside)
 
 loop-again : tie.Need-loop-again Inv-loop μ-loop
 loop-again c =
@@ -108,41 +91,25 @@ loop-again c =
     let k = t .before .before in
     let r = k .before .before .before in
     let l = r .before .before in
-    let u = l .before .before .before .before in
-    let e = u .before .before in
-    let s = e .before .before .before in
-    filled-next
-    (s .args .line .now)
-    _
-    _
-    (fields-first (s .args .line .now) (e .field-end .result) _ (e .field-end .ensures .0) (u .unquoted .ensures))
-    (l .loop .inv)
-    (r .numeral-at .result)
-    (r .numeral-at .ensures)
-    (k .cut .result)
-    _
-    (not-false _ (k .before .if2 .left))
-    (k .cut .ensures)
-    (t .store .ensures)
+    let s = start (worded l) in
+    filled-next (s .args .text .now) (s .args .start) (l .loop .inv) (r .before .loop-test .taken) (r .numeral-at .result) (r .numeral-at .ensures)
+    (k .cut .result) _ (not-false _ (k .before .if2 .left)) (k .cut .ensures) (t .store .ensures)
+
+add-t19 : tie.Need-add-t19 Inv-loop μ-loop
+add-t19 c =
+    let near = c .before .loop .inv .near in
+    search needs
 
 same-length-2 : tie.Need-same-length-2 Inv-loop μ-loop
 same-length-2 c = search needs
 
 returns-3 : tie.Need-returns-3 Inv-loop μ-loop
-unfolding bytes
 returns-3 c =
     let l = c .before in
-    let u = l .before .before .before .before in
-    let e = u .before .before in
-    let s = e .before .before .before in
-    filled-all
-    (s .args .line .now)
-    _
-    _
-    (fields-first (s .args .line .now) (e .field-end .result) _ (e .field-end .ensures .0) (u .unquoted .ensures))
-    (l .loop .inv)
-    (sym (l .before .before .same .ensures) ∙ not-false _ (l .before .if1 .left))
-    (c .loop-test .left)
+    let s = start (worded l) in (
+      filled-all (s .args .text .now) (s .args .start) (l .loop .inv) (c .loop-test .left),
+      λ p. filled-line (s .args .text .now) (s .args .start) (l .loop .inv) (c .loop-test .left),
+    )
 
 pub weights-spec : {M : Type 1} → statement M
 weights-spec =
@@ -150,15 +117,9 @@ weights-spec =
     (tie.spec
     Inv-loop
     μ-loop
-    field-end-requires
-    sub-unquoted
-    part-unquoted-start
-    part-unquoted-end
-    unquoted-requires
-    slice-aggregate-same
-    same-requires
+    slice-aggregate-word-at
+    word-at-requires
     returns
-    add-at
     loop-holds
     numeral-at-requires
     same-length
@@ -168,5 +129,6 @@ weights-spec =
     add-n
     loop-less
     loop-again
+    add-t19
     same-length-2
     returns-3)

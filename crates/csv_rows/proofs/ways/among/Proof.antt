@@ -70,7 +70,7 @@ loop-less c =
     let t = r .before .before .loop-test .taken in
     let g = not-false _ (e .before .before .if1 .left) in
     ahead-less text (v .left) (r .fault-of .result .more) (v .at) (r .fault-of .result .next) t (l .loop .inv .inside t)
-    (told r .further g) (told r .inside g)
+    (told r .passed g .further) (told r .passed g .inside)
 
 loop-again : tie.Need-loop-again Inv-loop μ-loop
 loop-again c =

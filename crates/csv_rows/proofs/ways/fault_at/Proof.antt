@@ -1,7 +1,8 @@
 -- `fault_at` meets its contract: it reads as `field_at` does.
 -- Rests on Stops.antt.
 use mathlib.Core.Path.{sym, _∙_}
-use Rattle.csv_rows.proofs.Stops.{closed-bare, field-ended}
+use Rattle.csv_rows.specs.Cursor.{isSigned}
+use Rattle.csv_rows.proofs.Stops.{quote-first, closed-bare, field-ended}
 use borrow.Author.Needs.{needs}
 use Rattle.csv_rows.proofs.ways.fault_at.Statement.{statement}
 use Rattle.csv_rows.proofs.ways.fault_at.Tie as tie
@@ -32,7 +33,7 @@ signed-at-requires c κs = search needs
 
 ended-requires : tie.Need-ended-requires
 ended-requires c κs =
-    c .signed-at .ensures .inside
+    c .signed-at .ensures .taken .inside
 
 fault-of-requires-2 : tie.Need-fault-of-requires-2
 fault-of-requires-2 c κs = search needs
@@ -48,7 +49,7 @@ returns-2 c =
     let bare = sym (e .before .stands .ensures) ∙ e .if1 .left in
     let n = r .signed-at .result in
     let told = r .signed-at .ensures in
-    c .fault-of2 .ensures t at (field-ended t at at (n .end) n told (closed-bare t at n bare told) (d .ended .result) (d .ended .ensures))
+    c .fault-of2 .ensures t at (field-ended t at at (n .end) n told (closed-bare isSigned quote-first t at (n .end) bare (told .taken)) (d .ended .result) (d .ended .ensures))
 
 pub fault-at-spec : {M : Type 1} → statement M
 fault-at-spec =

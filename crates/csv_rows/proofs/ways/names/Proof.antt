@@ -40,7 +40,7 @@ returns c =
 
 named-twice-requires : tie.Need-named-twice-requires Inv-loop μ-loop
 named-twice-requires c κs =
-    c .before .before .before .fault-at .ensures .inside (not-false _ (c .before .if1 .left))
+    c .before .before .before .fault-at .ensures .passed (not-false _ (c .before .if1 .left)) .inside
 
 returns-2 : tie.Need-returns-2 Inv-loop μ-loop
 returns-2 c =
@@ -70,7 +70,7 @@ loop-less c =
     let test = r .before .loop-test .taken in
     let g = not-false _ (t .before .before .if1 .left) in
     ahead-less text (v .more) (r .fault-at .result .more) (v .at) (r .fault-at .result .next) test (l .loop .inv .inside test)
-    (r .fault-at .ensures .further g) (r .fault-at .ensures .inside g)
+    (r .fault-at .ensures .passed g .further) (r .fault-at .ensures .passed g .inside)
 
 loop-again : tie.Need-loop-again Inv-loop μ-loop
 loop-again c =

@@ -2,14 +2,13 @@
 -- Rests on Rows.antt.
 use mathlib.Core.Path.{sym, _∙_}
 use mathlib.Core.Bool.{true, false, false≢true}
-use Rattle.csv_rows.proofs.Rows.{nothing-told, nothing-more, nothing-absent, nothing-other, nothing-here, nothing-line}
+use Rattle.csv_rows.proofs.Rows.{nothing-told, nothing-more, nothing-other, nothing-here, nothing-line}
 use borrow.Author.Needs.{needs}
 use Rattle.csv_rows.proofs.ways.nothing.Statement.{statement}
 use Rattle.csv_rows.proofs.ways.nothing.Tie as tie
-use Rattle.csv_rows.proofs.cursor.field_at.Reads as field-at-reads
 
-field-at-requires : tie.Need-field-at-requires
-field-at-requires c κs = search needs
+numeral-at-requires : tie.Need-numeral-at-requires
+numeral-at-requires c κs = search needs
 
 returns : tie.Need-returns
 returns c =
@@ -17,55 +16,45 @@ returns c =
     let s = f .before .before in
     let t = s .args .text .now in
     let at = s .args .at in
-    (nothing-told false _ _ (nothing-more t at (f .field-at .result) (f .field-at .ensures) (c .if1 .taken)), λ p. absurd (false≢true p))
+    (nothing-told false _ _ (nothing-more t at (f .numeral-at .result) (f .numeral-at .ensures) (c .if1 .taken)), λ p. absurd (false≢true p))
 
 returns-2 : tie.Need-returns-2
 returns-2 c =
-    let f = c .before .before in
+    let f = c .before .before .before in
     let s = f .before .before in
     let t = s .args .text .now in
     let at = s .args .at in
-    (nothing-told false _ _ (nothing-absent t at (f .field-at .result) (f .field-at .ensures) (c .if2 .taken)), λ p. absurd (false≢true p))
-
-returns-3 : tie.Need-returns-3
-returns-3 c =
-    let f = c .before .before .before .before in
-    let s = f .before .before in
-    let t = s .args .text .now in
-    let at = s .args .at in
-    (nothing-told false _ _ (nothing-other t at (f .field-at .result) (f .field-at .ensures) (c .if3 .taken)), λ p. absurd (false≢true p))
+    (nothing-told false _ _ (nothing-other t at (f .numeral-at .result) (f .numeral-at .ensures) (c .if2 .taken)), λ p. absurd (false≢true p))
 
 add-n : tie.Need-add-n
 add-n c =
     let g = c .before in
-    let f = g .before .before .before .before .before in
-    let near = f .field-at .ensures .near (g .if4 .taken) in
+    let f = g .before .before .before .before in
+    let near = f .numeral-at .ensures .passed (g .if3 .taken) .near in
     search needs
 
-returns-4 : tie.Need-returns-4
-returns-4 c =
+returns-3 : tie.Need-returns-3
+returns-3 c =
     let g = c .before in
     let z = g .before in
     let e = z .before .before in
-    let f = e .before .before in
+    let f = e .before in
     let s = f .before .before in
     let t = s .args .text .now in
     let at = s .args .at in
-    let more = e .before .if1 .left in
-    let same = sym (g .if4 .taken) ∙ nothing-here t at (f .field-at .result) (f .field-at .ensures) more (e .if2 .left) (z .if3 .left) in
-    (nothing-told true _ _ same, λ p. nothing-line t at (f .field-at .result) (f .field-at .ensures) more (g .if4 .taken))
+    let same = sym (g .if3 .taken) ∙ nothing-here t at (f .numeral-at .result) (f .numeral-at .ensures) (e .if1 .left) (z .if2 .left) in
+    (nothing-told true _ _ same, λ p. nothing-line t at (f .numeral-at .result) (f .numeral-at .ensures) (e .if1 .left) (g .if3 .taken))
 
-returns-5 : tie.Need-returns-5
-returns-5 c =
+returns-4 : tie.Need-returns-4
+returns-4 c =
     let z = c .before in
     let e = z .before .before in
-    let f = e .before .before in
+    let f = e .before in
     let s = f .before .before in
     let t = s .args .text .now in
     let at = s .args .at in
-    let same = sym (c .if4 .left) ∙ nothing-here t at (f .field-at .result) (f .field-at .ensures) (e .before .if1 .left) (e .if2 .left) (z .if3 .left) in
+    let same = sym (c .if3 .left) ∙ nothing-here t at (f .numeral-at .result) (f .numeral-at .ensures) (e .if1 .left) (z .if2 .left) in
     (nothing-told false _ _ same, λ p. absurd (false≢true p))
 
 pub nothing-spec : {M : Type 1} → statement M
-nothing-spec =
-    tie.close (tie.spec field-at-requires returns returns-2 returns-3 add-n returns-4 returns-5)
+nothing-spec = tie.close (tie.spec numeral-at-requires returns returns-2 add-n returns-3 returns-4)

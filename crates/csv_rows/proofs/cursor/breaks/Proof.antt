@@ -4,8 +4,8 @@ use mathlib.Core.Path.{sym}
 use native.Mathlib.Omega.{arith}
 use Rattle.csv_rows.proofs.Scanning.{breaks-not, breaks-last, breaks-so}
 use borrow.Author.Needs.{needs}
-use Rattle.csv_rows.proofs.fields.breaks.Statement.{statement}
-use Rattle.csv_rows.proofs.fields.breaks.Tie as tie
+use Rattle.csv_rows.proofs.cursor.breaks.Statement.{statement}
+use Rattle.csv_rows.proofs.cursor.breaks.Tie as tie
 
 shared-slice-read-if1 : tie.Need-shared-slice-read-if1
 shared-slice-read-if1 c = search needs
