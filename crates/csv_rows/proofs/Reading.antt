@@ -17,8 +17,8 @@ use Rattle.rules.specs.Text.{digits, decimal, valueAfter, decimalValue}
 use Rattle.rules.specs.Sheet.{sameNumbers}
 use Rattle.rules.proofs.Booleans.{and-split, and-second}
 use Rattle.rules.proofs.Decimal.{AllDigits, decimal-value, decimal-digits}
-use Rattle.decimal.specs.Numerals.{isNumeral, ToldNumeral}
-use Rattle.decimal.proofs.Numerals.{decimal-numeral, numeral-decimal, letter-told, long-told, nought-told, none-told, Read, read-none, read-more}
+use Rattle.decimal.specs.Numerals.{isNumeral}
+use Rattle.decimal.proofs.Numerals.{decimal-numeral, numeral-decimal, none-not, letter-not, long-not, nought-not, Read, read-none, read-more}
 use Rattle.csv.specs.Shapes.{signed, unsigned}
 use Rattle.csv_rows.specs.declared.NumberAt.{NumberAt}
 use Rattle.csv_rows.specs.declared.SignedAt.{SignedAt}
@@ -63,15 +63,11 @@ ends-out t i h = rw (le-ltb i (length t) h, endsAt)
 pub letter : (p : List ℕ) (b : ℕ) (s : List ℕ) → (48 ≤ b → b ≤ 57 → ⊥) → isNumeral (p ++ b ∷ s) ≡ false
 letter p b s h =
     let there : getD (p ++ b ∷ s) (length p) 0 ≡ b = getD-append-seam p b s 0 in
-    sym (letter-told (p ++ b ∷ s) (length p) (simp length-append (omega arith)) (rw there h) .good)
+    letter-not (p ++ b ∷ s) (length p) (simp length-append (omega arith)) (rw there h)
 
 -- One of eleven digits.
 long : (p : List ℕ) (b : ℕ) (s : List ℕ) → 10 ≤ length p → isNumeral (p ++ b ∷ s) ≡ false
-long p b s h = sym (long-told (p ++ b ∷ s) (simp length-append (omega arith)) .good)
-
--- One that begins with 0.
-nought-more : (b : ℕ) (s : List ℕ) → isNumeral (48 ∷ b ∷ s) ≡ false
-nought-more b s = sym (nought-told (48 ∷ b ∷ s) (omega arith) refl .good) ∙ ne-eqb (length (48 ∷ b ∷ s)) 1 (λ q. omega arith)
+long p b s h = long-not (p ++ b ∷ s) (simp length-append (omega arith))
 
 -- ---- the digits read so far
 
@@ -152,7 +148,7 @@ reading-nought t at z =
       inside = omega (arith, s .0);
       small = omega arith;
       number = λ h. sym p;
-      longest = λ h r. rw p (nought-more (getD t (at + 1) 0) r);
+      longest = λ h r. rw p (nought-not (getD t (at + 1) 0) r);
     }
 
 -- ---- a minus in front
@@ -190,12 +186,11 @@ module _ (t : List ℕ) (at : ℕ) (n : NumberAt) (r : NumberRead t at n) where
 
   -- It is a numeral if there are any.
   read-good : ltb at (n .end) ≡ isNumeral (part t at (n .end))
-  unfolding isNumeral sameNumbers decimal digits decimalValue valueAfter
   read-good = split (decLt at (n .end))
     where
       split : Dec (at < n .end) → ltb at (n .end) ≡ isNumeral (part t at (n .end))
       split (yes h) = lt-ltb at (n .end) h ∙ sym (ap isNumeral (sym (r .number h)) ∙ decimal-numeral (n .value) (r .small))
-      split (no h) = let e : n .end ≡ at = omega (arith, r .from) in le-ltb at (n .end) (omega arith) ∙ sym (rw (e, part-none t at))
+      split (no h) = let e : n .end ≡ at = omega (arith, r .from) in le-ltb at (n .end) (omega arith) ∙ sym (rw (e, part-none t at) none-not)
 
   read-value : ltb at (n .end) ≡ true → n .value ≡ decimalValue (part t at (n .end))
   read-value h = sym (ap decimalValue (sym (r .number (ltb-true at (n .end) h))) ∙ decimal-value (n .value))

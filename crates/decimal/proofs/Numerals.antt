@@ -1,4 +1,5 @@
--- Reading a field as a number, digit by digit: laws on plain lists.
+-- Which fields are numbers, and a number read digit by digit: laws on plain lists.
+-- Rests on `rules`, Decimal.
 use mathlib.Core.Path.{_≡_, refl, sym, ap, ap₂, _∙_, subst}
 use mathlib.Core.Bool.{Bool, true, false, _&&_}
 use mathlib.Core.List.{List, [], _∷_, _++_}
@@ -15,7 +16,7 @@ use Rattle.rules.proofs.Booleans.{and-both, and-right, is-false}
 use Rattle.rules.specs.Text.{digits, decimal, valueAfter, decimalValue}
 use Rattle.rules.proofs.Decimal.{AllDigits, decimal-value, decimal-digits, decimal-length, decimal-leading, decimal-one, decimal-more}
 use Rattle.rules.proofs.Sheets.{same-equal, equal-same}
-use Rattle.decimal.specs.Numerals.{isNumeral, ToldNumeral}
+use Rattle.decimal.specs.Numerals.{isNumeral}
 
 -- A number of ten digits at most is a numeral in decimal.
 pub decimal-numeral : (n : ℕ) → n < 10 ^ 10 → isNumeral (decimal n) ≡ true
@@ -31,25 +32,17 @@ numeral-decimal f h = same-equal (decimal (decimalValue f)) f (and-right (leb (l
 not-numeral : (f : List ℕ) → ((n : ℕ) → decimal n ≡ f → ⊥) → isNumeral f ≡ false
 not-numeral f h = is-false (isNumeral f) (λ e. h (decimalValue f) (numeral-decimal f e))
 
--- What such a field tells.
-told-bad : (f : List ℕ) → isNumeral f ≡ false → ToldNumeral f (record { good = false; value = 0 })
-told-bad f h = record { good = sym h; value = λ e. absurd (never e); small = omega arith }
-  where
-    never : false ≡ true → ⊥
-    never p = let z : _≡_ {A = ℕ} 0 1 = cc in omega arith
+-- ---- what is none
 
--- ---- what ends the reading
-
--- An empty field is no number;
-pub none-told : (f : List ℕ) → length f ≡ 0 → ToldNumeral f (record { good = false; value = 0 })
+-- The empty field.
+pub none-not : isNumeral [] ≡ false
 unfolding isNumeral sameNumbers decimal digits decimalValue valueAfter
-none-told [] h = told-bad [] refl
-none-told (b ∷ f) h = absurd (omega arith)
+none-not = refl
 
--- nor is one of more than ten bytes,
-pub long-told : (f : List ℕ) → 10 < length f → ToldNumeral f (record { good = false; value = 0 })
+-- One of more than ten bytes.
+pub long-not : (f : List ℕ) → 10 < length f → isNumeral f ≡ false
 unfolding isNumeral
-long-told f h = told-bad f (rw (lt-leb (length f) 10 h))
+long-not f h = rw (lt-leb (length f) 10 h)
 
 -- A byte among digits is one.
 digit-at : (bs : List ℕ) (i : ℕ) → AllDigits bs → i < length bs → (48 ≤ getD bs i 0) × (getD bs i 0 ≤ 57)
@@ -57,21 +50,18 @@ digit-at [] i h l = absurd (omega arith)
 digit-at (b ∷ bs) zero h l = (h .0, h .1)
 digit-at (b ∷ bs) (suc i) h l = digit-at bs i (h .2) (omega arith)
 
--- nor one with a byte that is no digit.
-pub letter-told : (f : List ℕ) (i : ℕ) → i < length f → (48 ≤ getD f i 0 → getD f i 0 ≤ 57 → ⊥) → ToldNumeral f (record { good = false; value = 0 })
-letter-told f i l h = told-bad f (not-numeral f (λ n e. let d = digit-at f i (subst AllDigits e (decimal-digits n)) l in h (d .0) (d .1)))
+-- A field with a byte that is no digit.
+pub letter-not : (f : List ℕ) (i : ℕ) → i < length f → (48 ≤ getD f i 0 → getD f i 0 ≤ 57 → ⊥) → isNumeral f ≡ false
+letter-not f i l h = not-numeral f (λ n e. let d = digit-at f i (subst AllDigits e (decimal-digits n)) l in h (d .0) (d .1))
 
--- One that begins with 0 is `0` or no number.
-pub nought-told : (f : List ℕ) → 0 < length f → getD f 0 0 ≡ 48 → ToldNumeral f (record { good = eqb (length f) 1; value = 0 })
-unfolding isNumeral sameNumbers decimal digits decimalValue valueAfter
-nought-told [] h e = absurd (omega arith)
-nought-told (b ∷ []) h e = rw e (record { good = refl; value = λ p. refl; small = omega arith })
-nought-told (b ∷ c ∷ f) h e =
-    rw (ne-eqb (length (b ∷ c ∷ f)) 1 (λ q. omega arith))
-    (told-bad (b ∷ c ∷ f) (not-numeral (b ∷ c ∷ f) (λ n p.
-    let zero-is : n ≡ 0 = decimal-leading n .1 (ap (λ (l : List ℕ). getD l 0 0) p ∙ e) in
-    let short : length (decimal 0) ≡ length (b ∷ c ∷ f) = ap length (ap decimal (sym zero-is) ∙ p) in
-    omega (arith, short))))
+-- One that begins with 0 and goes on.
+pub nought-not : (b : ℕ) (f : List ℕ) → isNumeral (48 ∷ b ∷ f) ≡ false
+unfolding decimal digits
+nought-not b f =
+    not-numeral (48 ∷ b ∷ f) (λ n p.
+    let zero-is : n ≡ 0 = decimal-leading n .1 (ap (λ (l : List ℕ). getD l 0 0) p) in
+    let short : length (decimal 0) ≡ length (48 ∷ b ∷ f) = ap length (ap decimal (sym zero-is) ∙ p) in
+    omega (arith, short))
 
 -- ---- the digits read so far
 
@@ -133,19 +123,3 @@ module _ (f : List ℕ) (i n : ℕ) (r : Read f i n) (more : i < length f) (firs
         some = λ h. some-more;
         front = λ h. front-more;
       })
-
--- All of them: the field is that number.
-pub read-all : (f : List ℕ) (i n : ℕ) → Read f i n → length f ≤ i → 0 < length f → length f ≤ 10 → ToldNumeral f (record { good = true; value = n })
-read-all f i n r end h l =
-    let e : decimal n ≡ f = r .front (omega arith) ∙ take-all i f end in
-    let ten : i ≤ 10 = omega (arith, r .within) in
-    let wide : 10 ^ i ≤ 10 ^ 10 = pow-le-pow-right (zero-lt-suc 9) ten in
-    let small : n < 10 ^ 10 = omega (arith, r .small) in
-    record { good = sym (ap isNumeral (sym e) ∙ decimal-numeral n small); value = λ p. sym (ap decimalValue (sym e) ∙ decimal-value n); small = small }
-
--- It stays below ten digits on the way.
-pub read-small : (f : List ℕ) (i n : ℕ) → Read f i n → i < length f → length f ≤ 10 → n < 10 ^ 10
-read-small f i n r h l =
-    let le : i ≤ 10 = omega arith in
-    let wide : 10 ^ i ≤ 10 ^ 10 = pow-le-pow-right (zero-lt-suc 9) le in
-    omega (arith, r .small)
