@@ -7,7 +7,7 @@ use native.Mathlib.Numerals.{add-one}
 use native.Mathlib.Omega.{arith}
 use lib.ListN.{length, getD, take, drop, drop-of-length-le}
 use lib.Seq.{drop-cons, length-take-le}
-use Rattle.rules.specs.Sheet.{AllBelow, Cue, Sheet, column, faultsIn, cuesIn, limitsIn, weightsIn, weightsStart, sheetOf, listsIn, readNumber, entryIn, decode}
+use Rattle.rules.specs.Sheet.{AllBelow, Cue, column, faultsIn, cuesIn, limitsIn, weightsIn, weightsStart, sheetOf, listsIn, readNumber, entryIn, decode}
 use Rattle.rules.specs.declared.Entry.{Entry}
 use Rattle.rules.specs.declared.Limits.{Limits}
 use Rattle.rules.proofs.Bytes.{length-column}

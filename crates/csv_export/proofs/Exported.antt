@@ -12,7 +12,7 @@ use Rattle.rules.specs.declared.WriteAnswer.{WriteAnswer}
 use Rattle.rules.specs.Answers.{writeReply}
 use Rattle.rules.specs.Refusals.{Refusal, refusal, first, wayRefusals, limitRefusals}
 use Rattle.rules.specs.Sheet.{decode, readRefusals, readNumber, writeAnswerBy, writtenBy}
-use Rattle.rules.proofs.First.{numbered, none-applies, first-after, first-before, first-here, first-later, first-none}
+use Rattle.rules.proofs.First.{none-applies, first-after, first-before, first-here, first-later, first-none}
 use Rattle.writer.specs.Pieces.{Room, Wrote}
 use Rattle.writer.proofs.Over.{over-front}
 use Rattle.csv.specs.Texts.{csvOf}

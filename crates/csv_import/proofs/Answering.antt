@@ -1,7 +1,7 @@
 -- What a call of the import promises, test by test, once its text is read.
 -- Rests on `csv`, Imports, on `rules`, First and WriterLists, on `writer`, Numbers, and on `csv_rows`, Fronts.
 use mathlib.Core.Path.{_≡_, refl, sym, ap, ap₂, _∙_, subst}
-use mathlib.Core.Bool.{Bool, true, false, not, _||_, true≢false}
+use mathlib.Core.Bool.{Bool, true, false, _||_, true≢false}
 use mathlib.Core.List.{List, [], _∷_}
 use Prim.Native.Nat.{ℕ, zero, suc, _*_, _^_, _<_, _≤_}
 use native.Mathlib.Nat.{pow-le-pow-right, zero-lt-suc}

@@ -7,14 +7,14 @@ use mathlib.Core.Option.{Option, none, some}
 use Prim.Native.Nat.{ℕ, suc, _+_, _-_, _<_, _≤_, min}
 use native.Mathlib.Omega.{arith}
 use native.Mathlib.Numerals.{add-one}
-use lib.ListN.{length, take, drop, set, length-set}
+use lib.ListN.{length, set, length-set}
 use Rattle.rules.specs.Table.{indicator}
 use Rattle.rules.specs.Sheet.{Cue}
 use Rattle.rules.proofs.Booleans.{and-both, and-false}
 use Rattle.csv.specs.Cut.{fieldsIn}
 use Rattle.csv.specs.Shapes.{isRow, rowIn, follows, misreadRows, grouped}
 use Rattle.csv_rows.specs.declared.RowSaid.{RowSaid}
-use Rattle.csv_rows.specs.Scan.{lineSpan, lineAt, nextLine, recordsFrom}
+use Rattle.csv_rows.specs.Scan.{lineAt, nextLine, recordsFrom}
 use Rattle.csv_rows.specs.Told.{ToldRow}
 use Rattle.csv_rows.proofs.Scanning.{records-next, records-past, line-above}
 use Rattle.csv_import.specs.declared.sums.Sums.{Sums}

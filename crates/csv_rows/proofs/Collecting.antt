@@ -9,14 +9,14 @@ use native.Mathlib.Numerals.{add-one}
 use lib.ListN.{length}
 use lib.Bits.{bitOr, or-zero-l, or-zero-r}
 use Rattle.csv.specs.declared.Fault.{Fault}
-use Rattle.csv.specs.Cut.{unquoted, fieldsIn}
-use Rattle.csv.specs.Shapes.{isFault, faultIn, allFaults, repeats, wordOf}
+use Rattle.csv.specs.Cut.{fieldsIn}
+use Rattle.csv.specs.Shapes.{faultIn, allFaults, repeats, wordOf}
 use Rattle.csv_rows.specs.declared.FaultAt.{FaultAt}
 use Rattle.csv_rows.specs.declared.Words.{Words}
 use Rattle.csv_rows.specs.Scan.{lineAt, nextLine}
 use Rattle.csv_rows.specs.Walks.{wordFor, withFault, twice, clash, someFar, apart, ToldFaults}
 use Rattle.csv_rows.specs.Cursor.{firstField, behind, lineBehind, FaultNext}
-use Rattle.csv_rows.proofs.Stops.{later, fields-raw}
+use Rattle.csv_rows.proofs.Stops.{fields-raw}
 use Rattle.csv_rows.proofs.Naming.{clash-none, twice-found, twice-not, far-next, far-before, words-next, or-false}
 
 -- What is asked of fields to come, with faults so far: that they are faults, none of them twice.

@@ -2,7 +2,7 @@
 -- Rests on `csv`, Shapes, and on Stops.antt.
 use mathlib.Core.Path.{_≡_, refl, sym, ap, ap₂, _∙_}
 use mathlib.Core.Bool.{Bool, true, false, not, _&&_, _||_, false≢true}
-use mathlib.Core.List.{List, [], _∷_, map}
+use mathlib.Core.List.{List, _∷_, map}
 use Prim.Native.Nat.{ℕ, zero, suc, _-_, _<_, _≤_}
 use native.Mathlib.Omega.{arith}
 use lib.ListN.{length}

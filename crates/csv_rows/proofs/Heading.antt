@@ -11,10 +11,8 @@ use lib.Seq.{append-snoc}
 use lib.Dec.{eqb, ltb, eqb·suc-suc, eqb·suc-zero}
 use borrow.Author.Tests.{ne-eqb, ltb-true}
 use Rattle.rules.specs.Rounding.{S}
-use Rattle.rules.specs.Sheet.{sameNumbers}
 use Rattle.rules.specs.Text.{bytes, decimalValue}
 use Rattle.rules.proofs.Booleans.{and-false, and-split}
-use Rattle.decimal.specs.Numerals.{isNumeral}
 use Rattle.csv.specs.Cut.{unquoted, fieldsIn}
 use Rattle.csv.specs.Shapes.{allNumerals, isRun, limitsSaid, isWeights, weightsSaid}
 use Rattle.csv_rows.specs.declared.FieldAt.{FieldAt}

@@ -1,29 +1,27 @@
 -- A number read at a position of a text, digit by digit, and one behind a minus: laws on plain lists.
 -- Rests on specs, Cursor, and on `decimal`.
 use mathlib.Core.Path.{_≡_, refl, sym, ap, ap₂, _∙_, subst}
-use mathlib.Core.Bool.{Bool, true, false, not, _&&_, _||_}
+use mathlib.Core.Bool.{Bool, true, false}
 use mathlib.Core.List.{List, [], _∷_, _++_}
-use Prim.Native.Nat.{ℕ, zero, suc, _+_, _-_, _*_, _^_, _<_, _≤_}
+use Prim.Native.Nat.{ℕ, suc, _+_, _-_, _*_, _^_, _<_, _≤_}
 use native.Mathlib.Nat.{pow-le-pow-right, zero-lt-suc}
 use native.Mathlib.Decide.{decLe, decLt}
 use native.Mathlib.Omega.{arith}
 use native.Mathlib.Numerals.{add-one}
-use lib.ListN.{length, getD, take, drop, length-append, length-take, length-drop}
+use lib.ListN.{length, getD, take, drop, length-append, length-drop}
 use lib.Seq.{drop-cons, getD-drop, getD-append-seam, length-take-le}
 use lib.Dec.{eqb, ltb}
-use borrow.Author.Tests.{lt-ltb, le-ltb, ltb-true, eqb-true, eqb-false, eq-eqb, ne-eqb}
+use borrow.Author.Tests.{lt-ltb, le-ltb, ltb-true, eqb-true, eqb-false, ne-eqb}
 use Rattle.rules.specs.Table.{indicator}
-use Rattle.rules.specs.Text.{digits, decimal, valueAfter, decimalValue}
-use Rattle.rules.specs.Sheet.{sameNumbers}
+use Rattle.rules.specs.Text.{digits, decimal, decimalValue}
 use Rattle.rules.proofs.Booleans.{and-split, and-second}
 use Rattle.rules.proofs.Decimal.{AllDigits, decimal-value, decimal-digits}
 use Rattle.decimal.specs.Numerals.{isNumeral}
 use Rattle.decimal.proofs.Numerals.{decimal-numeral, numeral-decimal, none-not, letter-not, long-not, nought-not, Read, read-none, read-more}
 use Rattle.csv.specs.Shapes.{signed, unsigned}
 use Rattle.csv_rows.specs.declared.NumberAt.{NumberAt}
-use Rattle.csv_rows.specs.declared.SignedAt.{SignedAt}
 use Rattle.csv_rows.specs.Scan.{breaksAt}
-use Rattle.csv_rows.specs.Cursor.{standsAt, endsAt, part, Plain, isSigned, NumberRead, Longest, SignedRead}
+use Rattle.csv_rows.specs.Cursor.{standsAt, endsAt, part, Plain, isSigned, NumberRead, SignedRead}
 
 -- ---- a byte at a position
 

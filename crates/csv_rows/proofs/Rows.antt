@@ -7,15 +7,14 @@ use Prim.Native.Nat.{ℕ, suc, _+_, _^_, _<_, _≤_}
 use native.Mathlib.Nat.{pow-le-pow-right, pow-suc, one-le-pow, zero-lt-suc}
 use native.Mathlib.Omega.{arith}
 use native.Mathlib.Numerals.{add-one}
-use lib.ListN.{length}
-use lib.Dec.{eqb, ltb}
+use lib.Dec.{ltb}
 use lib.Bits.{or-lt, or-add-and, and-le-r, and-le-l}
 use borrow.Author.Tests.{lt-ltb, le-ltb, ltb-true, ltb-false, not-true, not-false}
 use Rattle.rules.specs.Refusals.{someAbove}
 use Rattle.rules.specs.Sheet.{sameNumbers}
 use Rattle.rules.specs.Text.{bytes, digits, decimal, valueAfter, decimalValue}
 use Rattle.rules.proofs.Booleans.{and-left, and-false, or-split, or-first, or-second, or-cases, or-neither, is-false}
-use Rattle.rules.proofs.Sheets.{same-equal, equal-same}
+use Rattle.rules.proofs.Sheets.{same-equal}
 use Rattle.decimal.specs.Numerals.{isNumeral}
 use Rattle.decimal.proofs.Numerals.{numeral-decimal}
 use Rattle.csv.specs.declared.Fault.{Fault}

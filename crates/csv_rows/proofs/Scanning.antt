@@ -1,19 +1,19 @@
 -- What a walk over a text finds, byte by byte: where lines end, and the records from a position on; and when a field stands in quotes.
 -- Rests on specs, Scan.
-use mathlib.Core.Path.{_≡_, refl, ap, ap₂, _∙_}
+use mathlib.Core.Path.{_≡_, refl, ap, _∙_}
 use mathlib.Core.Bool.{Bool, true, false, _&&_, _||_, false≢true}
 use mathlib.Core.List.{List, [], _∷_, map}
 use Prim.Native.Nat.{ℕ, zero, suc, _+_, _-_, _<_, _≤_}
 use native.Mathlib.Omega.{arith}
 use native.Mathlib.Numerals.{add-one}
-use native.Mathlib.Nat.{zero-add, suc-add}
+use native.Mathlib.Nat.{suc-add}
 use lib.ListN.{length, getD, take, drop, length-drop, drop-of-length-le, List·getD-eq-default}
-use lib.Seq.{drop-cons, drop-drop, getD-drop}
+use lib.Seq.{drop-drop, getD-drop}
 use lib.Dec.{eqb, leb}
 use borrow.Author.Tests.{ne-eqb, eq-eqb, le-leb, lt-leb}
 use Rattle.rules.specs.Sheet.{sameNumbers}
 use Rattle.rules.proofs.Booleans.{and-both, and-false}
-use Rattle.csv.specs.Cut.{onto, linesIn, rawFields, quoted, unquoted, fieldsIn, recordsIn}
+use Rattle.csv.specs.Cut.{onto, linesIn, quoted, unquoted, fieldsIn, recordsIn}
 use Rattle.csv_rows.specs.Scan.{breaksAt, lineSpan, lineAt, nextLine, recordsFrom}
 
 -- ---- where a line ends

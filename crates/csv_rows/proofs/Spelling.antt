@@ -1,14 +1,13 @@
 -- The field at a position as a word, byte by byte, and as a number without a minus: laws on plain lists.
 -- Rests on Reading.antt, and on Stops.antt for where the field ends.
-use mathlib.Core.Path.{_≡_, refl, sym, ap, ap₂, _∙_, subst}
+use mathlib.Core.Path.{_≡_, refl, sym, ap, ap₂, _∙_}
 use mathlib.Core.Bool.{Bool, true, false, false≢true}
 use mathlib.Core.List.{List, [], _∷_, _++_}
-use Prim.Native.Nat.{ℕ, zero, suc, _+_, _-_, _<_, _≤_, _^_}
+use Prim.Native.Nat.{ℕ, zero, suc, _+_, _-_, _<_, _≤_}
 use native.Mathlib.Omega.{arith}
 use native.Mathlib.Numerals.{add-one}
 use lib.ListN.{length, getD, take, drop, length-append, length-drop}
 use lib.Seq.{take-suc, take-all, getD-drop, getD-append-seam, length-take-le}
-use lib.Dec.{eqb}
 use borrow.Author.Tests.{ne-eqb}
 use Rattle.rules.specs.Sheet.{sameNumbers}
 use Rattle.rules.proofs.Booleans.{is-false}
@@ -18,7 +17,7 @@ use Rattle.decimal.specs.Numerals.{isNumeral}
 use Rattle.csv.specs.Shapes.{signed, unsigned}
 use Rattle.csv_rows.specs.declared.SignedAt.{SignedAt}
 use Rattle.csv_rows.specs.declared.FieldAt.{FieldAt}
-use Rattle.csv_rows.specs.Cursor.{standsAt, part, Plain, isWord, isSigned, firstField, Longest, EndedAt, Passed, FieldNext, NumeralNext, WordNext}
+use Rattle.csv_rows.specs.Cursor.{standsAt, part, Plain, isWord, isSigned, firstField, Longest, EndedAt, FieldNext, NumeralNext, WordNext}
 use Rattle.csv_rows.proofs.Scanning.{same-lengths}
 use Rattle.csv_rows.proofs.Reading.{stands-yes, stands-no, part-none, unsigned-bare, signed-numeral}
 use Rattle.csv_rows.proofs.Stops.{Closed, told-ended}
@@ -78,11 +77,11 @@ module _ (t w : List ℕ) (at n end : ℕ) (s : Spelling t w at n end) where
           plain = rw (s .same) (plain-take n w p);
           good = sym (same-lengths (part t at end) w (λ e. omega (arith, e, long)));
           longest = λ l q. is-false _ (λ e.
-          let whole : part t at end ++ getD t end 0 ∷ q ≡ w = same-equal _ w e in
-          let there : getD t end 0 ≡ getD w n 0 =
-          sym (getD-append-seam (part t at end) (getD t end 0) q 0) ∙ ap₂ (λ (l : List ℕ) (i : ℕ). getD l i 0) whole long
-          in
-          stands-no t end (getD w n 0) k l there);
+              let whole : part t at end ++ getD t end 0 ∷ q ≡ w = same-equal _ w e in
+              let there : getD t end 0 ≡ getD w n 0 =
+              sym (getD-append-seam (part t at end) (getD t end 0) q 0) ∙ ap₂ (λ (l : List ℕ) (i : ℕ). getD l i 0) whole long
+              in
+              stands-no t end (getD w n 0) k l there);
         }
 
     -- All bytes stand there: it is the word.

@@ -8,13 +8,11 @@ use Prim.Native.Nat.{ℕ, zero, suc, _+_, _-_, _<_, _≤_, _^_}
 use native.Mathlib.Decide.{decLt}
 use native.Mathlib.Omega.{arith}
 use native.Mathlib.Numerals.{add-one}
-use lib.ListN.{length, getD, take, drop, length-append, drop-of-length-le}
+use lib.ListN.{length, getD, take, drop, length-append}
 use lib.Seq.{drop-cons, getD-append-seam, take-append-seam, take-append-add}
-use lib.Dec.{eqb, ltb}
-use borrow.Author.Tests.{ne-eqb, lt-ltb}
+use lib.Dec.{eqb}
+use borrow.Author.Tests.{ne-eqb}
 use Rattle.rules.specs.Text.{decimalValue}
-use Rattle.rules.proofs.Booleans.{is-false}
-use Rattle.decimal.specs.Numerals.{isNumeral}
 use Rattle.csv.specs.Cut.{onto, rawFields, quoted, unquoted, fieldsIn}
 use Rattle.csv.specs.Shapes.{signed, unsigned}
 use Rattle.csv_rows.specs.declared.SignedAt.{SignedAt}
@@ -22,7 +20,7 @@ use Rattle.csv_rows.specs.declared.FieldAt.{FieldAt}
 use Rattle.csv_rows.specs.Scan.{breaksAt, lineSpan, lineAt, nextLine}
 use Rattle.csv_rows.specs.Cursor.{standsAt, endsAt, part, Plain, isSigned, firstField, behind, lineBehind, Longest, SignedRead, EndedAt, Passed, FieldNext}
 use Rattle.csv_rows.proofs.Scanning.{line-on, line-stop, line-over, breaks-not, quoted-short, quoted-first, quoted-last, quoted-both, is-bare}
-use Rattle.csv_rows.proofs.Reading.{stands-in, stands-out, stands-yes, stands-no, ends-in, ends-out, part-none, part-cons, letter, unsigned-bare}
+use Rattle.csv_rows.proofs.Reading.{stands-yes, stands-no, ends-in, ends-out, part-none, part-cons, letter}
 
 -- ---- the raw field at a position, and those behind it
 

@@ -1,16 +1,16 @@
 -- Which fields are numbers, and a number read digit by digit: laws on plain lists.
 -- Rests on `rules`, Decimal.
 use mathlib.Core.Path.{_≡_, refl, sym, ap, ap₂, _∙_, subst}
-use mathlib.Core.Bool.{Bool, true, false, _&&_}
+use mathlib.Core.Bool.{true, false}
 use mathlib.Core.List.{List, [], _∷_, _++_}
 use Prim.Native.Nat.{ℕ, zero, suc, _+_, _-_, _*_, _/_, _%_, _^_, _<_, _≤_}
-use native.Mathlib.Nat.{pow-suc, pow-le-pow-right, zero-lt-suc}
+use native.Mathlib.Nat.{pow-suc}
 use native.Mathlib.Omega.{arith}
 use native.Mathlib.Numerals.{add-one}
-use lib.ListN.{length, getD, take, drop}
-use lib.Seq.{take-suc, take-all}
-use lib.Dec.{eqb, leb}
-use borrow.Author.Tests.{le-leb, lt-leb, ne-eqb}
+use lib.ListN.{length, getD, take}
+use lib.Seq.{take-suc}
+use lib.Dec.{leb}
+use borrow.Author.Tests.{le-leb, lt-leb}
 use Rattle.rules.specs.Sheet.{sameNumbers}
 use Rattle.rules.proofs.Booleans.{and-both, and-right, is-false}
 use Rattle.rules.specs.Text.{digits, decimal, valueAfter, decimalValue}

@@ -1,8 +1,6 @@
 -- `export` meets its contract: a call whose number is 0 writes the text, and any other writes nothing.
 -- Rests on Exported.antt, on `writer`, Over, and on the contracts of `export_number` and `put_text`.
 use mathlib.Core.Path.{_≡_, sym, _∙_}
-use mathlib.Core.List.{List}
-use Prim.Native.Nat.{ℕ}
 use borrow.Author.Needs.{needs}
 use lib.ListN.{length}
 use Rattle.csv.specs.Calls.{exportNumber}

@@ -1,6 +1,6 @@
 -- `export_number` meets its contract: the sheet's own number, then 22.
 -- Rests on Exported.antt and the contracts of `sheet_number` and `text_length`.
-use mathlib.Core.Path.{_≡_, sym, _∙_}
+use mathlib.Core.Path.{sym, _∙_}
 use native.Mathlib.Omega.{arith}
 use borrow.Author.Needs.{needs}
 use Rattle.csv_export.proofs.Exported.{sheet-refused, space-short, space-enough}

@@ -1,15 +1,13 @@
 -- `digits_of` meets its contract. The loop's invariant: the last digits are found, those of the rest are still to be found.
 -- Rests on Finding.antt.
 use mathlib.Core.Path.{_∙_}
-use Prim.Native.Nat.{ℕ, _+_}
+use Prim.Native.Nat.{_+_}
 use native.Mathlib.Omega.{arith}
 use lib.ListN.{length-set}
 use Rattle.decimal.proofs.Finding.{Found, found-none, found-room, found-next, found-all}
 use borrow.Author.Needs.{needs}
 use Rattle.decimal.proofs.digits_of.Statement.{statement}
 use Rattle.decimal.proofs.digits_of.Tie as tie
-use Rattle.decimal.proofs.digits_of.Reads as reads
-use Rattle.decimal.proofs.digits_of.Lts as lts
 
 abbrev Inv-loop : tie.InvT-loop
 Inv-loop n bytes₀ from₀ rest₀ bytes from rest = Found n bytes from rest

@@ -1,7 +1,7 @@
 -- `faults_length` meets its contract: the length by the bits of the words.
 -- Rests on Measured.antt and Naming.antt.
-use mathlib.Core.Path.{_≡_, sym, ap}
-use Prim.Native.Nat.{ℕ, _≤_, _/_}
+use mathlib.Core.Path.{sym, ap}
+use Prim.Native.Nat.{_≤_, _/_}
 use native.Mathlib.Omega.{arith}
 use lib.Count.{ones}
 use lib.ListN.{length}

@@ -1,12 +1,12 @@
 -- `text_length` meets its contract: the two records in front, and those of the cues.
 -- Rests on Words.antt and Cues.antt, and on the contracts of the parts.
-use mathlib.Core.Path.{_≡_, sym, ap, ap₂, _∙_}
-use mathlib.Core.List.{List, _++_}
+use mathlib.Core.Path.{_≡_, ap, ap₂, _∙_}
+use mathlib.Core.List.{List}
 use Prim.Native.Nat.{ℕ, _+_, _≤_}
 use native.Mathlib.Omega.{arith}
 use borrow.Author.Needs.{needs}
 use lib.ListN.{length, take, length-take, length-append}
-use Rattle.rules.specs.Sheet.{AllBelow, decode}
+use Rattle.rules.specs.Sheet.{decode}
 use Rattle.rules.proofs.Bytes.{each-below}
 use Rattle.csv.specs.Texts.{csvOf}
 use Rattle.csv_export.specs.Parts.{frontText, cuesText, wholeText}

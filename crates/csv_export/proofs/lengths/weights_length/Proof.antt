@@ -1,11 +1,11 @@
 -- `weights_length` meets its contract. The loop's invariant: what is measured and what is left are together the whole.
 -- Rests on Measured.antt, Records.antt and the contract of `field_length`.
 use mathlib.Core.Path.{_≡_, ap}
-use mathlib.Core.List.{List, _∷_, map}
-use Prim.Native.Nat.{ℕ, _+_, _-_, _*_, _≤_}
+use mathlib.Core.List.{map}
+use Prim.Native.Nat.{_+_, _-_, _*_, _≤_}
 use native.Mathlib.Omega.{arith}
 use borrow.Author.Needs.{needs}
-use lib.ListN.{length, getD, drop, drop-of-length-le}
+use lib.ListN.{length, drop, drop-of-length-le}
 use Rattle.rules.specs.Text.{decimal}
 use Rattle.csv.specs.Texts.{furtherFields}
 use Rattle.csv_export.proofs.Measured.{weights-left}

@@ -1,7 +1,7 @@
 -- `put_bytes` meets its contract. The loop's invariant: the bytes from i on are left to write.
 -- Rests on `writer`, Over, and on Putting.antt.
-use mathlib.Core.List.{List, _∷_, [], _++_}
-use Prim.Native.Nat.{ℕ, _+_, _-_, _<_, _≤_}
+use mathlib.Core.List.{_∷_, [], _++_}
+use Prim.Native.Nat.{_+_, _-_, _<_, _≤_}
 use native.Mathlib.Omega.{arith}
 use borrow.Author.Needs.{needs}
 use lib.ListN.{length, getD, drop, drop-of-length-le}

@@ -1,9 +1,8 @@
 -- `put_entry` meets its contract: the number alone, or the records of the ways.
 -- Rests on `writer`, Over, on Records.antt and on the contracts of the pieces.
 use mathlib.Core.Path.{_≡_, refl, sym, _∙_}
-use mathlib.Core.List.{List, [], _∷_, _++_}
+use mathlib.Core.List.{[], _∷_, _++_}
 use Prim.Native.Nat.{ℕ, _+_, _-_}
-use native.Mathlib.Omega.{arith}
 use borrow.Author.Needs.{needs}
 use lib.ListN.{length, take, drop}
 use Rattle.rules.specs.Sheet.{column}

@@ -4,7 +4,6 @@ use mathlib.Core.Path.{_≡_}
 use mathlib.Core.Bool.{true}
 use mathlib.Core.List.{List, _++_}
 use Prim.Native.Nat.{ℕ}
-use borrow.Author.Needs.{needs}
 use Rattle.writer.specs.Pieces.{Room}
 use Rattle.writer.proofs.Over.{wrote-long, room-first, room-second, wrote-both}
 use Rattle.csv_export.specs.Parts.{namedText, placeText}

@@ -1,14 +1,10 @@
 -- `put_short` meets its contract: one byte, or two.
 -- Rests on `writer`, Over, and on Putting.antt.
-use mathlib.Core.Path.{_≡_}
-use mathlib.Core.List.{[], _∷_}
-use Prim.Native.Nat.{ℕ, _+_, _/_, _%_, _<_, _≤_}
+use Prim.Native.Nat.{_+_, _/_, _%_, _<_}
 use native.Mathlib.Omega.{arith}
 use borrow.Author.Needs.{needs}
 use lib.ListN.{length, length-set}
-use Rattle.rules.specs.Text.{decimal}
 use Rattle.rules.proofs.Decimal.{decimal-one}
-use Rattle.writer.specs.Pieces.{Room}
 use Rattle.writer.proofs.Over.{wrote-byte}
 use Rattle.csv_export.proofs.Putting.{wrote-two, decimal-two}
 use Rattle.csv_export.proofs.pieces.put_short.Statement.{statement}

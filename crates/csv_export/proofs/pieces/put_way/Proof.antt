@@ -1,7 +1,6 @@
 -- `put_way` meets its contract: three pieces, each behind the one before it.
 -- Rests on `writer`, Over, and on the contracts of the pieces.
-use mathlib.Core.List.{List, [], _∷_}
-use Prim.Native.Nat.{ℕ}
+use mathlib.Core.List.{[], _∷_}
 use Rattle.writer.proofs.Over.{wrote-long, first-room, second-room, third-room, wrote-three}
 use Rattle.csv_export.specs.Parts.{faultsText, wayText}
 use Rattle.csv_export.proofs.pieces.put_way.Statement.{statement}

@@ -1,11 +1,11 @@
 -- `put_ways` meets its contract. The loop's invariant: the records of the ways from i on are left to write.
 -- Rests on `writer`, Over, on Records.antt and on the contracts of `u64_at` and `put_way`.
 use mathlib.Core.Path.{_≡_}
-use mathlib.Core.List.{List, _++_}
-use Prim.Native.Nat.{ℕ, _+_, _-_, _≤_}
+use mathlib.Core.List.{_++_}
+use Prim.Native.Nat.{_+_, _-_, _≤_}
 use native.Mathlib.Omega.{arith}
 use borrow.Author.Needs.{needs}
-use lib.ListN.{length, drop, drop-of-length-le}
+use lib.ListN.{drop, drop-of-length-le}
 use Rattle.rules.specs.Sheet.{column}
 use Rattle.rules.proofs.Bytes.{length-column}
 use Rattle.writer.proofs.Over.{Left, left-all, left-long, left-none, next-room, next-written}

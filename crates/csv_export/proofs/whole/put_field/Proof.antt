@@ -1,11 +1,11 @@
 -- `put_field` meets its contract: a comma, and the digits behind it.
 -- Rests on `writer`, Over, on Records.antt and on the contracts of `digits_of` and `put_bytes`.
 use mathlib.Core.Path.{_≡_, refl}
-use mathlib.Core.List.{List, [], _∷_, _++_}
-use Prim.Native.Nat.{ℕ, _+_, _-_, _<_}
+use mathlib.Core.List.{[], _∷_, _++_}
+use Prim.Native.Nat.{_+_, _-_}
 use native.Mathlib.Omega.{arith}
 use borrow.Author.Needs.{needs}
-use lib.ListN.{length, take, drop, set}
+use lib.ListN.{take, drop, set}
 use Rattle.rules.specs.Text.{decimal}
 use Rattle.writer.specs.Pieces.{Room, Wrote}
 use Rattle.writer.proofs.Over.{wrote-long, wrote-byte, room-second, wrote-both}

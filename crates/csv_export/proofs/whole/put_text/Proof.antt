@@ -1,12 +1,12 @@
 -- `put_text` meets its contract: the two records in front, and the records of the cues behind them.
 -- Rests on `writer`, Over, on Words.antt and Cues.antt, and on the contracts of the parts.
-use mathlib.Core.Path.{_≡_, sym, ap, ap₂, _∙_}
+use mathlib.Core.Path.{_≡_, ap₂}
 use mathlib.Core.List.{List, _++_}
-use Prim.Native.Nat.{ℕ, _+_, _≤_}
+use Prim.Native.Nat.{ℕ, _+_}
 use native.Mathlib.Omega.{arith}
 use borrow.Author.Needs.{needs}
-use lib.ListN.{length, take, length-take, length-append}
-use Rattle.rules.specs.Sheet.{AllBelow, decode}
+use lib.ListN.{take, length-take}
+use Rattle.rules.specs.Sheet.{decode}
 use Rattle.rules.proofs.Bytes.{each-below}
 use Rattle.csv.specs.Texts.{csvOf}
 use Rattle.writer.specs.Pieces.{Room, Wrote}

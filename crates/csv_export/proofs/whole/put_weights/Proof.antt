@@ -1,11 +1,10 @@
 -- `put_weights` meets its contract. The loop's invariant: the weights from i on are left to write.
 -- Rests on `writer`, Over, on Records.antt and on the contract of `put_field`.
-use mathlib.Core.Path.{_≡_}
-use mathlib.Core.List.{List, _∷_, _++_, map}
-use Prim.Native.Nat.{ℕ, _+_, _-_, _<_, _≤_}
+use mathlib.Core.List.{map}
+use Prim.Native.Nat.{_-_, _≤_}
 use native.Mathlib.Omega.{arith}
 use borrow.Author.Needs.{needs}
-use lib.ListN.{length, getD, drop, drop-of-length-le}
+use lib.ListN.{length, drop, drop-of-length-le}
 use Rattle.rules.specs.Text.{decimal}
 use Rattle.csv.specs.Texts.{furtherFields}
 use Rattle.writer.proofs.Over.{Left, left-all, left-long, left-none, next-room, next-written}

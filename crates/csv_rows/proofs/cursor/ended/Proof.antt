@@ -7,8 +7,6 @@ use Rattle.csv_rows.proofs.Stops.{ended-comma, ended-last}
 use borrow.Author.Needs.{needs}
 use Rattle.csv_rows.proofs.cursor.ended.Statement.{statement}
 use Rattle.csv_rows.proofs.cursor.ended.Tie as tie
-use Rattle.csv_rows.proofs.cursor.ends.Reads as ends-reads
-use Rattle.csv_rows.proofs.cursor.stands.Reads as stands-reads
 
 stands-requires : tie.Need-stands-requires
 stands-requires c κs = search needs

@@ -5,7 +5,6 @@ use Rattle.csv_rows.proofs.Reading.{ends-in, ends-out}
 use borrow.Author.Needs.{needs}
 use Rattle.csv_rows.proofs.cursor.ends.Statement.{statement}
 use Rattle.csv_rows.proofs.cursor.ends.Tie as tie
-use Rattle.csv_rows.proofs.cursor.breaks.Reads as breaks-reads
 
 breaks-requires : tie.Need-breaks-requires
 breaks-requires c κs = search needs

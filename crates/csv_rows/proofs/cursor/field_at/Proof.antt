@@ -6,10 +6,6 @@ use Rattle.csv_rows.proofs.Stops.{quote-first, closed-bare, field-ended
 use borrow.Author.Needs.{needs}
 use Rattle.csv_rows.proofs.cursor.field_at.Statement.{statement}
 use Rattle.csv_rows.proofs.cursor.field_at.Tie as tie
-use Rattle.csv_rows.proofs.cursor.ended.Reads as ended-reads
-use Rattle.csv_rows.proofs.cursor.quoted_at.Reads as quoted-at-reads
-use Rattle.csv_rows.proofs.cursor.signed_at.Reads as signed-at-reads
-use Rattle.csv_rows.proofs.cursor.stands.Reads as stands-reads
 
 stands-requires : tie.Need-stands-requires
 stands-requires c κs = search needs

@@ -8,9 +8,6 @@ use Rattle.csv_rows.proofs.Reading.{Reading, reading-none, reading-more
 use borrow.Author.Needs.{needs}
 use Rattle.csv_rows.proofs.cursor.number_at.Statement.{statement}
 use Rattle.csv_rows.proofs.cursor.number_at.Tie as tie
-use Rattle.csv_rows.proofs.cursor.number_at.Reads as reads
-use Rattle.csv_rows.proofs.cursor.number_at.Lts as lts
-use Rattle.csv_rows.proofs.cursor.stands.Reads as stands-reads
 
 abbrev Inv-loop : tie.InvT-loop
 Inv-loop text at n₀ i₀ n i = Reading text at i n

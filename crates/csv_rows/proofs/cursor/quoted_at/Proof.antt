@@ -9,9 +9,6 @@ use Rattle.csv_rows.proofs.Stops.{quote-first, closed-quoted, unclosed,
 use borrow.Author.Needs.{needs}
 use Rattle.csv_rows.proofs.cursor.quoted_at.Statement.{statement}
 use Rattle.csv_rows.proofs.cursor.quoted_at.Tie as tie
-use Rattle.csv_rows.proofs.cursor.ended.Reads as ended-reads
-use Rattle.csv_rows.proofs.cursor.signed_at.Reads as signed-at-reads
-use Rattle.csv_rows.proofs.cursor.stands.Reads as stands-reads
 
 add-signed-at : tie.Need-add-signed-at
 add-signed-at c =

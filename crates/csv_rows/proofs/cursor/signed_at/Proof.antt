@@ -1,6 +1,6 @@
 -- `signed_at` meets its contract.
 -- Rests on Reading.antt.
-use mathlib.Core.Path.{_≡_, sym, ap, _∙_}
+use mathlib.Core.Path.{_≡_, ap}
 use mathlib.Core.Logic.{inl, inr}
 use Prim.Native.Nat.{_+_}
 use native.Mathlib.Omega.{arith}
@@ -9,8 +9,6 @@ use Rattle.csv_rows.proofs.Reading.{past-minus, minus-alone, signed-rea
 use borrow.Author.Needs.{needs}
 use Rattle.csv_rows.proofs.cursor.signed_at.Statement.{statement}
 use Rattle.csv_rows.proofs.cursor.signed_at.Tie as tie
-use Rattle.csv_rows.proofs.cursor.number_at.Reads as number-at-reads
-use Rattle.csv_rows.proofs.cursor.stands.Reads as stands-reads
 
 -- The number starts behind the minus, if there is one.
 from-is : (c : tie.Joined1) → c .if1 .from ≡ c .before .before .before .args .at + indicator (c .before .stands .result)

@@ -8,7 +8,6 @@ use Rattle.csv_rows.proofs.Faults.{Looking, looking-all, looking-bad, l
 use borrow.Author.Needs.{needs}
 use Rattle.csv_rows.proofs.ways.among.Statement.{statement}
 use Rattle.csv_rows.proofs.ways.among.Tie as tie
-use Rattle.csv_rows.proofs.ways.same_fault.Reads as same-fault-reads
 
 abbrev Inv-loop : tie.InvT-loop
 Inv-loop x text more start at₀ left₀ at left = Looking x text more start left at

@@ -5,8 +5,6 @@ use Rattle.csv_rows.proofs.Naming.{twice-near, twice-far}
 use borrow.Author.Needs.{needs}
 use Rattle.csv_rows.proofs.ways.named_twice.Statement.{statement}
 use Rattle.csv_rows.proofs.ways.named_twice.Tie as tie
-use Rattle.csv_rows.proofs.ways.among.Reads as among-reads
-use Rattle.csv_rows.proofs.ways.named.Reads as named-reads
 
 named-requires : tie.Need-named-requires
 named-requires c κs = search needs

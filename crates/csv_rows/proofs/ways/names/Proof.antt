@@ -7,9 +7,6 @@ use Rattle.csv_rows.proofs.Collecting.{Collected, collected-none, colle
 use borrow.Author.Needs.{needs}
 use Rattle.csv_rows.proofs.ways.names.Statement.{statement}
 use Rattle.csv_rows.proofs.ways.names.Tie as tie
-use Rattle.csv_rows.proofs.ways.fault_at.Reads as fault-at-reads
-use Rattle.csv_rows.proofs.ways.named_twice.Reads as named-twice-reads
-use Rattle.csv_rows.proofs.ways.with_fault.Reads as with-fault-reads
 
 abbrev Inv-loop : tie.InvT-loop
 Inv-loop text start w₀ none at₀ more₀ w at more = Collected text start w at more

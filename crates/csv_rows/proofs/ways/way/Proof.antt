@@ -4,8 +4,6 @@ use Rattle.csv_rows.proofs.Rows.{way-names, way-empty}
 use borrow.Author.Needs.{needs}
 use Rattle.csv_rows.proofs.ways.way.Statement.{statement}
 use Rattle.csv_rows.proofs.ways.way.Tie as tie
-use Rattle.csv_rows.proofs.ways.names.Reads as names-reads
-use Rattle.csv_rows.proofs.ways.nothing.Reads as nothing-reads
 
 names-requires : tie.Need-names-requires
 names-requires c κs = search needs
