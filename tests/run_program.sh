@@ -57,9 +57,14 @@ tidied() {
 }
 tidy=$(grep '^ *LC_ALL=C awk .* list.csv > tidy.csv$' README.md)
 mark='\357\273\277'
-# Line feeds alone; a byte order mark; empty fields behind a row; all of these, as wide as the widest row, and an empty row behind them.
+# What LibreOffice saves. Line feeds alone; a byte order mark; empty fields behind a row; all of these, as wide as the widest row, and an
+# empty row behind them; and a text that is right.
+tidied 1 < tests/texts/spreadsheet/show.csv
 tr -d '\r' < samples/show.csv | tidied 1
 { printf $mark; cat samples/show.csv; } | tidied 1
 sed '4s/\r/,,\r/' samples/show.csv | tidied 4
 { printf $mark; tr -d '\r' < samples/show.csv | awk -F, -v OFS=, '{ NF = 11; print }'; echo ,,,,,,,,,,; } | tidied 1
+cp samples/show.csv $made/list.csv
+(cd $made && eval "$tidy")
+cmp $made/tidy.csv samples/show.csv
 echo "the README's line puts a text right"

@@ -169,7 +169,7 @@ fn names_twice(fields: &[u8]) -> bool {
     !bare.all(|field| seen.insert(field))
 }
 
-pub fn unquoted(field: &[u8]) -> &[u8] {
+fn unquoted(field: &[u8]) -> &[u8] {
     match field {
         [b'"', content @ .., b'"'] => content,
         _ => field,

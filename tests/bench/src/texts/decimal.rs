@@ -1,43 +1,9 @@
-//! Numbers in decimal: a field of bytes read as a number, and the digits of a number. The library's crate `decimal`.
-
-/// What a field says as a number; not good, the value is 0.
-pub struct Numeral {
-    pub good: bool,
-    pub value: u64,
-}
+//! Numbers in decimal: the digits of a number. The library's crate `decimal`.
 
 /// The digits of a number: the bytes from `from` on.
 pub struct Digits {
     pub bytes: [u8; 20],
     pub from: usize,
-}
-
-/// A field as a number: at most ten digits, without plus and without leading zeros.
-pub fn numeral_in(field: &[u8]) -> Numeral {
-    let none = Numeral {
-        good: false,
-        value: 0,
-    };
-    if field.is_empty() {
-        return none;
-    }
-    if field.len() > 10 {
-        return none;
-    }
-    if field[0] == b'0' {
-        return Numeral {
-            good: field.len() == 1,
-            value: 0,
-        };
-    }
-    let mut value = 0;
-    for &byte in field {
-        if !byte.is_ascii_digit() {
-            return none;
-        }
-        value = 10 * value + u64::from(byte - b'0');
-    }
-    Numeral { good: true, value }
 }
 
 /// The digits of a number, found from the last one on; a word has at most twenty.

@@ -1,6 +1,6 @@
 //! A text read in one pass into the lists of the sheet that it says, then the writer's call on those lists. The library's crate `csv_import`.
 
-use super::rows::{line_end, row, run, weights as weights_in, RowSaid};
+use super::rows::{row, run, weights as weights_in, RowSaid};
 use super::writer::{front_number, write};
 use super::Limits;
 use crate::formula::{MOST_FAULTS, MOST_WAYS};
@@ -191,21 +191,19 @@ fn read_text(
     if text.is_empty() {
         return misread_at(1);
     }
-    let end = line_end(text, 0);
-    let first = run(&text[..end]);
+    let first = run(text, 0);
     if !first.good {
         return misread_at(1);
     }
-    let second = end + 2;
+    let second = first.next;
     if text.len() <= second {
         return misread_at(2);
     }
-    let end = line_end(text, second);
-    let w = weights_in(&text[second..end], weights);
+    let w = weights_in(text, second, weights);
     if !w.good {
         return misread_at(2);
     }
-    let rows = read_rows(text, end + 2, numbers, counts, present, absent);
+    let rows = read_rows(text, w.next, numbers, counts, present, absent);
     TextRead {
         misread: rows.misread,
         limits: first.limits,

@@ -1,11 +1,9 @@
-//! One line of a text read: where it ends, its fields, and what it says as the record of the limits, of the weights or of a way.
-//! The library's crate `csv_rows`. The record of a way is read by one cursor, each byte once.
+//! One line of a text read by one cursor, each byte once: its fields, and what it says as the record of the limits, of the weights or of a way.
+//! The library's crate `csv_rows`.
 
-use super::decimal::numeral_in;
 use super::Limits;
-use crate::csv::unquoted;
 
-// Lines and fields
+// The cursor
 
 /// CR LF stands at a position.
 fn breaks(text: &[u8], i: usize) -> bool {
@@ -18,142 +16,13 @@ fn breaks(text: &[u8], i: usize) -> bool {
     text[i + 1] == b'\n'
 }
 
-/// Where the line ends that starts at a position: at the next CR LF, or at the end of the text.
-pub fn line_end(text: &[u8], at: usize) -> usize {
-    let mut i = at;
-    while i < text.len() {
-        if breaks(text, i) {
-            return i;
-        }
-        i += 1;
-    }
-    i
-}
-
-/// Where the field ends that starts at a position: at the next comma, or at the end of the line.
-fn field_end(line: &[u8], at: usize) -> usize {
-    let mut i = at;
-    while i < line.len() {
-        if line[i] == b',' {
-            return i;
-        }
-        i += 1;
-    }
-    i
-}
-
-/// A field as a number, and where the next field starts.
-struct NumeralAt {
-    good: bool,
-    value: u64,
-    next: usize,
-}
-
-/// The field at a position as a number; there is none behind the end of the line.
-fn numeral_at(line: &[u8], at: usize) -> NumeralAt {
-    if line.len() < at {
-        return NumeralAt {
-            good: false,
-            value: 0,
-            next: at,
-        };
-    }
-    let end = field_end(line, at);
-    let n = numeral_in(unquoted(&line[at..end]));
-    NumeralAt {
-        good: n.good,
-        value: n.value,
-        next: end + 1,
-    }
-}
-
-// The first two records
-
-/// What a line says as the record of the limits; not good, both are 0.
-pub struct RunSaid {
-    pub good: bool,
-    pub limits: Limits,
-}
-
-/// The record of the limits: `run`, allowance, budget.
-pub fn run(line: &[u8]) -> RunSaid {
-    let none = RunSaid {
-        good: false,
-        limits: Limits {
-            allowance: 0,
-            budget: 0,
-        },
-    };
-    let end = field_end(line, 0);
-    if unquoted(&line[..end]) != b"run" {
-        return none;
-    }
-    let a = numeral_at(line, end + 1);
-    if !a.good {
-        return none;
-    }
-    let b = numeral_at(line, a.next);
-    if !b.good {
-        return none;
-    }
-    if b.next <= line.len() {
-        return none;
-    }
-    RunSaid {
-        good: true,
-        limits: Limits {
-            allowance: a.value,
-            budget: b.value,
-        },
-    }
-}
-
-/// What a line says as the record of the weights: how many there are; not good, the count is 0.
-pub struct WeightsSaid {
-    pub good: bool,
-    pub count: usize,
-}
-
-/// A weight, cut to one above the limit.
-fn cut(weight: u64) -> u32 {
-    weight.min(1_000_000_001) as u32
-}
-
-/// The record of the weights: `weights`, then each weight. The list takes as many as it has room for; all are counted.
-pub fn weights(line: &[u8], weights: &mut [u32]) -> WeightsSaid {
-    let none = WeightsSaid {
-        good: false,
-        count: 0,
-    };
-    let end = field_end(line, 0);
-    if unquoted(&line[..end]) != b"weights" {
-        return none;
-    }
-    let mut at = end + 1;
-    let mut count = 0;
-    while at <= line.len() {
-        let w = numeral_at(line, at);
-        if !w.good {
-            return none;
-        }
-        if count < weights.len() {
-            weights[count] = cut(w.value);
-        }
-        count += 1;
-        at = w.next;
-    }
-    WeightsSaid { good: true, count }
-}
-
-// The cursor
-
 /// The number at a position of a text, and where its digits end.
 struct NumberAt {
     value: u64,
     end: usize,
 }
 
-/// The same, perhaps behind a minus; not good, there is no digit.
+/// The same, perhaps behind a minus; not good, there is no digit. Of a word, only where its bytes end, and whether all are there.
 struct SignedAt {
     good: bool,
     absent: bool,
@@ -276,6 +145,146 @@ fn field_at(text: &[u8], at: usize) -> FieldAt {
     let c = signed_at(text, at);
     let end = c.end;
     ended(text, c, end)
+}
+
+/// The field at a position, read as a number without a minus.
+fn numeral_at(text: &[u8], at: usize) -> FieldAt {
+    let mut f = field_at(text, at);
+    if f.absent {
+        f.good = false;
+    }
+    f
+}
+
+/// The bytes of a word at a position, as far as they stand there.
+fn spelled(text: &[u8], at: usize, word: &[u8]) -> SignedAt {
+    let mut n = 0;
+    let mut end = at;
+    while n < word.len() {
+        if !stands(text, end, word[n]) {
+            return SignedAt {
+                good: false,
+                absent: false,
+                value: 0,
+                end,
+            };
+        }
+        n += 1;
+        end += 1;
+    }
+    SignedAt {
+        good: true,
+        absent: false,
+        value: 0,
+        end,
+    }
+}
+
+/// The field at a position, read as a word.
+fn word_at(text: &[u8], at: usize, word: &[u8]) -> FieldAt {
+    if stands(text, at, b'"') {
+        let c = spelled(text, at + 1, word);
+        let end = c.end;
+        if stands(text, end, b'"') {
+            return ended(text, c, end + 1);
+        }
+        return FieldAt {
+            good: false,
+            absent: false,
+            value: 0,
+            more: false,
+            next: end,
+        };
+    }
+    let c = spelled(text, at, word);
+    let end = c.end;
+    ended(text, c, end)
+}
+
+// The first two records
+
+/// What a line says as the record of the limits, and where the next line starts; not good, both limits are 0.
+pub struct RunSaid {
+    pub good: bool,
+    pub limits: Limits,
+    pub next: usize,
+}
+
+/// The record of the limits in the line at a position: `run`, allowance, budget.
+pub fn run(text: &[u8], at: usize) -> RunSaid {
+    let none = RunSaid {
+        good: false,
+        limits: Limits {
+            allowance: 0,
+            budget: 0,
+        },
+        next: at,
+    };
+    let w = word_at(text, at, b"run");
+    if !(w.good && w.more) {
+        return none;
+    }
+    let a = numeral_at(text, w.next);
+    if !(a.good && a.more) {
+        return none;
+    }
+    let b = numeral_at(text, a.next);
+    if !b.good || b.more {
+        return none;
+    }
+    RunSaid {
+        good: true,
+        limits: Limits {
+            allowance: a.value,
+            budget: b.value,
+        },
+        next: b.next + 1,
+    }
+}
+
+/// What a line says as the record of the weights: how many there are; not good, the count is 0. Then where the next line starts.
+pub struct WeightsSaid {
+    pub good: bool,
+    pub count: usize,
+    pub next: usize,
+}
+
+/// A weight, cut to one above the limit.
+fn cut(weight: u64) -> u32 {
+    weight.min(1_000_000_001) as u32
+}
+
+/// The record of the weights in the line at a position: `weights`, then each weight. The list takes as many as it has room for; all are counted.
+pub fn weights(text: &[u8], start: usize, weights: &mut [u32]) -> WeightsSaid {
+    let none = WeightsSaid {
+        good: false,
+        count: 0,
+        next: start,
+    };
+    let word = word_at(text, start, b"weights");
+    if !word.good {
+        return none;
+    }
+    let mut at = word.next;
+    let mut more = word.more;
+    let mut count = 0;
+    while more {
+        let w = numeral_at(text, at);
+        if !w.good {
+            return none;
+        }
+        if count < weights.len() {
+            weights[count] = cut(w.value);
+        }
+        count += 1;
+        at = w.next;
+        more = w.more;
+    }
+    WeightsSaid {
+        good: true,
+        count,
+        next: at + 1,
+    }
 }
 
 // The records of ways
@@ -444,7 +453,7 @@ fn names(text: &[u8], start: usize) -> NamesSaid {
 
 /// The field `0` alone: the empty way.
 fn nothing(text: &[u8], at: usize) -> NamesSaid {
-    let f = field_at(text, at);
+    let f = numeral_at(text, at);
     let mut said = NamesSaid {
         good: false,
         words: Words {
@@ -455,9 +464,6 @@ fn nothing(text: &[u8], at: usize) -> NamesSaid {
         next: f.next,
     };
     if f.more {
-        return said;
-    }
-    if f.absent {
         return said;
     }
     if f.value != 0 {
@@ -481,7 +487,7 @@ fn way(text: &[u8], at: usize) -> NamesSaid {
 
 /// The record of a way in the line at a position: a cue number, then the fields of the way, or none for a cue without ways.
 pub fn row(text: &[u8], at: usize) -> RowSaid {
-    let c = field_at(text, at);
+    let c = numeral_at(text, at);
     let mut said = RowSaid {
         good: false,
         cue: 0,
@@ -492,9 +498,6 @@ pub fn row(text: &[u8], at: usize) -> RowSaid {
         next: c.next,
     };
     if !c.good {
-        return said;
-    }
-    if c.absent {
         return said;
     }
     if c.value > 65535 {
