@@ -1,4 +1,4 @@
--- The walk over the records of ways, record by record, and the first two records of a text: laws on plain lists.
+-- The walk over the records of ways, record by record: laws on plain lists.
 -- Rests on Adding.antt and on `csv_rows`, Scanning.
 use mathlib.Core.Path.{_≡_, refl, sym, ap, _∙_, subst}
 use mathlib.Core.Bool.{Bool, true, false, _&&_}

@@ -1,5 +1,5 @@
 //! The import: a text read in one pass into the lists of the sheet that it says, then the writer's call on those lists.
-//! Rests on the lines of `csv_rows` and on `writer`. What a call promises stands in `csv`, Promises.
+//! Rests on the records of `csv_rows` and on `writer`. What a call promises stands in `csv`, Promises.
 ghost use mathlib.Core.Path.{_≡_};
 ghost use mathlib.Core.Bool.{_||_};
 ghost use mathlib.Core.List.{_∷_};

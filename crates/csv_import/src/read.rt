@@ -1,5 +1,5 @@
 //! A text read in one pass: the first two records, then the records of ways.
-//! Rests on the lines of `csv_rows`, on sums.rt and on keep.rt.
+//! Rests on the records of `csv_rows`, on sums.rt and on keep.rt.
 ghost use mathlib.Core.Path.{_≡_};
 ghost use Rattle.csv_rows.specs.Scan.{recordsFrom};
 ghost use Rattle.csv_import.specs.Gather.{ToldRows, ToldText};

@@ -15,7 +15,7 @@ use Rattle.rules.proofs.Sheets.{same-equal, equal-same}
 use Rattle.rules.specs.Text.{decimalValue}
 use Rattle.decimal.specs.Numerals.{isNumeral}
 use Rattle.csv.specs.Shapes.{signed, unsigned}
-use Rattle.csv_rows.specs.declared.SignedAt.{SignedAt}
+use Rattle.csv_rows.specs.declared.ReadAt.{ReadAt}
 use Rattle.csv_rows.specs.declared.FieldAt.{FieldAt}
 use Rattle.csv_rows.specs.Cursor.{standsAt, part, Plain, isWord, isSigned, firstField, Longest, EndedAt, FieldNext, NumeralNext, WordNext}
 use Rattle.csv_rows.proofs.Scanning.{same-lengths}
@@ -103,7 +103,7 @@ module _ (w : List ℕ) (p : Plain w) (t : List ℕ) (at : ℕ) where
   word-none r g h = record { good = g ∙ sym h; passed = λ k. absurd (false≢true (sym g ∙ k)) }
 
   -- A word that was read, and its field ended.
-  pub word-ended : (from e : ℕ) (c : SignedAt) → Longest (isWord w) t from (c .end) (c .good)
+  pub word-ended : (from e : ℕ) (c : ReadAt) → Longest (isWord w) t from (c .end) (c .good)
       → Closed (isWord w) (word-quote w p) t at e (part t from (c .end)) → (r : FieldAt) → EndedAt t c e r → WordNext w t at r
   word-ended from e c l s r a =
       let told = told-ended (isWord w) (word-quote w p) t at from (c .end) e l s c refl r a in

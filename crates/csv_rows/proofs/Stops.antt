@@ -15,7 +15,7 @@ use borrow.Author.Tests.{ne-eqb}
 use Rattle.rules.specs.Text.{decimalValue}
 use Rattle.csv.specs.Cut.{onto, rawFields, quoted, unquoted, fieldsIn}
 use Rattle.csv.specs.Shapes.{signed, unsigned}
-use Rattle.csv_rows.specs.declared.SignedAt.{SignedAt}
+use Rattle.csv_rows.specs.declared.ReadAt.{ReadAt}
 use Rattle.csv_rows.specs.declared.FieldAt.{FieldAt}
 use Rattle.csv_rows.specs.Scan.{breaksAt, lineSpan, lineAt, nextLine}
 use Rattle.csv_rows.specs.Cursor.{standsAt, endsAt, part, Plain, isSigned, firstField, behind, lineBehind, Longest, SignedRead, EndedAt, Passed, FieldNext}
@@ -353,7 +353,7 @@ module _ (accepts : List ℕ → Bool) (no-quote : (h : List ℕ) → accepts (3
         }
 
     -- So the field is told.
-    pub told-ended : (c : SignedAt) → c .good ≡ b → (f : FieldAt) → EndedAt t c e f
+    pub told-ended : (c : ReadAt) → c .good ≡ b → (f : FieldAt) → EndedAt t c e f
         → Told (f .good) (f .more) (f .next) × (f .absent ≡ c .absent) × (f .value ≡ c .value)
     told-ended c g f a = split (standsAt t e 44) refl
       where
@@ -362,12 +362,12 @@ module _ (accepts : List ℕ → Bool) (no-quote : (h : List ℕ) → accepts (3
         split false k = rw (a .last k, g) (told-last b (endsAt t e) refl refl k, refl, refl)
 
 -- A comma follows what was read: a further field comes.
-pub ended-comma : (t : List ℕ) (c : SignedAt) (e : ℕ) → standsAt t e 44 ≡ true
+pub ended-comma : (t : List ℕ) (c : ReadAt) (e : ℕ) → standsAt t e 44 ≡ true
     → EndedAt t c e (record { good = c .good; absent = c .absent; value = c .value; more = true; next = e + 1 })
 ended-comma t c e k = record { comma = λ p. rw add-one; last = λ p. absurd (false≢true (sym p ∙ k)) }
 
 -- No comma follows: the record must end there.
-pub ended-last : (t : List ℕ) (c : SignedAt) (e : ℕ) (b : Bool) → standsAt t e 44 ≡ false → b ≡ (c .good && endsAt t e)
+pub ended-last : (t : List ℕ) (c : ReadAt) (e : ℕ) (b : Bool) → standsAt t e 44 ≡ false → b ≡ (c .good && endsAt t e)
     → EndedAt t c e (record { good = b; absent = c .absent; value = c .value; more = false; next = e + 1 })
 ended-last t c e b k g = record { comma = λ p. absurd (false≢true (sym k ∙ p)); last = λ p. rw (g, add-one) }
 
@@ -391,7 +391,7 @@ field-none t at v n a m small bad =
     }
 
 -- A number that was read, and its field ended.
-pub field-ended : (t : List ℕ) (at from e : ℕ) (c : SignedAt) → SignedRead t from c → Closed isSigned quote-first t at e (part t from (c .end))
+pub field-ended : (t : List ℕ) (at from e : ℕ) (c : ReadAt) → SignedRead t from c → Closed isSigned quote-first t at e (part t from (c .end))
     → (r : FieldAt) → EndedAt t c e r → FieldNext t at r
 field-ended t at from e c s w r a =
     let told = told-ended isSigned quote-first t at from (c .end) e (s .taken) w c refl r a in

@@ -12,7 +12,7 @@ use Rattle.decimal.specs.Numerals.{isNumeral}
 use Rattle.csv.specs.Cut.{fieldsIn}
 use Rattle.csv.specs.Shapes.{signed, unsigned, isFault, faultIn}
 use Rattle.csv_rows.specs.declared.NumberAt.{NumberAt}
-use Rattle.csv_rows.specs.declared.SignedAt.{SignedAt}
+use Rattle.csv_rows.specs.declared.ReadAt.{ReadAt}
 use Rattle.csv_rows.specs.declared.FieldAt.{FieldAt}
 use Rattle.csv_rows.specs.declared.FaultAt.{FaultAt}
 use Rattle.csv_rows.specs.Scan.{breaksAt, lineAt, nextLine}
@@ -73,14 +73,14 @@ pub record Longest (accepts : List ℕ → Bool) (t : List ℕ) (at e : ℕ) (b 
   pub longest : e < length t → (s : List ℕ) → accepts (part t at e ++ getD t e 0 ∷ s) ≡ false
 
 -- A number at a position, with a minus in front or without.
-pub record SignedRead (t : List ℕ) (at : ℕ) (r : SignedAt) : Type 0 where
+pub record SignedRead (t : List ℕ) (at : ℕ) (r : ReadAt) : Type 0 where
   pub taken : Longest isSigned t at (r .end) (r .good)
   pub small : r .value < 10 ^ 10
   pub value : r .good ≡ true → r .value ≡ decimalValue (unsigned (part t at (r .end)))
   pub absent : r .good ≡ true → r .absent ≡ signed (part t at (r .end))
 
 -- What was read, and whether its field ends at a position: a comma, the end of the record, or neither.
-pub record EndedAt (t : List ℕ) (c : SignedAt) (e : ℕ) (r : FieldAt) : Type 0 where
+pub record EndedAt (t : List ℕ) (c : ReadAt) (e : ℕ) (r : FieldAt) : Type 0 where
   pub comma : standsAt t e 44 ≡ true → r ≡ record { good = c .good; absent = c .absent; value = c .value; more = true; next = suc e }
   pub last : standsAt t e 44 ≡ false
       → r ≡ record { good = c .good && endsAt t e; absent = c .absent; value = c .value; more = false; next = suc e }

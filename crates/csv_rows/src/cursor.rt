@@ -8,7 +8,7 @@ ghost use Rattle.csv_rows.specs.Scan.{breaksAt};
 ghost use Rattle.csv_rows.specs.Cursor.{standsAt, endsAt, Plain, isWord, NumberRead, Longest, SignedRead, EndedAt, FieldNext, NumeralNext, WordNext};
 use super::FieldAt;
 use super::NumberAt;
-use super::SignedAt;
+use super::ReadAt;
 
 /// CR LF stands at a position.
 fn breaks(text: &[u8], i: usize) -> bool
@@ -75,7 +75,7 @@ fn number_at(text: &[u8], at: usize) -> NumberAt
 }
 
 /// The number at a position, perhaps behind a minus.
-pub fn signed_at(text: &[u8], at: usize) -> SignedAt
+pub fn signed_at(text: &[u8], at: usize) -> ReadAt
     requires { ⌜ at ≤ length (now text) ⌝ }
     ensures { λ r. ⌜ SignedRead (now (text .entry)) at r ⌝ }
 {
@@ -84,7 +84,7 @@ pub fn signed_at(text: &[u8], at: usize) -> SignedAt
     if absent {
         from = at + 1;
         if from == text.len() {
-            return SignedAt {
+            return ReadAt {
                 good: false,
                 absent,
                 value: 0,
@@ -93,7 +93,7 @@ pub fn signed_at(text: &[u8], at: usize) -> SignedAt
         }
     }
     let n = number_at(text, from);
-    SignedAt {
+    ReadAt {
         good: from < n.end,
         absent,
         value: n.value,
@@ -101,8 +101,8 @@ pub fn signed_at(text: &[u8], at: usize) -> SignedAt
     }
 }
 
-/// A number whose field must end at a position.
-pub fn ended(text: &[u8], c: SignedAt, end: usize) -> FieldAt
+/// What was read of a field that must end at a position.
+pub fn ended(text: &[u8], c: ReadAt, end: usize) -> FieldAt
     requires { ⌜ end ≤ length (now text) ⌝ }
     ensures { λ r. ⌜ EndedAt (now (text .entry)) c end r ⌝ }
 {
@@ -173,7 +173,7 @@ pub fn numeral_at(text: &[u8], at: usize) -> FieldAt
 }
 
 /// The bytes of a word at a position, as far as they stand there.
-fn spelled(text: &[u8], at: usize, word: &[u8]) -> SignedAt
+fn spelled(text: &[u8], at: usize, word: &[u8]) -> ReadAt
     requires { ⌜ at ≤ length (now text) ⌝ }
     requires { ⌜ Plain (now word) ⌝ }
     ensures { λ r. ⌜ Longest (isWord (now (word .entry))) (now (text .entry)) at (r .end) (r .good) ⌝ }
@@ -182,7 +182,7 @@ fn spelled(text: &[u8], at: usize, word: &[u8]) -> SignedAt
     let mut end = at;
     while n < word.len() {
         if !stands(text, end, word[n]) {
-            return SignedAt {
+            return ReadAt {
                 good: false,
                 absent: false,
                 value: 0,
@@ -192,7 +192,7 @@ fn spelled(text: &[u8], at: usize, word: &[u8]) -> SignedAt
         n += 1;
         end += 1;
     }
-    SignedAt {
+    ReadAt {
         good: true,
         absent: false,
         value: 0,

@@ -1,4 +1,4 @@
-//! One line of a text read: where it ends, its fields, and what it says as the record of the limits, of the weights or of a way.
+//! One line of a text, read by one cursor: its fields, and what it says as the record of the limits, of the weights or of a way.
 //! Rests on `decimal` and on the definitions of `csv`. What each function tells stands in specs/Told.antt.
 use csv::Fault;
 use rules::Limits;
@@ -39,8 +39,8 @@ pub struct NumberAt {
     pub end: usize,
 }
 
-/// The same, perhaps behind a minus; not good, there is no digit. Of a word, only where its bytes end, and whether all are there.
-pub struct SignedAt {
+/// What was read of a field, and where that ends: a number, perhaps behind a minus, or a word; not good, it is neither. A word has value 0.
+pub struct ReadAt {
     pub good: bool,
     pub absent: bool,
     pub value: u64,

@@ -22,8 +22,8 @@ struct NumberAt {
     end: usize,
 }
 
-/// The same, perhaps behind a minus; not good, there is no digit. Of a word, only where its bytes end, and whether all are there.
-struct SignedAt {
+/// What was read of a field, and where that ends: a number, perhaps behind a minus, or a word; not good, it is neither. A word has value 0.
+struct ReadAt {
     good: bool,
     absent: bool,
     value: u64,
@@ -78,13 +78,13 @@ fn number_at(text: &[u8], at: usize) -> NumberAt {
 }
 
 /// The number at a position, perhaps behind a minus.
-fn signed_at(text: &[u8], at: usize) -> SignedAt {
+fn signed_at(text: &[u8], at: usize) -> ReadAt {
     let absent = stands(text, at, b'-');
     let mut from = at;
     if absent {
         from = at + 1;
         if from == text.len() {
-            return SignedAt {
+            return ReadAt {
                 good: false,
                 absent,
                 value: 0,
@@ -93,7 +93,7 @@ fn signed_at(text: &[u8], at: usize) -> SignedAt {
         }
     }
     let n = number_at(text, from);
-    SignedAt {
+    ReadAt {
         good: from < n.end,
         absent,
         value: n.value,
@@ -101,8 +101,8 @@ fn signed_at(text: &[u8], at: usize) -> SignedAt {
     }
 }
 
-/// A number whose field must end at a position.
-fn ended(text: &[u8], c: SignedAt, end: usize) -> FieldAt {
+/// What was read of a field that must end at a position.
+fn ended(text: &[u8], c: ReadAt, end: usize) -> FieldAt {
     if stands(text, end, b',') {
         return FieldAt {
             good: c.good,
@@ -157,12 +157,12 @@ fn numeral_at(text: &[u8], at: usize) -> FieldAt {
 }
 
 /// The bytes of a word at a position, as far as they stand there.
-fn spelled(text: &[u8], at: usize, word: &[u8]) -> SignedAt {
+fn spelled(text: &[u8], at: usize, word: &[u8]) -> ReadAt {
     let mut n = 0;
     let mut end = at;
     while n < word.len() {
         if !stands(text, end, word[n]) {
-            return SignedAt {
+            return ReadAt {
                 good: false,
                 absent: false,
                 value: 0,
@@ -172,7 +172,7 @@ fn spelled(text: &[u8], at: usize, word: &[u8]) -> SignedAt {
         n += 1;
         end += 1;
     }
-    SignedAt {
+    ReadAt {
         good: true,
         absent: false,
         value: 0,
