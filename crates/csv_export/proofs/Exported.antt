@@ -15,6 +15,7 @@ use Rattle.rules.specs.Sheet.{decode, readRefusals, readNumber, writeAnswerBy, 
 use Rattle.rules.proofs.First.{none-applies, first-after, first-before, first-here, first-later, first-none}
 use Rattle.writer.specs.Pieces.{Room, Wrote}
 use Rattle.writer.proofs.Over.{over-front}
+use Rattle.writer.proofs.Writing.{refused-answer, refused-space}
 use Rattle.csv.specs.Texts.{csvOf}
 use Rattle.csv.specs.Calls.{exportRefusals, exportNumber, exportAnswer, exported}
 use Rattle.csv.specs.Promises.{Exporting}
@@ -77,18 +78,6 @@ module _ (bs space : List ℕ) (kept : exportNumber bs (length space) ≡ 0) whe
       let counted : end ≡ length out = w .ends ∙ zero-add (length out) in
       let front : new ≡ out ++ drop (length out) space = w .holds ∙ over-front space out in
       promised bs space new (WriteAnswer.Written end) (rw kept (ap WriteAnswer.Written counted)) (rw kept front)
-
--- Any number but 0 is a refusal,
-refused-answer : (k n : ℕ) → (k ≡ 0 → ⊥) → writeAnswerBy k n ≡ WriteAnswer.Refused k
-unfolding writeAnswerBy
-refused-answer zero n h = absurd (h refl)
-refused-answer (suc k) n h = refl
-
--- and leaves the space as it was.
-refused-space : (k : ℕ) (out space : List ℕ) → (k ≡ 0 → ⊥) → writtenBy k out space ≡ space
-unfolding writtenBy
-refused-space zero out space h = absurd (h refl)
-refused-space (suc k) out space h = refl
 
 -- Where nothing is written, the promise is kept.
 pub wrote-nothing : (bs space : List ℕ) {n : ℕ} → n ≡ exportNumber bs (length space) → (n ≡ 0 → ⊥) → Exporting bs space space (WriteAnswer.Refused n)

@@ -2,7 +2,7 @@
 -- Rests on Naming.antt, for one fault more.
 use mathlib.Core.Path.{_≡_, refl, sym, ap, _∙_}
 use mathlib.Core.Bool.{Bool, true, false, not, _&&_, _||_, false≢true}
-use mathlib.Core.List.{List, [], _∷_, map}
+use mathlib.Core.List.{List, _∷_, map}
 use Prim.Native.Nat.{ℕ, suc, _+_, _≤_}
 use native.Mathlib.Omega.{arith}
 use native.Mathlib.Numerals.{add-one}
@@ -16,7 +16,7 @@ use Rattle.csv_rows.specs.declared.Words.{Words}
 use Rattle.csv_rows.specs.Scan.{lineAt, nextLine}
 use Rattle.csv_rows.specs.Walks.{wordFor, withFault, twice, clash, someFar, apart, ToldFaults}
 use Rattle.csv_rows.specs.Cursor.{firstField, behind, lineBehind, FaultNext}
-use Rattle.csv_rows.proofs.Stops.{fields-raw}
+use Rattle.csv_rows.proofs.Stops.{fields-raw, left-are, none-left}
 use Rattle.csv_rows.proofs.Naming.{clash-none, twice-found, twice-not, far-next, far-before, words-next, or-false}
 
 -- What is asked of fields to come, with faults so far: that they are faults, none of them twice.
@@ -58,22 +58,17 @@ told-not good xs w n h = record { same = sym h; far = λ p. absurd (false≢true
 
 module _ (t : List ℕ) (start : ℕ) (w : Words) (at : ℕ) (more : Bool) (inv : Collected t start w at more) where
   module _ (h : more ≡ true) (r : FaultAt) (s : FaultNext t at r) where
-    -- The fields that are left.
-    left-are : behind more t at ≡ fieldsIn (lineAt t at)
-    unfolding behind
-    left-are = ap (λ (b : Bool). behind b t at) h
-
     -- A field that is no fault.
     pub collected-bad : (none : Words) (n : ℕ) → r .good ≡ false
         → ToldFaults (apart (fieldsIn (lineAt t start))) (map faultIn (fieldsIn (lineAt t start))) (record { good = false; words = none; next = n })
     unfolding allFaults joined
-    collected-bad none n b = told-not _ _ none n (sym (inv .good) ∙ ap (joined w) (left-are ∙ fields-raw t at) ∙ rw (sym (s .good) ∙ b))
+    collected-bad none n b = told-not _ _ none n (sym (inv .good) ∙ ap (joined w) (left-are t at more h ∙ fields-raw t at) ∙ rw (sym (s .good) ∙ b))
 
     module _ (g : r .good ≡ true) (b : Bool)
         (e : allFaults (behind (r .more) t (r .next)) ≡ true → b ≡ twice w (r .fault) (map faultIn (behind (r .more) t (r .next)))) where
       -- The field there, and those behind it.
       here : behind more t at ≡ firstField t at ∷ behind (r .more) t (r .next)
-      here = left-are ∙ s .passed g .fields
+      here = left-are t at more h ∙ s .passed g .fields
 
       -- The faults behind that one.
       fs : List Fault
@@ -121,18 +116,14 @@ module _ (t : List ℕ) (start : ℕ) (w : Words) (at : ℕ) (more : Bool) (inv 
 
   -- None is left.
   module _ (h : more ≡ false) where
-    end : behind more t at ≡ []
-    unfolding behind
-    end = ap (λ (b : Bool). behind b t at) h
-
     pub collected-all : (n : ℕ)
         → ToldFaults (apart (fieldsIn (lineAt t start))) (map faultIn (fieldsIn (lineAt t start))) (record { good = true; words = w; next = n })
     unfolding allFaults clash repeats someFar wordOf joined
     collected-all n =
         record {
-          same = sym (ap (joined w) end) ∙ inv .good;
-          far = λ p. sym (or-false (w .far)) ∙ rw end at (inv .far);
-          words = λ p k b. sym (or-zero-r (wordFor b w)) ∙ rw end at (inv .words b k);
+          same = sym (ap (joined w) (none-left t at more h)) ∙ inv .good;
+          far = λ p. sym (or-false (w .far)) ∙ rw (none-left t at more h) at (inv .far);
+          words = λ p k b. sym (or-zero-r (wordFor b w)) ∙ rw (none-left t at more h) at (inv .words b k);
         }
 
     -- The next line starts one byte further on.

@@ -11,15 +11,14 @@ use borrow.Author.Tests.{ne-eqb, eq-eqb, le-ltb, lt-ltb}
 use Rattle.rules.proofs.Booleans.{and-both, and-false, and-split}
 use Rattle.rules.specs.Text.{decimalValue}
 use Rattle.decimal.specs.Numerals.{isNumeral}
-use Rattle.csv.specs.Cut.{unquoted, fieldsIn}
+use Rattle.csv.specs.Cut.{unquoted}
 use Rattle.csv.specs.declared.Fault.{Fault}
 use Rattle.csv.specs.Shapes.{unsigned, isFault, faultIn, allFaults, sameSense, among}
 use Rattle.csv_rows.specs.declared.FieldAt.{FieldAt}
 use Rattle.csv_rows.specs.declared.FaultAt.{FaultAt}
-use Rattle.csv_rows.specs.Scan.{lineAt}
 use Rattle.csv_rows.specs.Cursor.{isSigned, firstField, behind, FieldNext, FaultNext}
 use Rattle.csv_rows.proofs.Scanning.{any-found, any-passed}
-use Rattle.csv_rows.proofs.Stops.{later, fields-raw}
+use Rattle.csv_rows.proofs.Stops.{later, fields-raw, left-are}
 
 -- ---- one field
 
@@ -101,23 +100,18 @@ module _ (x : Fault) (t : List ℕ) (more : Bool) (start : ℕ) (left : Bool) (a
     abbrev same-as : Fault → Bool
     same-as y = eqb (x .place) (y .place) && sameSense (x .absent) (y .absent)
 
-    -- The fields that are left.
-    left-are : behind left t at ≡ fieldsIn (lineAt t at)
-    unfolding behind
-    left-are = ap (λ (b : Bool). behind b t at) h
-
     -- A field that is no fault: not all are.
     pub looking-bad : r .good ≡ false → allFaults (behind more t start) ≡ true → false ≡ among x (map faultIn (behind more t start))
     unfolding allFaults
     looking-bad b p =
         let yes-all : isFault (firstField t at) && allFaults (map unquoted (later t at)) ≡ true
-        = ap allFaults (sym (left-are ∙ fields-raw t at)) ∙ inv .all p in
+        = ap allFaults (sym (left-are t at left h ∙ fields-raw t at)) ∙ inv .all p in
         absurd (false≢true (sym b ∙ s .good ∙ and-split (isFault (firstField t at)) _ yes-all .0))
 
     module _ (g : r .good ≡ true) where
       -- The field there, and those behind it.
       next-are : behind left t at ≡ firstField t at ∷ behind (r .more) t (r .next)
-      next-are = left-are ∙ s .passed g .fields
+      next-are = left-are t at left h ∙ s .passed g .fields
 
       -- The fault is the one there, or is among those behind it.
       either : allFaults (behind more t start) ≡ true

@@ -21,13 +21,14 @@ use Rattle.csv_rows.specs.Begins.{Begins, cutAll}
 use Rattle.csv_rows.specs.Cursor.{Plain, firstField, behind, lineBehind, NumeralNext, WordNext}
 use Rattle.csv_rows.specs.Told.{ToldRun, ToldWeights}
 use Rattle.csv_rows.proofs.Fronts.{begins-none, begins-next, cut-length, cut-more}
-use Rattle.csv_rows.proofs.Stops.{later, fields-raw}
+use Rattle.csv_rows.proofs.Stops.{later, fields-raw, left-are, none-left}
 
--- Bytes above the comma are plain.
+-- Bytes above the comma, which are plain.
 allAbove : List ℕ → Bool
 allAbove [] = true
 allAbove (b ∷ bs) = ltb 44 b && allAbove bs
 
+-- All of them.
 above-plain : (w : List ℕ) → allAbove w ≡ true → Plain w
 unfolding allAbove
 above-plain [] h = tt
@@ -36,11 +37,12 @@ above-plain (b ∷ w) h =
     let above : 44 < b = ltb-true 44 b (both .0) in
     (λ e. omega arith, λ e. omega arith, λ e. omega arith, above-plain w (both .1))
 
--- The two words are.
+-- The word of the first record is plain.
 pub run-plain : Plain (bytes "run")
 unfolding allAbove bytes
 run-plain = above-plain (bytes "run") refl
 
+-- So is that of the second.
 pub weights-plain : Plain (bytes "weights")
 unfolding allAbove bytes
 weights-plain = above-plain (bytes "weights") refl
@@ -50,16 +52,6 @@ weights-plain = above-plain (bytes "weights") refl
 -- There are n fields, all of them numbers.
 numerals : ℕ → List (List ℕ) → Bool
 numerals n fs = eqb (length fs) n && allNumerals fs
-
--- Fields are left: those of the line there.
-left-are : (t : List ℕ) (at : ℕ) (more : Bool) → more ≡ true → behind more t at ≡ fieldsIn (lineAt t at)
-unfolding behind
-left-are t at more m = ap (λ (b : Bool). behind b t at) m
-
--- None is left.
-none-left : (t : List ℕ) (at : ℕ) (more : Bool) → more ≡ false → behind more t at ≡ []
-unfolding behind
-none-left t at more m = ap (λ (b : Bool). behind b t at) m
 
 module _ (t : List ℕ) (at : ℕ) where
   -- There is a field, so there are not none.

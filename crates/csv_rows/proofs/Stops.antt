@@ -59,6 +59,16 @@ pub fields-raw : (t : List ℕ) (at : ℕ) → fieldsIn (lineAt t at) ≡ firstF
 unfolding fieldsIn
 fields-raw t at = ap (map unquoted) (raw-both t at) ∙ ap (λ (f : List ℕ). f ∷ map unquoted (later t at)) (sym (first-raw t at))
 
+-- Fields are left: those of the line there.
+pub left-are : (t : List ℕ) (at : ℕ) (more : Bool) → more ≡ true → behind more t at ≡ fieldsIn (lineAt t at)
+unfolding behind
+left-are t at more m = ap (λ (b : Bool). behind b t at) m
+
+-- None is left.
+pub none-left : (t : List ℕ) (at : ℕ) (more : Bool) → more ≡ false → behind more t at ≡ []
+unfolding behind
+none-left t at more m = ap (λ (b : Bool). behind b t at) m
+
 -- ---- a cursor that goes on
 
 -- From one position to another over bytes that belong to one field.
@@ -252,6 +262,7 @@ module _ (accepts : List ℕ → Bool) (no-quote : (h : List ℕ) → accepts (3
     opened : Goes t at e (34 ∷ part t (at + 1) e)
     opened = goes-on (raw-quote t at y) (goes-plain t (at + 1) e (r .from) (r .inside) (r .plain))
 
+    -- Its field, quotes and all.
     opened-first : firstField t at ≡ unquoted (34 ∷ (part t (at + 1) e ++ raw t e))
     opened-first = first-raw t at ∙ ap unquoted (opened .field)
 

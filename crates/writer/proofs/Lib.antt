@@ -5,4 +5,4 @@ pub mod Numbers
 mod Accepted
 pub mod Over
 mod Walk
-mod Writing
+pub mod Writing

@@ -56,12 +56,14 @@ module _ (x : Lists) (space : List ℕ) (kept : writeNumber x (length space) ≡
 
 -- ---- any other number
 
-refused-answer : (k n : ℕ) → (k ≡ 0 → ⊥) → writeAnswerBy k n ≡ WriteAnswer.Refused k
+-- It is a refusal,
+pub refused-answer : (k n : ℕ) → (k ≡ 0 → ⊥) → writeAnswerBy k n ≡ WriteAnswer.Refused k
 unfolding writeAnswerBy
 refused-answer zero n h = absurd (h refl)
 refused-answer (suc k) n h = refl
 
-refused-space : (k : ℕ) (out space : List ℕ) → (k ≡ 0 → ⊥) → writtenBy k out space ≡ space
+-- and leaves the space as it was.
+pub refused-space : (k : ℕ) (out space : List ℕ) → (k ≡ 0 → ⊥) → writtenBy k out space ≡ space
 unfolding writtenBy
 refused-space zero out space h = absurd (h refl)
 refused-space (suc k) out space h = refl
