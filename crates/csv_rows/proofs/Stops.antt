@@ -192,9 +192,11 @@ quote-other p x h = quoted-last (34 ∷ (p ++ x ∷ [])) (rw (last-byte (34 ∷ 
 quote-open : (p : List ℕ) → Plain p → unquoted (34 ∷ p) ≡ 34 ∷ p
 quote-open [] h = quoted-short (34 ∷ []) (omega arith)
 quote-open (b ∷ p) h =
-    let n : length (34 ∷ b ∷ p) - 1 ≡ suc (length p) = omega arith in
-    quoted-last (34 ∷ b ∷ p) (λ e. no-quote (b ∷ p) (length p) h (omega arith) (sym (ap (λ (k : ℕ). getD (34 ∷ b ∷ p) k 0) n) ∙ e))
+    quoted-last (34 ∷ b ∷ p) (λ e. no-quote (b ∷ p) (length p) h (omega arith) (sym (ap (λ (k : ℕ). getD (34 ∷ b ∷ p) k 0) place) ∙ e))
   where
+    place : length (34 ∷ b ∷ p) - 1 ≡ suc (length p)
+    place = omega arith
+
     no-quote : (p : List ℕ) (i : ℕ) → Plain p → i < length p → getD p i 0 ≡ 34 → ⊥
     no-quote [] i h l e = omega arith
     no-quote (b ∷ p) zero h l e = h .1 e
