@@ -23,7 +23,11 @@ static void print(const char *call, CueAnswer a)
     if (a.number != 0) {
         printf("%s refused %" PRIu64 "\n", call, a.number);
     } else {
-        printf("%s %" PRIu64 " %" PRIu64 " %" PRIu64 "%s\n", call, a.low, a.high, a.count, verdicts[a.verdict]);
+        printf("%s %" PRIu64 " %" PRIu64 " %" PRIu64 "%s", call, a.low, a.high, a.count, verdicts[a.verdict]);
+        if (a.verdict != CUE_NONE) {
+            printf(" figure %" PRIu64, a.figure);
+        }
+        printf("\n");
     }
 }
 

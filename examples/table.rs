@@ -14,6 +14,7 @@ struct Answer {
     high: u64,
     count: u64,
     verdict: u64,
+    figure: u64,
 }
 
 #[repr(C)]
@@ -117,7 +118,8 @@ fn print(call: &str, a: Answer) {
     if a.number != 0 {
         println!("{call} refused {}", a.number);
     } else {
-        println!("{call} {} {} {}{}", a.low, a.high, a.count, verdicts[a.verdict as usize]);
+        let figure = if a.verdict == 0 { String::new() } else { format!(" figure {}", a.figure) };
+        println!("{call} {} {} {}{}{figure}", a.low, a.high, a.count, verdicts[a.verdict as usize]);
     }
 }
 

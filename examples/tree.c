@@ -120,8 +120,8 @@ static void seat(size_t i)
 static void print_heading(unsigned cue, CueAnswer a)
 {
     static const char *const verdicts[] = {"", "met", "done", "full", "spent"};
-    printf("Cue %u: %" PRIu64 " to %" PRIu64 " billionths after %" PRIu64 " refinement%s, %s",
-           cue, a.low, a.high, a.count, a.count == 1 ? "" : "s", verdicts[a.verdict]);
+    printf("Cue %u: about %" PRIu64 " billionths, %" PRIu64 " to %" PRIu64 ", after %" PRIu64 " refinement%s, %s",
+           cue, a.figure, a.low, a.high, a.count, a.count == 1 ? "" : "s", verdicts[a.verdict]);
 }
 
 static void print_kind(const CueNode *n)

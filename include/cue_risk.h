@@ -76,7 +76,8 @@
  * The numbers that concern a call stand with it below. They are tried in ascending order, only 23 before all others,
  * each over the whole input before the next. What a rule judges is judged as it is given, in all its bits. If the call
  * is refused,
- *  - a CueAnswer has the number, low 0, high CUE_BILLION, count 0 and verdict 0; only with 23 the count is a record;
+ *  - a CueAnswer has the number, low 0, high CUE_BILLION, count, verdict and figure 0; only with 23 the count is a
+ *    record;
  *  - a CueSheet, CueEntry or CueTable has the number and zeros: it has no interval;
  *  - tree and space are as they were. Only a refused cue_open writes its tree: it has no nodes then, used 0 and every
  *    record blank, and 16 refuses it later.
@@ -87,7 +88,7 @@
 #include <stddef.h>
 #include <stdint.h>
 
-#define CUE_VERSION 2u          /* of this header */
+#define CUE_VERSION 3u          /* of this header */
 #define CUE_BILLION 1000000000u /* chance 1 */
 #define CUE_FAULTS 64           /* the most faults */
 #define CUE_WAYS 128            /* the most ways of a table */
@@ -113,6 +114,7 @@ typedef struct CueAnswer {
     uint64_t high;
     uint64_t count;   /* the refinements made, or the bytes written; with number 23 the record */
     uint64_t verdict; /* of an accepted run, else 0 */
+    uint64_t figure;  /* of an accepted run: low plus half of high - low, rounded down; else 0 */
 } CueAnswer;
 
 /* One node of a tree. */
@@ -231,12 +233,14 @@ CueAnswer cue_refine(CueTree *tree,
                      uint64_t what, uint64_t fault);
 
 /* Refines again and again, count the refinements made. It stops with the first of these that applies:
-     CUE_MET    high - low at the root is at most the allowance (0 to CUE_BILLION)
+     CUE_MET    high - low at the root is at most twice the allowance (0 to CUE_BILLION)
      CUE_DONE   no leaf is open
      CUE_FULL   the tree has 255 refinements
      CUE_SPENT  it has made `budget` refinements (0 to 255)
    Else it takes the widest open leaf, of equally wide ones the one at the leftmost place, and refines it by
    independence if its ways fall apart, else by the fault that most of them name, of several the lowest numbered.
+   The allowance is a distance: with CUE_MET the chance is at most that far from the answer's figure, above or below.
+   With any other verdict the figure is the middle of the interval, and the chance lies somewhere in the interval.
    Refusals 9 to 16. */
 CueAnswer cue_run(CueTree *tree,
                   const uint32_t *weights, size_t n_weights,
@@ -307,7 +311,7 @@ CueAnswer cue_csv_export(const uint8_t *sheet, size_t n_sheet,
 #endif
 #ifdef CUE_ASSERT
 CUE_ASSERT(sizeof(size_t) == 8);
-CUE_ASSERT(sizeof(CueAnswer) == 40);
+CUE_ASSERT(sizeof(CueAnswer) == 48);
 CUE_ASSERT(sizeof(CueNode) == 104);
 CUE_ASSERT(sizeof(CueTree) == 53152);
 CUE_ASSERT(sizeof(CueSpot) == 16);

@@ -3,7 +3,7 @@
 #include <assert.h>
 #include "cue_risk.h"
 
-static_assert(CUE_VERSION == 2, "");
+static_assert(CUE_VERSION == 3, "");
 static_assert(CUE_BILLION == 1000000000, "");
 static_assert(CUE_FAULTS == 64, "");
 static_assert(CUE_WAYS == 128, "");
@@ -39,7 +39,8 @@ FIELD(CueAnswer, uint64_t, low, 8);
 FIELD(CueAnswer, uint64_t, high, 16);
 FIELD(CueAnswer, uint64_t, count, 24);
 FIELD(CueAnswer, uint64_t, verdict, 32);
-static_assert(sizeof(CueAnswer) == 40, "");
+FIELD(CueAnswer, uint64_t, figure, 40);
+static_assert(sizeof(CueAnswer) == 48, "");
 
 FIELD(CueNode, uint64_t, kind, 0);
 FIELD(CueNode, uint64_t, fault, 8);

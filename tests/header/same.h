@@ -21,27 +21,37 @@ static inline void same(int line, const char *what, uint64_t got, uint64_t want)
 #define SAME(got, want) same(__LINE__, #got, (got), (want))
 #define HOLDS(what) same(__LINE__, #what, (what) ? 1 : 0, 1)
 
-/* The five fields of an answer, the number first. */
-static inline void same_answer(int line, CueAnswer a, const uint64_t want[5])
+/* The six fields of an answer, the number first. */
+static inline void same_answer(int line, CueAnswer a, const uint64_t want[6])
 {
     same(line, "number", a.number, want[0]);
     same(line, "low", a.low, want[1]);
     same(line, "high", a.high, want[2]);
     same(line, "count", a.count, want[3]);
     same(line, "verdict", a.verdict, want[4]);
+    same(line, "figure", a.figure, want[5]);
 }
 
-static inline void accepted(int line, CueAnswer a, uint64_t low, uint64_t high, uint64_t count, uint64_t verdict)
+/* An accepted run. */
+static inline void ended(int line, CueAnswer a, uint64_t low, uint64_t high, uint64_t count, uint64_t verdict,
+                         uint64_t figure)
 {
-    const uint64_t want[5] = {0, low, high, count, verdict};
+    const uint64_t want[6] = {0, low, high, count, verdict, figure};
     same_answer(line, a, want);
+}
+
+/* Any other accepted call: it has neither verdict nor figure. */
+static inline void accepted(int line, CueAnswer a, uint64_t low, uint64_t high, uint64_t count)
+{
+    ended(line, a, low, high, count, 0, 0);
 }
 
 static inline void refused(int line, CueAnswer a, uint64_t number)
 {
-    const uint64_t want[5] = {number, 0, 1000000000, 0, 0};
+    const uint64_t want[6] = {number, 0, 1000000000, 0, 0, 0};
     same_answer(line, a, want);
 }
 
-#define ACCEPTED(call, low, high, count, verdict) accepted(__LINE__, (call), (low), (high), (count), (verdict))
+#define ENDED(call, low, high, count, verdict, figure) ended(__LINE__, (call), (low), (high), (count), (verdict), (figure))
+#define ACCEPTED(call, low, high, count) accepted(__LINE__, (call), (low), (high), (count))
 #define REFUSED(call, number) refused(__LINE__, (call), (number))

@@ -111,7 +111,7 @@ static void writing(void)
 {
     clear_space();
     ACCEPTED(write_sheet(weights, 3, numbers, 2, counts, 2, present, 3, absent, 3, 16909060, 200, space, 90),
-             0, 1000000000, 88, 0);
+             0, 1000000000, 88);
     HOLDS(memcmp(space, sheet, 88) == 0);
     HOLDS(memcmp(space + 88, kept, 2) == 0);
 }
@@ -125,10 +125,10 @@ static void reporting(void)
     clear_space();
     REFUSED(report(sheet, 88, space, 84), 22);
     HOLDS(memcmp(space, kept, sizeof space) == 0);
-    ACCEPTED(report(sheet, 88, space, 90), 0, 1000000000, 85, 0);
+    ACCEPTED(report(sheet, 88, space, 90), 0, 1000000000, 85);
     HOLDS(memcmp(space, text, 85) == 0);
     HOLDS(memcmp(space + 85, kept, 5) == 0);
-    ACCEPTED(report(sheet, 87, space, 90), 0, 1000000000, 10, 0);
+    ACCEPTED(report(sheet, 87, space, 90), 0, 1000000000, 10);
     HOLDS(memcmp(space, "refused 8\n", 10) == 0);
 }
 

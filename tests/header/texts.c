@@ -38,7 +38,7 @@ static CueAnswer import(const char *t, size_t n)
 /* 23 counts the record; no other refusal counts. */
 static void misread(int line, CueAnswer a, uint64_t at)
 {
-    const uint64_t want[5] = {23, 0, 1000000000, at, 0};
+    const uint64_t want[6] = {23, 0, 1000000000, at, 0, 0};
     same_answer(line, a, want);
 }
 
@@ -51,11 +51,11 @@ static void importing(void)
     REFUSED(import("run,1,256\r\nweights,5\r\n7,1,-1\r\n", 90), 13);
     REFUSED(import(text, 87), 22);
     HOLDS(memcmp(space, kept, sizeof space) == 0);
-    ACCEPTED(import(text, 90), 0, 1000000000, 88, 0);
+    ACCEPTED(import(text, 90), 0, 1000000000, 88);
     HOLDS(memcmp(space, sheet, 88) == 0);
     HOLDS(memcmp(space + 88, kept, 12) == 0);
     clear_space();
-    ACCEPTED(import(other, 88), 0, 1000000000, 88, 0);
+    ACCEPTED(import(other, 88), 0, 1000000000, 88);
     HOLDS(memcmp(space, sheet, 88) == 0);
     HOLDS(memcmp(space + 88, kept, 12) == 0);
 }
@@ -67,7 +67,7 @@ static void exporting(void)
     REFUSED(export_sheet(sheet, 87, space, 90), 8);
     REFUSED(export_sheet(sheet, 88, space, 83), 22);
     HOLDS(memcmp(space, kept, sizeof space) == 0);
-    ACCEPTED(export_sheet(sheet, 88, space, 90), 0, 1000000000, 84, 0);
+    ACCEPTED(export_sheet(sheet, 88, space, 90), 0, 1000000000, 84);
     HOLDS(memcmp(space, text, 84) == 0);
     HOLDS(memcmp(space + 84, kept, 16) == 0);
 }

@@ -73,9 +73,9 @@ static void by_hand(void)
         present[i] = i < 2 ? 3 : i < 69 ? 2 : 4;
         absent[i] = 8;
     }
-    ACCEPTED(open_table(&tree, TABLE), 350 * MILLION, 490 * MILLION, 0, 0);
+    ACCEPTED(open_table(&tree, TABLE), 350 * MILLION, 490 * MILLION, 0);
     same_records(__LINE__, 1, opened);
-    ACCEPTED(refine(&tree, TABLE, NULL, 0, 1, 3), 420 * MILLION, 490 * MILLION, 1, 0);
+    ACCEPTED(refine(&tree, TABLE, NULL, 0, 1, 3), 420 * MILLION, 490 * MILLION, 1);
     same_records(__LINE__, 3, by_fault);
     REFUSED(refine(&tree, TABLE, NULL, 0, 1, 3), 17);
     REFUSED(refine(&tree, TABLE, two, 1, 1, 2), 17);
@@ -86,7 +86,7 @@ static void by_hand(void)
     REFUSED(refine(&tree, TABLE, right, 1, 257, 2), 20);
     REFUSED(refine(&tree, TABLE, right, 1, 4294967297, 2), 20);
     same_records(__LINE__, 3, by_fault);
-    ACCEPTED(refine(&tree, TABLE, right, 1, 0, 64), 420 * MILLION, 420 * MILLION, 1, 0);
+    ACCEPTED(refine(&tree, TABLE, right, 1, 0, 64), 420 * MILLION, 420 * MILLION, 1);
     same_records(__LINE__, 5, then_apart);
 }
 
@@ -94,8 +94,8 @@ static void by_hand(void)
 static void openings(void)
 {
     static const uint64_t none[1] = {0}, one[1] = {1}, beyond[1] = {16};
-    ACCEPTED(open_table(&tree, weights, 4, none, 1, none, 1), 1000 * MILLION, 1000 * MILLION, 0, 0);
-    ACCEPTED(open_table(&tree, weights, 4, NULL, 0, NULL, 0), 0, 0, 0, 0);
+    ACCEPTED(open_table(&tree, weights, 4, none, 1, none, 1), 1000 * MILLION, 1000 * MILLION, 0);
+    ACCEPTED(open_table(&tree, weights, 4, NULL, 0, NULL, 0), 0, 0, 0);
     REFUSED(open_table(&tree, NULL, 0, NULL, 0, NULL, 0), 9);
     same_records(__LINE__, 0, NULL);
     REFUSED(run(&tree, weights, 4, NULL, 0, NULL, 0, 0, 0), 16);
@@ -109,16 +109,18 @@ static void runs(void)
 {
     static const uint32_t w[3] = {500 * MILLION, 500 * MILLION, 200 * MILLION};
     static const uint64_t p[2] = {3, 5}, q[2] = {0, 0};
-    ACCEPTED(open_table(&tree, w, 3, p, 2, q, 2), 250 * MILLION, 350 * MILLION, 0, 0);
+    ACCEPTED(open_table(&tree, w, 3, p, 2, q, 2), 250 * MILLION, 350 * MILLION, 0);
     before = tree;
     REFUSED(run(&tree, w, 3, p, 2, q, 2, 5000000000, 65576), 14);
     REFUSED(run(&tree, w, 3, p, 2, q, 2, 0, 65576), 15);
     REFUSED(run(&tree, w, 3, p, 2, q, 2, 1000000001, 255), 14);
     REFUSED(run(&tree, w, 3, p, 2, q, 2, 1000000000, 256), 15);
     HOLDS(memcmp(&tree, &before, sizeof tree) == 0);
-    ACCEPTED(run(&tree, w, 3, p, 2, q, 2, 100 * MILLION, 40), 250 * MILLION, 350 * MILLION, 0, 1);
-    ACCEPTED(run(&tree, w, 3, p, 2, q, 2, 10 * MILLION, 1), 300 * MILLION, 350 * MILLION, 1, 4);
-    ACCEPTED(run(&tree, w, 3, p, 2, q, 2, 10 * MILLION, 40), 300 * MILLION, 300 * MILLION, 1, 1);
+    ENDED(run(&tree, w, 3, p, 2, q, 2, 50 * MILLION, 40), 250 * MILLION, 350 * MILLION, 0, 1, 300 * MILLION);
+    ENDED(run(&tree, w, 3, p, 2, q, 2, 49999999, 0), 250 * MILLION, 350 * MILLION, 0, 4, 300 * MILLION);
+    ENDED(run(&tree, w, 3, p, 2, q, 2, 10 * MILLION, 1), 300 * MILLION, 350 * MILLION, 1, 4, 325 * MILLION);
+    ENDED(run(&tree, w, 3, p, 2, q, 2, 25 * MILLION, 40), 300 * MILLION, 350 * MILLION, 0, 1, 325 * MILLION);
+    ENDED(run(&tree, w, 3, p, 2, q, 2, 24999999, 40), 300 * MILLION, 300 * MILLION, 1, 1, 300 * MILLION);
     REFUSED(run(&tree, w, 3, q, 2, p, 2, 0, 40), 16);
 }
 
@@ -127,8 +129,8 @@ static void senses(void)
 {
     static const uint32_t w[3] = {200 * MILLION, 500 * MILLION, 250 * MILLION};
     static const uint64_t p[3] = {0, 2, 1}, q[3] = {2, 4, 4};
-    ACCEPTED(open_table(&tree, w, 3, p, 3, q, 3), 575 * MILLION, 1000 * MILLION, 0, 0);
-    ACCEPTED(run(&tree, w, 3, p, 3, q, 3, 0, 255), 875 * MILLION, 875 * MILLION, 1, 1);
+    ACCEPTED(open_table(&tree, w, 3, p, 3, q, 3), 575 * MILLION, 1000 * MILLION, 0);
+    ENDED(run(&tree, w, 3, p, 3, q, 3, 0, 255), 875 * MILLION, 875 * MILLION, 1, 1, 875 * MILLION);
 }
 
 /* One way of two thirds: only rounding keeps the ends apart. */
@@ -136,9 +138,9 @@ static void done(void)
 {
     static const uint32_t thirds[2] = {333333333, 333333333};
     static const uint64_t both[1] = {3}, none[1] = {0};
-    ACCEPTED(open_table(&tree, thirds, 2, both, 1, none, 1), 111111110, 111111111, 0, 0);
-    ACCEPTED(run(&tree, thirds, 2, both, 1, none, 1, 0, 255), 111111110, 111111111, 0, 2);
-    ACCEPTED(run(&tree, thirds, 2, both, 1, none, 1, 1, 255), 111111110, 111111111, 0, 1);
+    ACCEPTED(open_table(&tree, thirds, 2, both, 1, none, 1), 111111110, 111111111, 0);
+    ENDED(run(&tree, thirds, 2, both, 1, none, 1, 0, 255), 111111110, 111111111, 0, 2, 111111110);
+    ENDED(run(&tree, thirds, 2, both, 1, none, 1, 1, 255), 111111110, 111111111, 0, 1, 111111110);
 }
 
 /* 24 faults in a ring, each paired with the next four. The figures are those of tests/reference (`ring`, paper.rs). */
@@ -150,8 +152,8 @@ static void full(void)
         ninths[i / 4] = 111111111;
         pairs[i] = (uint64_t)1 << i / 4 | (uint64_t)1 << (i / 4 + i % 4 + 1) % 24;
     }
-    ACCEPTED(open_table(&tree, ninths, 24, pairs, 96, none, 96), 138491384, 1000000000, 0, 0);
-    ACCEPTED(run(&tree, ninths, 24, pairs, 96, none, 96, 0, 255), 522915350, 574287599, 255, 3);
+    ACCEPTED(open_table(&tree, ninths, 24, pairs, 96, none, 96), 138491384, 1000000000, 0);
+    ENDED(run(&tree, ninths, 24, pairs, 96, none, 96, 0, 255), 522915350, 574287599, 255, 3, 548601474);
     SAME(tree.used, 511);
 }
 
@@ -165,13 +167,13 @@ static void by_record_and_by_place(void)
     for (size_t i = 0; i < 7; i++) {
         w[i] = 500 * MILLION;
     }
-    ACCEPTED(open_table(&tree, w, 7, p, 4, q, 4), 125 * MILLION, 500 * MILLION, 0, 0);
-    ACCEPTED(refine(&tree, w, 7, p, 4, q, 4, NULL, 0, 1, 0), 250 * MILLION, 500 * MILLION, 1, 0);
-    ACCEPTED(refine(&tree, w, 7, p, 4, q, 4, right, 1, 1, 4), 312500000, 500 * MILLION, 1, 0);
-    ACCEPTED(refine(&tree, w, 7, p, 4, q, 4, left, 1, 1, 1), 375 * MILLION, 500 * MILLION, 1, 0);
+    ACCEPTED(open_table(&tree, w, 7, p, 4, q, 4), 125 * MILLION, 500 * MILLION, 0);
+    ACCEPTED(refine(&tree, w, 7, p, 4, q, 4, NULL, 0, 1, 0), 250 * MILLION, 500 * MILLION, 1);
+    ACCEPTED(refine(&tree, w, 7, p, 4, q, 4, right, 1, 1, 4), 312500000, 500 * MILLION, 1);
+    ACCEPTED(refine(&tree, w, 7, p, 4, q, 4, left, 1, 1, 1), 375 * MILLION, 500 * MILLION, 1);
     SAME(widest(tree.nodes, tree.used).found, 1);
     SAME(widest(tree.nodes, tree.used).at, 3);
-    ACCEPTED(run(&tree, w, 7, p, 4, q, 4, 0, 1), 375 * MILLION, 437500000, 1, 4);
+    ENDED(run(&tree, w, 7, p, 4, q, 4, 0, 1), 375 * MILLION, 437500000, 1, 4, 406250000);
     SAME(tree.nodes[3].kind, 1);
     SAME(tree.nodes[5].kind, 2);
     SAME(tree.nodes[5].left, 7);

@@ -35,7 +35,7 @@ static const char *const words[] = {
 
 int main(void)
 {
-    SAME(version(), 2);
+    SAME(version(), 3);
     SAME(sizeof words / sizeof words[0], 24);
     for (uint64_t i = 0; i < 24; i++) {
         same(__LINE__, words[i], strcmp(refusal(i), words[i]) == 0, 1);

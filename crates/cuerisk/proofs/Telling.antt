@@ -2,7 +2,6 @@
 -- Rests on specs/Told.antt; a promise of `dtree` says itself which answer it is about.
 use mathlib.Core.Path.{_≡_, refl, ap, subst, _∙_}
 use mathlib.Core.List.{List}
-use mathlib.Core.Option.{none}
 use Prim.Native.Nat.{ℕ, zero, suc}
 use Rattle.rules.specs.Answers.{Reply, countedBy, readReply, entryReply}
 use Rattle.rules.specs.Table.{Table}
@@ -97,7 +96,7 @@ entry-told bs i a r p e =
 pub writing-told : (x : Lists) (before : List ℕ) {after : List ℕ} {a : WriteAnswer} {r : CueAnswer}
     → Writing x before after a → r ≡ flatWrite a → WritingTold x before after r
 writing-told x before p e =
-    record { numbers = e ∙ ap flatWrite (p .answer); counts = e ∙ ap (λ (y : Reply). flat y none) (p .reply); space = p .space }
+    record { numbers = e ∙ ap flatWrite (p .answer); counts = e ∙ ap flat (p .reply); space = p .space }
 
 -- Importing told in numbers.
 pub importing-told : (t before : List ℕ) {after : List ℕ} {a : ImportAnswer} {r : CueAnswer}

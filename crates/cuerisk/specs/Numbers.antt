@@ -1,5 +1,5 @@
 -- The numbers that stand for each answer, the refinement that numbers ask for, and the version of them all.
--- What is told of an answer is the reply that `rules`, Answers, gives it, with a code for the verdict (docs/RULES.md, 8.4 to 8.9).
+-- What is told of an answer is the reply that `rules`, Answers, gives it, with a code for the verdict and a run's figure (docs/RULES.md, 8.4 to 8.9).
 use mathlib.Core.Bool.{true, false}
 use mathlib.Core.List.{List, [], _∷_}
 use mathlib.Core.Option.{Option, none, some}
@@ -8,7 +8,7 @@ use lib.Dec.{eqb}
 use lib.ListN.{length, drop}
 use Rattle.rules.specs.Table.{Table, table}
 use Rattle.rules.specs.Sheet.{Cue, tableOf, decode, readNumber}
-use Rattle.rules.specs.Answers.{Reply, answerReply, runReply, runVerdict, readReply, entryReply, handedOver, writeReply}
+use Rattle.rules.specs.Answers.{Reply, answerReply, runReply, runVerdict, runFigure, readReply, entryReply, handedOver, writeReply}
 use Rattle.rules.specs.declared.Kind.{Kind}
 use Rattle.rules.specs.declared.Verdict.{Verdict}
 use Rattle.rules.specs.declared.Answer.{Answer}
@@ -29,7 +29,7 @@ use Rattle.cuerisk.specs.declared.CueTable.{CueTable}
 
 -- The version: another one for every change of a struct or of a call, and for every new one. CUE_VERSION in include/cue_risk.h.
 abbrev pub version : ℕ
-version = 2
+version = 3
 
 -- The refinement asked for (docs/RULES.md, 5.4): 0 is independence, 1 the fault named. Any other number asks for fault 64, which no accepted table has.
 unfoldable pub kindAsked : ℕ → ℕ → Kind
@@ -45,25 +45,29 @@ verdictCode (some Verdict.Done) = 2
 verdictCode (some Verdict.Full) = 3
 verdictCode (some Verdict.Spent) = 4
 
--- A reply and a verdict as numbers.
-abbrev pub flat : Reply → Option Verdict → CueAnswer
-flat r v = record { number = r .number; low = r .low; high = r .high; count = r .count; verdict = verdictCode v }
+-- A reply, a verdict and a figure as numbers.
+abbrev pub flatWith : Reply → Option Verdict → ℕ → CueAnswer
+flatWith r v g = record { number = r .number; low = r .low; high = r .high; count = r .count; verdict = verdictCode v; figure = g }
+
+-- A reply as numbers where there is neither verdict nor figure.
+abbrev pub flat : Reply → CueAnswer
+flat r = flatWith r none 0
 
 -- The answer of an opening or a hand refinement.
 abbrev pub flatAnswer : Answer → CueAnswer
-flatAnswer a = flat (answerReply a) none
+flatAnswer a = flat (answerReply a)
 
 -- The answer of a run.
 abbrev pub flatRun : RunAnswer → CueAnswer
-flatRun a = flat (runReply a) (runVerdict a)
+flatRun a = flatWith (runReply a) (runVerdict a) (runFigure a)
 
 -- The answer of the writer, of the report and of an export.
 abbrev pub flatWrite : WriteAnswer → CueAnswer
-flatWrite a = flat (writeReply a) none
+flatWrite a = flat (writeReply a)
 
 -- The answer of an import.
 abbrev pub flatImport : ImportAnswer → CueAnswer
-flatImport a = flat (importReply a) none
+flatImport a = flat (importReply a)
 
 -- What the search of lent records finds.
 abbrev pub flatSpot : Spot → CueSpot

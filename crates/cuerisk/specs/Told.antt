@@ -2,7 +2,6 @@
 -- answer. Rests on Numbers.antt and Into.antt, on `dtree` and `csv`, Promises, on `page`, Widest, and on `rules`, Sheet.
 use mathlib.Core.Path.{_≡_}
 use mathlib.Core.List.{List}
-use mathlib.Core.Option.{none}
 use Prim.Native.Nat.{ℕ, _<_}
 use lib.ListN.{length, take, getD}
 use Rattle.rules.specs.Answers.{countedBy}
@@ -85,13 +84,13 @@ pub record TableTold (bs : List ℕ) (i : ℕ) (r : CueTable) : Type 0 where
 -- WRITING the sheet that lists give into a space: the numbers, the number and the bytes that they count, and the space afterwards.
 pub record WritingTold (x : Lists) (before after : List ℕ) (r : CueAnswer) : Type 0 where
   pub numbers : r ≡ flatWrite (writeAnswer x (length before))
-  pub counts : r ≡ flat (countedBy (writeNumber x (length before)) (length (encode (sheetOf x)))) none
+  pub counts : r ≡ flat (countedBy (writeNumber x (length before)) (length (encode (sheetOf x))))
   pub space : after ≡ written x before
 
 -- REPORTING on a sheet into a space.
 pub record ReportingTold (bs before after : List ℕ) (r : CueAnswer) : Type 0 where
   pub numbers : r ≡ flatWrite (reportAnswer bs (length before))
-  pub counts : r ≡ flat (countedBy (reportNumber bs (length before)) (length (text bs))) none
+  pub counts : r ≡ flat (countedBy (reportNumber bs (length before)) (length (text bs)))
   pub space : after ≡ reported bs before
 
 -- IMPORTING any text into a space.

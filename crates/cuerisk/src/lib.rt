@@ -29,6 +29,7 @@ use rules::Limits;
 use store::Words;
 
 /// The answer of a call on a tree, and of a call that fills a space: writer, report, import and export. `verdict` is 0 none, 1 met, 2 done, 3 full, 4 spent.
+/// `figure` is that of an accepted run, and 0 in every other answer.
 #[repr(C)]
 pub struct CueAnswer {
     pub number: u64,
@@ -36,6 +37,7 @@ pub struct CueAnswer {
     pub high: u64,
     pub count: u64,
     pub verdict: u64,
+    pub figure: u64,
 }
 
 /// The answer of the search of lent records: 1 and the position, or 0 and 0.
@@ -83,7 +85,7 @@ pub struct CueTable {
 pub extern "C" fn cue_version() -> u64
     ensures promise { λ r. ⌜ r ≡ version ⌝ }
 {
-    2
+    3
 }
 
 /// Opens a table. What the tree held before does not matter; refused, it is left without nodes.

@@ -1,7 +1,7 @@
 //! The numbers of each answer, and the refinement that numbers ask for.
 //! Rests on the definitions of specs/Numbers.antt, most of which go through `rules`, Answers.
 ghost use mathlib.Core.Path.{_≡_};
-ghost use mathlib.Core.Option.{some, none};
+ghost use mathlib.Core.Option.{some};
 ghost use Rattle.rules.specs.Answers.{refused};
 ghost use Rattle.cuerisk.specs.Numbers.{verdictCode, kindAsked, flat, flatAnswer, flatRun, flatSpot};
 ghost use Rattle.cuerisk.specs.Numbers.{flatSheet, flatEntry, noTable, flatTable, flatWrite, flatImport};
@@ -49,7 +49,7 @@ fn verdict_code(v: Verdict) -> u64
 
 /// A refused call.
 fn refused(n: u8) -> CueAnswer
-    ensures { λ r. ⌜ r ≡ flat (refused n) none ⌝ }
+    ensures { λ r. ⌜ r ≡ flat (refused n) ⌝ }
 {
     CueAnswer {
         number: n as u64,
@@ -57,12 +57,13 @@ fn refused(n: u8) -> CueAnswer
         high: S,
         count: 0,
         verdict: 0,
+        figure: 0,
     }
 }
 
-/// An accepted call on a tree, with its verdict's code.
-fn accepted(f: Figures, verdict: u64) -> CueAnswer
-    ensures { λ r. ⌜ r ≡ record { number = 0; low = f .low; high = f .high; count = f .count; verdict = verdict } ⌝ }
+/// An accepted call on a tree, with its verdict's code and its figure.
+fn accepted(f: Figures, verdict: u64, figure: u64) -> CueAnswer
+    ensures { λ r. ⌜ r ≡ record { number = 0; low = f .low; high = f .high; count = f .count; verdict = verdict; figure = figure } ⌝ }
 {
     CueAnswer {
         number: 0,
@@ -70,6 +71,7 @@ fn accepted(f: Figures, verdict: u64) -> CueAnswer
         high: f.high,
         count: f.count,
         verdict,
+        figure,
     }
 }
 
@@ -78,7 +80,7 @@ pub fn of_answer(a: Answer) -> CueAnswer
     ensures { λ r. ⌜ r ≡ flatAnswer a ⌝ }
 {
     match a {
-        Answer::Accepted(f) => accepted(f, 0),
+        Answer::Accepted(f) => accepted(f, 0, 0),
         Answer::Refused(n) => refused(n),
     }
 }
@@ -88,7 +90,7 @@ pub fn of_run(a: RunAnswer) -> CueAnswer
     ensures { λ r. ⌜ r ≡ flatRun a ⌝ }
 {
     match a {
-        RunAnswer::Ended(v, f) => accepted(f, verdict_code(v)),
+        RunAnswer::Ended(v, f, g) => accepted(f, verdict_code(v), g),
         RunAnswer::Refused(n) => refused(n),
     }
 }
@@ -211,6 +213,7 @@ pub fn of_write(a: WriteAnswer) -> CueAnswer
             high: S,
             count: n,
             verdict: 0,
+            figure: 0,
         },
         WriteAnswer::Refused(n) => refused(n),
     }
@@ -227,6 +230,7 @@ pub fn of_import(a: ImportAnswer) -> CueAnswer
             high: S,
             count: bytes,
             verdict: 0,
+            figure: 0,
         },
         ImportAnswer::Misread(k) => CueAnswer {
             number: 23,
@@ -234,6 +238,7 @@ pub fn of_import(a: ImportAnswer) -> CueAnswer
             high: S,
             count: k,
             verdict: 0,
+            figure: 0,
         },
         ImportAnswer::Refused(n) => refused(n),
     }

@@ -10,7 +10,7 @@ use borrow.Author.Tests.{not-false}
 use lib.ListN.{length-append}
 use Rattle.rules.specs.Table.{Table}
 use Rattle.rules.specs.Tree.{DTree, leaf, Refinement, tree, low, high, series, subtree, descend}
-use Rattle.rules.specs.Run.{verdict}
+use Rattle.rules.specs.Run.{aimOf, verdict}
 use Rattle.rules.specs.Refusals.{Refusal, refusal, first, tableRefusals, wayRefusals, limitRefusals, tableNumber, Accepted}
 use Rattle.rules.specs.Answers.{Reply, refused, accepted, answerReply, runReply}
 use Rattle.rules.specs.Calls.{handNumber, runNumber, handRefusals, runRefusals, handAnswer, runAnswer, answerBy, runAnswerBy, figures}
@@ -142,7 +142,7 @@ unfolding numberOf callOutcome handAnswer runAnswer answerBy runAnswerBy
 refused-outcome t x (byHand bs k) n e = ap (λ (m : ℕ). handed (answerBy m (figures t (tree (history x)) (handMakes bs k)))) e
 refused-outcome t x (byRun l) n e =
     let s = tree (history x) in
-    ap (λ (m : ℕ). ran (runAnswerBy m (verdict t (l .allowance) (l .budget) s) (figures t s (runMakes t s l)))) e
+    ap (λ (m : ℕ). ran (runAnswerBy m (verdict t (aimOf l) (l .budget) s) (figures t s (runMakes t s l)))) e
 
 -- In the reply too, with nought to the full billion and count 0.
 refused-reply : (t : Table) (x : Tree) (c : Call) (n : ℕ) → numberOf t x c ≡ suc n → reply (callOutcome t x c) ≡ refused (suc n)
@@ -157,7 +157,7 @@ unfolding numberOf callOutcome handAnswer runAnswer answerBy runAnswerBy
 accepted-number t x (byHand bs k) e = ap (λ (m : ℕ). answerReply (answerBy m (figures t (tree (history x)) (handMakes bs k))) .number) e
 accepted-number t x (byRun l) e =
     let s = tree (history x) in
-    ap (λ (m : ℕ). runReply (runAnswerBy m (verdict t (l .allowance) (l .budget) s) (figures t s (runMakes t s l))) .number) e
+    ap (λ (m : ℕ). runReply (runAnswerBy m (verdict t (aimOf l) (l .budget) s) (figures t s (runMakes t s l))) .number) e
 
 -- WHAT THE DEFINITIONS PROMISE.
 promised : (t : Table) (x : Tree) (c : Call) → Called t x c (callTree t x c) (callOutcome t x c)

@@ -3,10 +3,12 @@
 use mathlib.Core.Path.{_≡_, refl, sym, ap, subst, _∙_}
 use mathlib.Core.Bool.{Bool, true, false, not}
 use mathlib.Core.List.{List, [], _∷_, _++_, append-assoc}
-use Prim.Native.Nat.{ℕ, zero, suc, _+_, _<_}
+use Prim.Native.Nat.{ℕ, zero, suc, _+_, _<_, _≤_}
 use native.Mathlib.Omega.{arith}
+use borrow.Author.Tests.{ltb-false}
+use Rattle.rules.specs.Rounding.{S}
 use Rattle.rules.specs.Table.{Table}
-use Rattle.rules.specs.Refusals.{refusal, first, tableRefusals, wayRefusals, limitRefusals, tableNumber, Accepted}
+use Rattle.rules.specs.Refusals.{refusal, first, tableRefusals, wayRefusals, limitRefusals, allowanceAbove, tableNumber, Accepted}
 use Rattle.rules.specs.Calls.{handNumber, runNumber, handRefusals, runRefusals, Call, byHand, byRun}
 use Rattle.rules.specs.declared.Kind.{Kind}
 use Rattle.rules.specs.declared.Limits.{Limits}
@@ -66,6 +68,13 @@ let-through t m n e z = sym e ∙ z
 pub run-accepted : (t : Table) (m : Limits) → runNumber t false m ≡ 0 → Accepted t
 unfolding runNumber runRefusals tableNumber
 run-accepted t m z = front-free (tableRefusals t) _ z
+
+-- And so is the allowance.
+pub run-allowance : (t : Table) (m : Limits) → runNumber t false m ≡ 0 → m .allowance ≤ S
+unfolding limitRefusals allowanceAbove
+run-allowance t m z =
+    let n = none-applies (limitRefusals m) refl (sym (run-number t (run-accepted t m z) m) ∙ z) in
+    ltb-false S (m .allowance) (n .0)
 
 -- And 16 decides.
 pub run-sixteen : (t : Table) (x : Tree) (m : Limits) → runNumber t false m ≡ 0 → bad t x ≡ true → numberOf t x (byRun m) ≡ 16

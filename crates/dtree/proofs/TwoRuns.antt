@@ -1,4 +1,4 @@
--- TWO RUNS ARE ONE: a run of budget b and then one of c, with the same allowance, are one run of b + c, if that is at most 255. It holds of the calls,
+-- TWO RUNS ARE ONE: a run of budget b and then one of c, with the same aim, are one run of b + c, if that is at most 255. It holds of the calls,
 -- on every table and every tree: what they leave and what they hand back. Rests on `rules`, Runs, for the rules, and on Verdicts.antt.
 use mathlib.Core.Path.{_≡_, refl, sym, ap, subst, _∙_}
 use mathlib.Core.Bool.{Bool, true, false}
@@ -9,11 +9,12 @@ use native.Mathlib.Omega.{arith}
 use borrow.Author.Tests.{le-ltb}
 use Rattle.rules.specs.Table.{Table}
 use Rattle.rules.specs.Tree.{Refinement, DTree, leaf, tree, low, high, series}
-use Rattle.rules.specs.Run.{picks}
-use Rattle.rules.specs.Run.{ran as after}
+use Rattle.rules.specs.Run.{aimOf, picks}
+use Rattle.rules.specs.Run.{ran as after, figure as middle}
 use Rattle.rules.specs.Refusals.{limitRefusals, allowanceAbove, budgetAbove, Accepted}
-use Rattle.rules.specs.Calls.{Call, byRun, Outcome, reply, runNumber, runRefusals, figures, outcome}
+use Rattle.rules.specs.Calls.{Call, byRun, Outcome, reply, runNumber, runRefusals, runAnswerBy, figures, outcome}
 use Rattle.rules.specs.declared.Limits.{Limits}
+use Rattle.rules.specs.declared.Aim.{Aim}
 use Rattle.rules.specs.declared.Verdict.{Verdict}
 use Rattle.rules.proofs.Series.{grow-append}
 use Rattle.rules.proofs.Runs.{OneRun, two-runs, picks-add}
@@ -25,24 +26,25 @@ use Rattle.records.proofs.ByTheRules.{call-tree, call-outcome, still-series}
 use Rattle.dtree.specs.Promises.{numberOf}
 use Rattle.dtree.proofs.Calling.{free, refused-tree, refused-outcome}
 use Rattle.dtree.proofs.ByRun.{made-picks}
-use Rattle.dtree.proofs.Verdicts.{verdictOf, said}
+use Rattle.dtree.proofs.Verdicts.{verdictOf, figureOf, said}
 
--- The limits of a run, and a run with them.
-abbrev limits : ℕ → ℕ → Limits
-limits a b = record { allowance = a; budget = b }
+-- The limits of a run with this aim and budget, and a run with them.
+abbrev limits : Aim → ℕ → Limits
+limits a b = record { allowance = a .allowance; budget = b }
 
-abbrev pub runOf : ℕ → ℕ → Call
+abbrev pub runOf : Aim → ℕ → Call
 runOf a b = byRun (limits a b)
 
 -- What two runs hand back, one after the other, beside what one run does.
 pub record AddUp (first second one : Outcome) : Type 0 where
   -- The first is accepted if the one is, and else refused by the same number.
   pub first-number : reply first .number ≡ reply one .number
-  -- The second hands back what the one does: number, interval and verdict.
+  -- The second hands back what the one does: number, interval, verdict and figure.
   pub number : reply second .number ≡ reply one .number
   pub low-end : reply second .low ≡ reply one .low
   pub high-end : reply second .high ≡ reply one .high
   pub verdict : verdictOf second ≡ verdictOf one
+  pub figure : figureOf second ≡ figureOf one
   -- The reports of the two add up to that of the one.
   pub reports : reply first .count + reply second .count ≡ reply one .count
 
@@ -54,7 +56,7 @@ pub record AsOne (t : Table) (x : Tree) (first second one : Call) : Type 0 where
 -- ---- refused: all three are, by the same number, and the tree stays
 
 -- Between two budgets of at most 255 the refusals of a run see no difference, whatever 16 says.
-same-number : (t : Table) (o : Bool) (a b c : ℕ) → b ≤ 255 → c ≤ 255 → runNumber t o (limits a b) ≡ runNumber t o (limits a c)
+same-number : (t : Table) (o : Bool) (a : Aim) (b c : ℕ) → b ≤ 255 → c ≤ 255 → runNumber t o (limits a b) ≡ runNumber t o (limits a c)
 unfolding runNumber runRefusals limitRefusals budgetAbove allowanceAbove
 same-number t o a b c h k = rw (le-ltb 255 b h, le-ltb 255 c k) refl
 
@@ -67,15 +69,15 @@ refused-runs t x k l m n e f g =
       tree-is = ap (λ (y : Tree). callTree t y (byRun l)) stays ∙ refused-tree t x (byRun l) n f ∙ sym (refused-tree t x (byRun m) n g);
       answers =
           rw (stays, refused-outcome t x (byRun k) n e, refused-outcome t x (byRun l) n f, refused-outcome t x (byRun m) n g)
-          record { first-number = refl; number = refl; low-end = refl; high-end = refl; verdict = refl; reports = refl };
+          record { first-number = refl; number = refl; low-end = refl; high-end = refl; verdict = refl; figure = refl; reports = refl };
     }
 
 -- ---- accepted: by the rules
 
 -- What accepted runs hand back on a tree of the rules.
-rules-add-up : (t : Table) (s : DTree) (a b c : ℕ) → runNumber t false (limits a b) ≡ 0 → runNumber t false (limits a c) ≡ 0
+rules-add-up : (t : Table) (s : DTree) (a : Aim) (b c : ℕ) → runNumber t false (limits a b) ≡ 0 → runNumber t false (limits a c) ≡ 0
     → runNumber t false (limits a (b + c)) ≡ 0 → AddUp (outcome t s (runOf a b)) (outcome t (after t a b s) (runOf a c)) (outcome t s (runOf a (b + c)))
-unfolding figures
+unfolding runAnswerBy figures
 rules-add-up t s a b c y z w =
     let one : OneRun t a b c s = two-runs t a b c s in
     rw (said t s (limits a b) y, said t (after t a b s) (limits a c) z, said t s (limits a (b + c)) w)
@@ -85,16 +87,17 @@ rules-add-up t s a b c y z w =
       low-end = ap (low t) (one .tree);
       high-end = ap (high t) (one .tree);
       verdict = ap (λ (v : Verdict). some v) (one .verdicts);
+      figure = ap (λ (s : DTree). middle (low t s) (high t s)) (one .tree);
       reports = one .report;
     }
 
 -- The tree that an accepted run leaves of the tree of a series.
 run-tree : (t : Table) (ns : List Refinement) → series t ns ≡ true → (m : Limits) → runNumber t false m ≡ 0
-    → callTree t (layout t ns) (byRun m) ≡ layout t (ns ++ picks t (m .allowance) (m .budget) (tree ns))
+    → callTree t (layout t ns) (byRun m) ≡ layout t (ns ++ picks t (aimOf m) (m .budget) (tree ns))
 run-tree t ns h m z = call-tree t ns h (byRun m) ∙ ap (λ (ms : List Refinement). layout t (ns ++ ms)) (made-picks t (tree ns) m z)
 
 -- Where the one run is accepted, so are the two, and they are one.
-module _ (t : Table) (ok : Accepted t) (ns : List Refinement) (h : series t ns ≡ true) (a b c : ℕ) (few : b + c ≤ 255)
+module _ (t : Table) (ok : Accepted t) (ns : List Refinement) (h : series t ns ≡ true) (a : Aim) (b c : ℕ) (few : b + c ≤ 255)
     (free-one : runNumber t false (limits a (b + c)) ≡ 0) where
   free-first : runNumber t false (limits a b) ≡ 0
   free-first = same-number t false a b (b + c) (omega (arith, few)) few ∙ free-one
@@ -134,7 +137,7 @@ module _ (t : Table) (ok : Accepted t) (ns : List Refinement) (h : series t ns �
       }
 
 -- TWO RUNS ARE ONE.
-pub two-runs-are-one : (t : Table) (x : Tree) (a b c : ℕ) → b + c ≤ 255 → AsOne t x (runOf a b) (runOf a c) (runOf a (b + c))
+pub two-runs-are-one : (t : Table) (x : Tree) (a : Aim) (b c : ℕ) → b + c ≤ 255 → AsOne t x (runOf a b) (runOf a c) (runOf a (b + c))
 unfolding numberOf
 two-runs-are-one t x a b c few = by (numberOf t x (runOf a (b + c))) refl
   where

@@ -5,13 +5,13 @@ use mathlib.Core.Bool.{false}
 use mathlib.Core.List.{List, [], _∷_, _++_}
 use mathlib.Core.Option.{none, some}
 use mathlib.Core.Logic.{_↔_}
-use Prim.Native.Nat.{ℕ, _+_, _-_, _≤_}
+use Prim.Native.Nat.{ℕ, _+_, _-_, _*_, _/_, _≤_}
 use lib.ListN.{set}
 use Rattle.rules.specs.Rounding.{S}
-use Rattle.rules.specs.Table.{Table, ways, Encloses}
+use Rattle.rules.specs.Table.{Table, ways, Encloses, Near}
 use Rattle.rules.specs.Leaf.{ofSet, remaining, minimal}
 use Rattle.rules.specs.Refusals.{tableNumber, Accepted}
-use Rattle.rules.specs.Answers.{Reply, refused, answerReply, runReply, runVerdict}
+use Rattle.rules.specs.Answers.{Reply, refused, answerReply, runReply, runVerdict, runFigure}
 use Rattle.rules.specs.Tree.{left, right, Place, Subtree, subtree, kindAt, Interval, interval, intervalAt, tree, onPath}
 use Rattle.rules.specs.Calls.{openAnswer, handNumber, runNumber, Call, byHand, byRun, Outcome, handed, ran, reply, placeOf}
 use Rattle.rules.specs.declared.Way.{Way}
@@ -138,8 +138,14 @@ pub record Refining (t : Table) (x : Tree) (bs : List ℕ) (k : Kind) (y : Tree)
   pub call : Called t x (byHand bs k) y (handed a)
   pub one-more : numberOf t x (byHand bs k) ≡ 0 → OneMore x bs k y
 
--- A RUN: a call that makes at most its budget, and says met exactly if the root is then as narrow as the allowance asks.
+-- A RUN: a call that makes at most its budget, and hands back a verdict and a figure besides.
 pub record Running (t : Table) (x : Tree) (m : Limits) (y : Tree) (a : RunAnswer) : Type 0 where
   pub call : Called t x (byRun m) y (ran a)
   pub in-budget : numberOf t x (byRun m) ≡ 0 → runReply a .count ≤ m .budget
-  pub met : numberOf t x (byRun m) ≡ 0 → (runVerdict a ≡ some Met) ↔ (rootOf y .high - rootOf y .low ≤ m .allowance)
+  -- It says met exactly if the root is then at most twice the allowance wide.
+  pub met : numberOf t x (byRun m) ≡ 0 → (runVerdict a ≡ some Met) ↔ (rootOf y .high - rootOf y .low ≤ 2 * m .allowance)
+  -- Accepted, whatever the verdict, the figure is low plus half the width at the root, rounded down; refused, it is 0.
+  pub figure-is : numberOf t x (byRun m) ≡ 0 → runFigure a ≡ rootOf y .low + (rootOf y .high - rootOf y .low) / 2
+  pub no-figure : (numberOf t x (byRun m) ≡ 0 → ⊥) → runFigure a ≡ 0
+  -- At met the exact chance of the table's ways is within the allowance of the figure.
+  pub near : numberOf t x (byRun m) ≡ 0 → runVerdict a ≡ some Met → Near (t .weights) (ways t) (runFigure a) (m .allowance)

@@ -2,6 +2,7 @@
 //! Rests on `checks` for 9 to 15, on the module `sixteen` for 16 and on `running` for the refinements.
 ghost use mathlib.Core.Path.{_≡_};
 ghost use mathlib.Core.Bool.{false};
+ghost use Rattle.rules.specs.Run;
 ghost use Rattle.rules.specs.Calls.{runNumber};
 ghost use Rattle.records.specs.Records.{Good};
 ghost use Rattle.store.specs.Lent.{treeOf};
@@ -11,6 +12,8 @@ ghost use Rattle.rules.specs.Table.{table};
 use super::sixteen::is_good;
 use checks::limits::limit_number;
 use checks::table::table_number;
+use node::told::width;
+use records::Node;
 use rules::Figures;
 use rules::Limits;
 use rules::RunAnswer;
@@ -27,6 +30,13 @@ pub fn run_number(weights: &[u32], present: &[u64], absent: &[u64], limits: Limi
         return table;
     }
     limit_number(limits)
+}
+
+/// The figure of a record's interval: low plus half the width, rounded down. Whatever the ends are, that is at most the larger of them.
+fn figure(n: Node) -> u64
+    ensures { λ r. ⌜ r ≡ Run.figure (n .low) (n .high) ⌝ }
+{
+    n.low + width(n) / 2
 }
 
 /// The run itself, on a good tree where none of 9 to 15 applies.
@@ -51,7 +61,7 @@ pub fn run_good(
         high: root.high,
         count: e.count,
     };
-    RunAnswer::Ended(verdict, figures)
+    RunAnswer::Ended(verdict, figures, figure(root))
 }
 
 /// Refines the widest open leaf, again and again, until the root is narrow enough, nothing is open, or no more may be made. Refused, the

@@ -8,7 +8,7 @@ use native.Mathlib.Omega.{arith}
 use lib.ListN.{length, getD}
 use Rattle.rules.specs.Table.{Table}
 use Rattle.rules.specs.Tree.{leaf}
-use Rattle.rules.specs.Run.{verdict}
+use Rattle.rules.specs.Run.{aimOf, verdict}
 use Rattle.rules.specs.Refusals.{first, limitRefusals, wayRefusals, Accepted}
 use Rattle.rules.specs.Calls.{runNumber, runAnswerBy, runAnswer, runMakes, figures}
 use Rattle.rules.specs.Sheet.{Cue, tableOf, cuesIn, limitsIn, decode, readRefusals, readNumber, entryIn, AllBelow}
@@ -45,7 +45,7 @@ line-of : (m : Limits) (ws : List ℕ) (c : Cue) → runNumber (tableOf ws c) fa
 unfolding runAnswer runAnswerBy answerText endedText line figures runMakes
 line-of m ws c e =
     let t : Table = tableOf ws c in
-    ap (λ (k : ℕ). answerText (c .number) (runAnswerBy k (verdict t (m .allowance) (m .budget) leaf) (figures t leaf (runMakes t leaf m)))) e
+    ap (λ (k : ℕ). answerText (c .number) (runAnswerBy k (verdict t (aimOf m) (m .budget) leaf) (figures t leaf (runMakes t leaf m)))) e
 
 module _ (bs : List ℕ) (h : AllBelow 256 bs) (accepted : readNumber bs ≡ 0) (i : ℕ) (inside : i < cuesIn bs) (d : Cue) where
   cue : Cue

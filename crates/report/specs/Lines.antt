@@ -44,9 +44,9 @@ endedText n v f =
     ++ word v
     ++ bytes "\n"
 
--- A cue's number with a run's answer.
+-- A cue's number with a run's answer; its figure is not printed.
 unfoldable pub answerText : ℕ → RunAnswer → List ℕ
-answerText n (RunAnswer.Ended v f) = endedText n v f
+answerText n (RunAnswer.Ended v f g) = endedText n v f
 answerText n (RunAnswer.Refused k) = refusedText k
 
 -- The text of a line: its cue's number with its answer.

@@ -51,13 +51,13 @@ fn append_ended(text: &mut Room, length: usize, cue: u16, v: Verdict, f: Figures
     append_word(text, at, v)
 }
 
-/// A cue's line. On a cue of an accepted sheet no run is refused.
+/// A cue's line, which has no figure. On a cue of an accepted sheet no run is refused.
 pub fn append_line(text: &mut Room, length: usize, l: Line) -> usize
     ensures { λ r. ⌜ textOf (now (text .exit)) r ≡ appended (textOf (now (text .entry)) length) (lineText l) ⌝ }
 {
     let a = l.answer;
     match a {
-        RunAnswer::Ended(v, f) => append_ended(text, length, l.cue, v, f),
+        RunAnswer::Ended(v, f, _) => append_ended(text, length, l.cue, v, f),
         RunAnswer::Refused(n) => append_refused(text, length, n),
     }
 }

@@ -27,9 +27,9 @@ unfolding of-leaves Tree.rootWays Tree.occurs Tree.possible Tree.child Tree.comb
     Tree.refineAt Tree.inners Tree.grow Tree.leafWays Tree.acceptable Tree.seriesFrom
 of-trees = tt
 
--- Runs: the pick, a turn, the verdict.
+-- Runs: the pick, a turn, the verdict, the figure.
 unfoldable pub of-runs : Unit {0}
-unfolding of-trees Run.from Run.wider Run.widest Run.named Run.mostNamed Run.choice Run.next Run.narrow Run.turn Run.picks Run.verdict
+unfolding of-trees Run.from Run.wider Run.widest Run.named Run.mostNamed Run.choice Run.next Run.narrow Run.turn Run.picks Run.verdict Run.figure
 of-runs = tt
 
 -- The tests of the refusals, and a table's number.

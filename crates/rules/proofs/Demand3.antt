@@ -13,7 +13,7 @@ use Rattle.rules.specs.Table.{Way, Table, ways, Encloses}
 use Rattle.rules.specs.Leaf.{isOpen}
 use Rattle.rules.specs.Tree.{rootWays, left, right, Place, DTree, leaf, possible, low, high, inners, Refinement}
 use Rattle.rules.specs.Tree.{grow, tree, kindAt, leafWays, roomy, intervalAt, acceptable, seriesFrom, series}
-use Rattle.rules.specs.Run.{picks, verdict}
+use Rattle.rules.specs.Run.{aimOf, picks, verdict}
 use Rattle.rules.specs.Refusals.{Refusal, refusal, first, tableRefusals, tableNumber, wayRefusals, limitRefusals, Accepted}
 use Rattle.rules.specs.Calls.{stepTo, placeOf, placeBytes, leafNamed, noLeaf, ofLeaf, leafRefusals, handRefusals, runRefusals, handNumber, runNumber}
 use Rattle.rules.specs.Calls.{handMakes, runMakes, figures, answerBy, runAnswerBy, handAnswer, runAnswer, makesBy, Call, byHand, byRun, handed}
@@ -135,8 +135,8 @@ module _ (t : Table) (ok : Accepted t) where
           and-both (acceptable t s (record { place = p; kind = k })) _ (leaf-acceptable t s bs k p e (sym (hand-number t ok s bs k) ∙ h)) refl
   makes-series s (byRun m) = by (runNumber t false m)
     where
-      by : (n : ℕ) → seriesFrom t s (makesBy n (picks t (m .allowance) (m .budget) s)) ≡ true
-      by zero = picks-series t ok (m .allowance) (m .budget) s
+      by : (n : ℕ) → seriesFrom t s (makesBy n (picks t (aimOf m) (m .budget) s)) ≡ true
+      by zero = picks-series t ok (aimOf m) (m .budget) s
       by (suc n) = refl
 
   noted-from-series : (cs : List Call) (ns : List Refinement) → series t ns ≡ true → series t (notedFrom t ns cs) ≡ true
@@ -160,7 +160,7 @@ module _ (t : Table) (ok : Accepted t) where
       by (suc n) = refl
   report-is s (byRun m) = by (runNumber t false m)
     where
-      by : (n : ℕ) → reply (ran (runAnswerBy n (verdict t (m .allowance) (m .budget) s) (figures t s (runMakes t s m)))) .count
+      by : (n : ℕ) → reply (ran (runAnswerBy n (verdict t (aimOf m) (m .budget) s) (figures t s (runMakes t s m)))) .count
           ≡ length (makesBy n (runMakes t s m))
       by zero = refl
       by (suc n) = refl

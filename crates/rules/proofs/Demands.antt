@@ -5,17 +5,20 @@ use mathlib.Core.Bool.{true, false}
 use mathlib.Core.List.{List, [], _∷_, _++_}
 use mathlib.Core.Option.{Option, none, some}
 use mathlib.Core.Logic.{_↔_}
-use Prim.Native.Nat.{ℕ, suc, _+_, _-_, _≤_, _<_}
+use Prim.Native.Nat.{ℕ, suc, _+_, _-_, _*_, _≤_, _<_}
 use native.Mathlib.Omega.{arith}
 use lib.ListN.{length, take}
 use Rattle.rules.specs.Table.{Way, Table, ways, Encloses}
 use Rattle.rules.specs.Leaf.{ofSet, remaining, Lean}
 use Rattle.rules.specs.Tree.{Side, Place, DTree, inners, nodes, Refinement, refine, tree, leafAt, onPath, kindAt}
-use Rattle.rules.specs.Tree.{Subtree, subtree, root, intervalAt, Interval, interval, acceptable, series}
+use Rattle.rules.specs.Tree.{Subtree, subtree, root, intervalAt, Interval, interval, acceptable, series, low, high}
 use Rattle.rules.specs.Run.{next, picks, verdict, ran}
 use Rattle.rules.specs.Refusals.{Accepted}
 use Rattle.rules.specs.declared.Kind.{Kind}
-use Rattle.rules.specs.Calls.{handNumber, Call, callNumber, noted}
+use Rattle.rules.specs.declared.Aim.{Aim}
+use Rattle.rules.specs.declared.Limits.{Limits}
+use Rattle.rules.specs.declared.Verdict.the-variants.{Met}
+use Rattle.rules.specs.Calls.{handNumber, runNumber, runAnswer, Call, callNumber, noted}
 use Rattle.rules.specs.Sheet.{Cue, Sheet, Lists, tableOf, Within, AllBelow, encode, listsIn, decode, readNumber, writeNumber, written}
 use Rattle.rules.proofs.KindLaws.{Handed}
 use Rattle.rules.proofs.Places.{refined-kind, refined-leaves, refined-inners, nodes-inners, subtree-has, elsewhere}
@@ -29,6 +32,7 @@ use Rattle.rules.proofs.Narrowing.{Narrower, no-place-widens, refined-w
 use Rattle.rules.proofs.Levels.{levels, few-nodes}
 use Rattle.rules.proofs.Runs.{TooWide, Exactly, verdict-exactly, OneRun, two-runs, picks-budget, report-inners, one-step}
 use Rattle.rules.proofs.Demand3.{Share, same-share, never-wider, noted-series, HandsBack, hands-back, HandMade, hand-made}
+use Rattle.rules.proofs.Distance.{met-exactly, FigureHanded, figure-handed, picksTo, verdictTo, same-picks, same-verdict}
 use Rattle.rules.proofs.Accepted.{Inside, accepted-inside, inside-accepted}
 use Rattle.rules.proofs.WithinLimits.{Tested, tested-within, within-tested, cue-inside}
 use Rattle.rules.proofs.CueTables.{LineCertain, printed-certain}
@@ -116,27 +120,40 @@ one-refinement t s n a =
 
 -- ---- RULES 5.7 to 5.12: what a run makes, why it stops and what it reports.
 
--- What a run with this allowance and budget does to the tree s.
-pub record OneRunOf (t : Table) (allowance budget : ℕ) (s : DTree) : Type 0 where
+-- What a run with this aim and budget does to the tree s.
+pub record OneRunOf (t : Table) (a : Aim) (budget : ℕ) (s : DTree) : Type 0 where
   -- RULES 5.10: it reports the inner nodes after it less those before it.
-  pub report : length (picks t allowance budget s) ≡ inners (ran t allowance budget s) - inners s
-  pub in-budget : length (picks t allowance budget s) ≤ budget
+  pub report : length (picks t a budget s) ≡ inners (ran t a budget s) - inners s
+  pub in-budget : length (picks t a budget s) ≤ budget
   -- RULES 5.7: the verdict is the first of met, done, full, spent that applies.
-  pub stops : Exactly t allowance (ran t allowance budget s) (verdict t allowance budget s)
+  pub stops : Exactly t a (ran t a budget s) (verdict t a budget s)
+  -- Met is said exactly if the width is at most twice the allowance.
+  pub met : (verdict t a budget s ≡ Met) ↔ (high t (ran t a budget s) - low t (ran t a budget s) ≤ 2 * a .allowance)
+  -- RULES 5.6: the allowance decides where the run stops and nothing else: it is the run that stops at that width.
+  pub by-width : (picks t a budget s ≡ picksTo t (2 * a .allowance) budget s) × (verdict t a budget s ≡ verdictTo t (2 * a .allowance) budget s)
   -- RULES 5.12: two runs in a row are one run with both budgets together.
-  pub cut : (more : ℕ) → OneRun t allowance budget more s
+  pub cut : (more : ℕ) → OneRun t a budget more s
   -- RULES 5.11: budget 1, on a tree that is not met, done or full at the start: one inner node and no more.
-  pub single : (n : Refinement) → TooWide t allowance s → next t s ≡ some n → inners s < 255 → picks t allowance 1 s ≡ n ∷ []
+  pub single : (n : Refinement) → TooWide t a s → next t s ≡ some n → inners s < 255 → picks t a 1 s ≡ n ∷ []
 
-pub one-run : (t : Table) → Accepted t → (allowance budget : ℕ) (s : DTree) → OneRunOf t allowance budget s
+pub one-run : (t : Table) → Accepted t → (a : Aim) (budget : ℕ) (s : DTree) → OneRunOf t a budget s
 one-run t ok a b s =
     record {
       report = omega (arith, report-inners t ok a b s);
       in-budget = picks-budget t a b s;
       stops = verdict-exactly t a b s;
+      met = met-exactly t a b s;
+      by-width = (same-picks t a b s, same-verdict t a b s);
       cut = λ c. two-runs t a b c s;
       single = one-step t a s;
     }
+
+-- ---- RULES 5.16: the figure that an accepted run hands back.
+
+-- It is low plus half the width, rounded down, lies in the interval, and at met the exact chance is within the allowance of it.
+pub every-figure : (t : Table) → Accepted t → (ns : List Refinement) → series t ns ≡ true → (m : Limits) → runNumber t false m ≡ 0
+    → FigureHanded t m (runAnswer t false (tree ns) m)
+every-figure = figure-handed
 
 -- ---- RULES 5.1: the interval that every accepted call after an opening hands back.
 

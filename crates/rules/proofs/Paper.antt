@@ -1,5 +1,6 @@
 -- The cases on paper (RULES 11): P1 to P9 as one list with one claim about the list, the runs that RULES 11.6 names, A1 to A10 on ways that
--- say nothing new (RULES 3.4), and the whole sheet of RULES 11.7 with its lines. Each list of cases stands above the claim that settles it.
+-- say nothing new (RULES 3.4), C1 to C11 on the allowance as a distance (RULES 5.7, 5.16), and the whole sheet of RULES 11.7 with its lines.
+-- Each list of cases stands above the claim that settles it.
 -- The checker computes all of them from the definitions. Rests on Computing.antt, which names those.
 use mathlib.Core.Path.{_≡_, refl}
 use mathlib.Core.Bool.{Bool, true, false, _&&_, Bool·beq}
@@ -90,21 +91,23 @@ p3 = table (333333333 ∷ 333333333 ∷ []) (3 ∷ []) (0 ∷ [])
 abbrev limits : ℕ → ℕ → Limits
 limits a b = record { allowance = a; budget = b }
 
-abbrev ended : Verdict → ℕ → ℕ → ℕ → RunAnswer
-ended v l h n = RunAnswer.Ended v (record { low = l; high = h; count = n })
+-- A run's answer: verdict, low, high, refinements made, figure.
+abbrev ended : Verdict → ℕ → ℕ → ℕ → ℕ → RunAnswer
+ended v l h n g = RunAnswer.Ended v (record { low = l; high = h; count = n }) g
 
 -- Each run with the answer that it is to give.
 abbrev runs : List (RunAnswer × RunAnswer)
 runs =
-    (runAnswer p3 false leaf (limits 0 255), ended Done 111111110 111111111 0)
-    ∷ (runAnswer p3 false leaf (limits 1 255), ended Met 111111110 111111111 0)
+    (runAnswer p3 false leaf (limits 0 255), ended Done 111111110 111111111 0 111111110)
+    ∷ (runAnswer p3 false leaf (limits 1 255), ended Met 111111110 111111111 0 111111110)
     ∷ (runAnswer p3 false leaf (limits 1 256), RunAnswer.Refused 15)
     ∷ (runAnswer p3 false leaf (limits 1000000001 256), RunAnswer.Refused 14)
     ∷ (runAnswer p3 true leaf (limits 1 255), RunAnswer.Refused 16)
-    ∷ (runAnswer p4 false leaf (limits 10000000 40), ended Met 300000000 300000000 2)
-    ∷ (runAnswer p4 false leaf (limits 10000000 1), ended Spent 300000000 350000000 1)
+    ∷ (runAnswer p4 false leaf (limits 10000000 40), ended Met 300000000 300000000 2 300000000)
+    ∷ (runAnswer p4 false leaf (limits 10000000 1), ended Spent 300000000 350000000 1 325000000)
     ∷ []
 
+-- Both of each pair are one.
 abbrev AllEqual : {A : Type 0} → List (A × A) → Type 0
 AllEqual [] = Unit {0}
 AllEqual (x ∷ xs) = (x .0 ≡ x .1) × AllEqual xs
@@ -136,7 +139,7 @@ at l h n = Answer.Accepted (record { low = l; high = h; count = n })
 
 -- A root leaf that is closed, and the run that finds it so.
 abbrev closedRoot : List ℕ → ℕ → Shown
-closedRoot ns x = record { staying = ns; opening = at x x 0; opened = false; back = ran (ended Met x x 0) }
+closedRoot ns x = record { staying = ns; opening = at x x 0; opened = false; back = ran (ended Met x x 0 x) }
 
 -- A root leaf that is open from l to S, and a call that hands this back.
 abbrev openRoot : List ℕ → ℕ → Outcome → Shown
@@ -157,23 +160,23 @@ redundancies =
     -- A2: equal ways, of which the lowest numbered stays.
     ∷ (shown (table (250000000 ∷ 500000000 ∷ []) (0 ∷ 0 ∷ []) (1 ∷ 1 ∷ [])) run, closedRoot (0 ∷ []) 750000000)
     -- A3: one fault in both senses.
-    ∷ (shown (table (250000000 ∷ 500000000 ∷ []) (0 ∷ 1 ∷ []) (1 ∷ 0 ∷ [])) run, openRoot (0 ∷ 1 ∷ []) 750000000 (ran (ended Met S S 1)))
+    ∷ (shown (table (250000000 ∷ 500000000 ∷ []) (0 ∷ 1 ∷ []) (1 ∷ 0 ∷ [])) run, openRoot (0 ∷ 1 ∷ []) 750000000 (ran (ended Met S S 1 S)))
     -- A4: the shorter way comes later.
     ∷ (shown (table (500000000 ∷ 300000000 ∷ []) (3 ∷ 1 ∷ []) (0 ∷ 0 ∷ [])) run, closedRoot (1 ∷ []) 500000000)
     -- A5: once fault 1 is fixed present, the third way says nothing new.
     ∷ (
       shown (table (200000000 ∷ 500000000 ∷ 250000000 ∷ []) (0 ∷ 2 ∷ 1 ∷ []) (2 ∷ 4 ∷ 4 ∷ [])) run,
-      openRoot (0 ∷ 1 ∷ 2 ∷ []) 575000000 (ran (ended Met 875000000 875000000 1)),
+      openRoot (0 ∷ 1 ∷ 2 ∷ []) 575000000 (ran (ended Met 875000000 875000000 1 875000000)),
     )
     -- A6: the second way, left out at the root, does not come back as the lower numbered of two equals once fault 0 is fixed.
     ∷ (
       shown (table (500000000 ∷ 750000000 ∷ 250000000 ∷ []) (2 ∷ 5 ∷ 1 ∷ 4 ∷ 1 ∷ []) (0 ∷ 0 ∷ 4 ∷ 0 ∷ 2 ∷ [])) run,
-      openRoot (0 ∷ 2 ∷ 3 ∷ 4 ∷ []) 843750000 (ran (ended Met 906250000 906250000 4)),
+      openRoot (0 ∷ 2 ∷ 3 ∷ 4 ∷ []) 843750000 (ran (ended Met 906250000 906250000 4 906250000)),
     )
     -- A7: of equal ways, the lowest numbered stays; the other would take a refinement more.
     ∷ (
       shown (table (750000000 ∷ 500000000 ∷ 200000000 ∷ []) (0 ∷ 2 ∷ 1 ∷ 0 ∷ 4 ∷ []) (1 ∷ 0 ∷ 0 ∷ 1 ∷ 0 ∷ [])) run,
-      openRoot (0 ∷ 1 ∷ 2 ∷ 4 ∷ []) 700000000 (ran (ended Met S S 2)),
+      openRoot (0 ∷ 1 ∷ 2 ∷ 4 ∷ []) 700000000 (ran (ended Met S S 2 S)),
     )
     -- A8: the ways fall apart for want of the one left out.
     ∷ (
@@ -193,6 +196,37 @@ redundancies =
 pub redundant-on-paper : AllEqual redundancies
 unfolding of-calls
 redundant-on-paper = (refl, (refl, (refl, (refl, (refl, (refl, (refl, (refl, (refl, (refl, tt))))))))))
+
+-- ---- the allowance is a distance: C1 to C11 (RULES 11.10)
+
+abbrev p8 : Table
+p8 = table (333333333 ∷ 333333333 ∷ []) (1 ∷ 2 ∷ []) (0 ∷ 0 ∷ [])
+
+-- Each run on a fresh opening with the answer that it is to give.
+abbrev distances : List (RunAnswer × RunAnswer)
+distances =
+    -- C1, C2: an odd width is not halved away, and the figure is rounded down.
+    (runAnswer p3 false leaf (limits 0 255), ended Done 111111110 111111111 0 111111110)
+    ∷ (runAnswer p3 false leaf (limits 1 255), ended Met 111111110 111111111 0 111111110)
+    -- C3, C4: one billionth more than twice the allowance, and not.
+    ∷ (runAnswer p8 false leaf (limits 55555555 255), ended Met 555555555 555555556 1 555555555)
+    ∷ (runAnswer p8 false leaf (limits 55555556 255), ended Met 555555555 666666666 0 611111110)
+    -- C5 to C7: the figure is that of the tree after the run.
+    ∷ (runAnswer p4 false leaf (limits 24999999 255), ended Met 300000000 300000000 2 300000000)
+    ∷ (runAnswer p4 false leaf (limits 25000000 255), ended Met 300000000 350000000 1 325000000)
+    ∷ (runAnswer p4 false leaf (limits 50000000 255), ended Met 250000000 350000000 0 300000000)
+    -- C8, C9: a figure comes with every verdict.
+    ∷ (runAnswer p4 false leaf (limits 49999999 0), ended Spent 250000000 350000000 0 300000000)
+    ∷ (runAnswer p4 false leaf (limits 50000000 0), ended Met 250000000 350000000 0 300000000)
+    -- C10, C11: 14 judges the allowance itself, not its double.
+    ∷ (runAnswer p4 false leaf (limits 1000000000 255), ended Met 250000000 350000000 0 300000000)
+    ∷ (runAnswer p4 false leaf (limits 1000000001 255), RunAnswer.Refused 14)
+    ∷ []
+
+-- C1 TO C11 HOLD.
+pub distances-on-paper : AllEqual distances
+unfolding of-calls
+distances-on-paper = (refl, (refl, (refl, (refl, (refl, (refl, (refl, (refl, (refl, (refl, (refl, tt)))))))))))
 
 -- ---- the whole sheet
 

@@ -8,7 +8,7 @@ use native.Mathlib.Omega.{arith}
 use lib.ListN.{length, length-append}
 use Rattle.rules.specs.Table.{Table}
 use Rattle.rules.specs.Tree.{leaf, low, high}
-use Rattle.rules.specs.Run.{picks, verdict}
+use Rattle.rules.specs.Run.{aimOf, picks, verdict}
 use Rattle.rules.specs.Refusals.{wayRefusals, limitRefusals}
 use Rattle.rules.specs.Sheet.{AllBelow, Cue, Sheet, tableOf, decode, readRefusals, readNumber, Within}
 use Rattle.rules.specs.Text.{bytes, decimal, word, line, lines, sheetText, textBy, text}
@@ -55,8 +55,8 @@ line-length : (m : Limits) (ws : List ℕ) (c : Cue) → c .number < 65536 → m
 unfolding line
 line-length m ws c number budget k =
     let t : Table = tableOf ws c in
-    let made : ℕ = length (picks t (m .allowance) (m .budget) leaf) in
-    let v : Verdict = verdict t (m .allowance) (m .budget) leaf in
+    let made : ℕ = length (picks t (aimOf m) (m .budget) leaf) in
+    let v : Verdict = verdict t (aimOf m) (m .budget) leaf in
     omega (
       arith,
       fields-length (decimal (c .number)) (decimal (low t (runTree m t))) (decimal (high t (runTree m t))) (decimal made) (word v),

@@ -1,4 +1,4 @@
--- What each case of each answer says: number, low, high and count (RULES 8.4, 8.6).
+-- What each case of each answer says: number, low, high and count (RULES 8.4, 8.6), and a run's verdict and figure.
 -- Every contract speaks of its answer through these definitions.
 use mathlib.Core.Option.{Option, none, some}
 use Prim.Native.Nat.{ℕ, zero, suc}
@@ -43,13 +43,18 @@ answerReply (Answer.Refused n) = refused n
 
 -- A run.
 abbrev pub runReply : RunAnswer → Reply
-runReply (RunAnswer.Ended v f) = accepted f
+runReply (RunAnswer.Ended v f g) = accepted f
 runReply (RunAnswer.Refused n) = refused n
 
 -- A run's verdict; a refused run has none.
 abbrev pub runVerdict : RunAnswer → Option Verdict
-runVerdict (RunAnswer.Ended v f) = some v
+runVerdict (RunAnswer.Ended v f g) = some v
 runVerdict (RunAnswer.Refused n) = none
+
+-- A run's figure; a refused run has 0.
+abbrev pub runFigure : RunAnswer → ℕ
+runFigure (RunAnswer.Ended v f g) = g
+runFigure (RunAnswer.Refused n) = 0
 
 -- Reading a whole sheet: accepted, the count is 0.
 abbrev pub readReply : ReadAnswer → Reply

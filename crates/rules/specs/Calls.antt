@@ -9,7 +9,7 @@ use lib.Dec.{eqb, ltb}
 use Rattle.rules.specs.Table.{Way, Table}
 use Rattle.rules.specs.Leaf.{isOpen}
 use Rattle.rules.specs.Tree.{Side, left, right, Place, DTree, leaf, possible, rootWays, low, high, roomy, Refinement, grow, tree, leafWays}
-use Rattle.rules.specs.Run.{picks, verdict}
+use Rattle.rules.specs.Run.{aimOf, picks, verdict, figure}
 use Rattle.rules.specs.Refusals.{Refusal, refusal, first, tableRefusals, tableNumber, limitRefusals}
 use Rattle.rules.specs.Answers.{Reply, answerReply, runReply}
 use Rattle.rules.specs.declared.Kind.{Kind}
@@ -90,7 +90,7 @@ handMakes bs k = elim (placeOf bs) as (λ o. List Refinement) [ none ↦ [] | so
 
 -- The refinements that a run's rule picks.
 unfoldable pub runMakes : Table → DTree → Limits → List Refinement
-runMakes t s m = picks t (m .allowance) (m .budget) s
+runMakes t s m = picks t (aimOf m) (m .budget) s
 
 -- The interval then at the root, and the number of refinements made.
 unfoldable pub figures : Table → DTree → List Refinement → Figures
@@ -103,7 +103,7 @@ answerBy zero f = Answer.Accepted f
 answerBy (suc n) f = Answer.Refused (suc n)
 
 unfoldable pub runAnswerBy : ℕ → Verdict → Figures → RunAnswer
-runAnswerBy zero v f = RunAnswer.Ended v f
+runAnswerBy zero v f = RunAnswer.Ended v f (figure (f .low) (f .high))
 runAnswerBy (suc n) v f = RunAnswer.Refused (suc n)
 
 -- An opening: the root leaf alone, count 0.
@@ -116,7 +116,7 @@ handAnswer t bad s bs k = answerBy (handNumber t bad s bs k) (figures t s (handM
 
 -- A run on a tree.
 unfoldable pub runAnswer : Table → Bool → DTree → Limits → RunAnswer
-runAnswer t bad s m = runAnswerBy (runNumber t bad m) (verdict t (m .allowance) (m .budget) s) (figures t s (runMakes t s m))
+runAnswer t bad s m = runAnswerBy (runNumber t bad m) (verdict t (aimOf m) (m .budget) s) (figures t s (runMakes t s m))
 
 -- What a call makes, by its number: a refused call makes nothing.
 unfoldable pub makesBy : ℕ → List Refinement → List Refinement

@@ -1,9 +1,9 @@
--- A run: when it stops, which leaf it takes and what it does there (RULES 5.6 to 5.10).
--- The allowance is an absolute error on the whole width, which is not doubled (RULES 12.2).
+-- A run: when it stops, which leaf it takes, what it does there and the figure that it hands back (RULES 5.6 to 5.10, 5.16).
+-- The allowance is a distance: how far the exact chance may be from that figure, above or below.
 use mathlib.Core.Bool.{Bool, true, false}
 use mathlib.Core.List.{List, [], _∷_}
 use mathlib.Core.Option.{Option, none, some}
-use Prim.Native.Nat.{ℕ, zero, suc, _-_}
+use Prim.Native.Nat.{ℕ, zero, suc, _+_, _-_, _*_, _/_}
 use lib.ListN.{length}
 use lib.Dec.{ltb, leb}
 use Rattle.rules.specs.Table.{bit, Way, Table, faults}
@@ -12,6 +12,8 @@ use Rattle.rules.specs.Group.{fallApart}
 use Rattle.rules.specs.Tree.{Side, left, right, Place, DTree, leaf, inner, child, rootWays, low, high, roomy, Refinement, refine, grow}
 use Rattle.rules.specs.declared.Kind.{Kind}
 use Rattle.rules.specs.declared.Kind.the-variants.{IndependentOr, Shannon}
+use Rattle.rules.specs.declared.Limits.{Limits}
+use Rattle.rules.specs.declared.Aim.{Aim}
 use Rattle.rules.specs.declared.Verdict.{Verdict}
 use Rattle.rules.specs.declared.Verdict.the-variants.{Met, Done, Full, Spent}
 
@@ -66,9 +68,13 @@ next t s =
 
 -- ---- when it stops
 
--- The interval is as narrow as the allowance asks.
-unfoldable pub narrow : ℕ → ℕ → ℕ → Bool
-narrow allowance lo hi = leb (hi - lo) allowance
+-- What a run with these limits aims at.
+abbrev pub aimOf : Limits → Aim
+aimOf m = record { allowance = m .allowance }
+
+-- The interval is as narrow as is aimed at: its width is at most twice the allowance.
+unfoldable pub narrow : Aim → ℕ → ℕ → Bool
+narrow aim lo hi = leb (hi - lo) (2 * aim .allowance)
 
 -- Before a refinement: a reason to stop, or the refinement to make.
 pub data Turn : Type 0 where
@@ -76,25 +82,31 @@ pub data Turn : Type 0 where
   go : Refinement → Turn
 
 -- Met, done and full, in this order; otherwise the refinement that the rule picks. Spent is the run's own.
-unfoldable pub turn : Table → ℕ → DTree → Turn
-turn t allowance s =
-    elim (narrow allowance (low t s) (high t s)) as (λ b. Turn) [
+unfoldable pub turn : Table → Aim → DTree → Turn
+turn t aim s =
+    elim (narrow aim (low t s) (high t s)) as (λ b. Turn) [
       | true ↦ stop Met
       | false ↦ elim (next t s) as (λ o. Turn) [ none ↦ stop Done | some n ↦ elim (roomy s) as (λ b. Turn) [ true ↦ go n | false ↦ stop Full ] ]
     ]
 
--- The refinements that a run with this allowance and budget makes on a tree, one after the other.
-unfoldable pub picks : Table → ℕ → ℕ → DTree → List Refinement
-picks t allowance zero s = []
-picks t allowance (suc budget) s =
-    elim (turn t allowance s) as (λ x. List Refinement) [ stop v ↦ [] | go n ↦ n ∷ picks t allowance budget (refine n s) ]
+-- The refinements that a run with this aim and budget makes on a tree, one after the other.
+unfoldable pub picks : Table → Aim → ℕ → DTree → List Refinement
+picks t aim zero s = []
+picks t aim (suc budget) s =
+    elim (turn t aim s) as (λ x. List Refinement) [ stop v ↦ [] | go n ↦ n ∷ picks t aim budget (refine n s) ]
 
 -- Why it stops: met, done or full before spent, looked for again after the last budgeted refinement.
-unfoldable pub verdict : Table → ℕ → ℕ → DTree → Verdict
-verdict t allowance zero s = elim (turn t allowance s) as (λ x. Verdict) [ stop v ↦ v | go n ↦ Spent ]
-verdict t allowance (suc budget) s =
-    elim (turn t allowance s) as (λ x. Verdict) [ stop v ↦ v | go n ↦ verdict t allowance budget (refine n s) ]
+unfoldable pub verdict : Table → Aim → ℕ → DTree → Verdict
+verdict t aim zero s = elim (turn t aim s) as (λ x. Verdict) [ stop v ↦ v | go n ↦ Spent ]
+verdict t aim (suc budget) s =
+    elim (turn t aim s) as (λ x. Verdict) [ stop v ↦ v | go n ↦ verdict t aim budget (refine n s) ]
 
 -- The tree that a run leaves.
-abbrev pub ran : Table → ℕ → ℕ → DTree → DTree
-ran t allowance budget s = grow s (picks t allowance budget s)
+abbrev pub ran : Table → Aim → ℕ → DTree → DTree
+ran t aim budget s = grow s (picks t aim budget s)
+
+-- ---- what it shows
+
+-- The figure of an interval: low plus half the width, rounded down.
+unfoldable pub figure : ℕ → ℕ → ℕ
+figure lo hi = lo + (hi - lo) / 2

@@ -108,3 +108,9 @@ exact ws vs = weigh ws (happens vs)
 pub record Encloses (ws : List ℕ) (vs : List Way) (low high : ℕ) : Type 0 where
   pub below : low * S ^ length ws ≤ S * exact ws vs
   pub above : S * exact ws vs ≤ high * S ^ length ws
+
+-- The chance of the ways is no further than the distance from the figure: (figure − distance) × S^n ≤ S × E ≤ (figure + distance) × S^n.
+-- The distance stands on the other side of the first, since it may be more than the figure.
+pub record Near (ws : List ℕ) (vs : List Way) (figure distance : ℕ) : Type 0 where
+  pub below : figure * S ^ length ws ≤ S * exact ws vs + distance * S ^ length ws
+  pub above : S * exact ws vs ≤ (figure + distance) * S ^ length ws

@@ -9,7 +9,7 @@ use lib.ListN.{length}
 use lib.Dec.{ltb}
 use Rattle.rules.specs.Table.{Table}
 use Rattle.rules.specs.Tree.{leaf, low, high}
-use Rattle.rules.specs.Run.{picks, verdict, ran}
+use Rattle.rules.specs.Run.{aimOf, picks, verdict, ran}
 use Rattle.rules.specs.Sheet.{Cue, Sheet, tableOf, decode, readNumber}
 use Rattle.rules.specs.declared.Limits.{Limits}
 use Rattle.rules.specs.declared.Verdict.{Verdict}
@@ -49,8 +49,8 @@ word Spent = bytes "spent"
 unfoldable pub line : Limits → List ℕ → Cue → List ℕ
 line m ws c =
     let t : Table = tableOf ws c in
-    let made = picks t (m .allowance) (m .budget) leaf in
-    let s = ran t (m .allowance) (m .budget) leaf in
+    let made = picks t (aimOf m) (m .budget) leaf in
+    let s = ran t (aimOf m) (m .budget) leaf in
     decimal (c .number)
     ++ bytes " "
     ++ decimal (low t s)
@@ -59,7 +59,7 @@ line m ws c =
     ++ bytes " "
     ++ decimal (length made)
     ++ bytes " "
-    ++ word (verdict t (m .allowance) (m .budget) leaf)
+    ++ word (verdict t (aimOf m) (m .budget) leaf)
     ++ bytes "\n"
 
 -- The lines of the cues, in contents order.

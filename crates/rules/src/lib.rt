@@ -26,11 +26,16 @@ pub enum Verdict {
     Spent,
 }
 
-/// What a run is asked for: the allowance, an absolute error in billionths, and the most refinements it may make.
+/// What a run is asked for: the allowance, a distance in billionths, and the most refinements it may make.
 /// Both are words: a number that 14 or 15 judges is never cut before.
 pub struct Limits {
     pub allowance: u64,
     pub budget: u64,
+}
+
+/// What a run aims at: a figure from which the exact chance is no further away than the allowance. The budget is no part of it.
+pub struct Aim {
+    pub allowance: u64,
 }
 
 /// What an accepted call on a tree hands back: the interval at the root and the refinements made.
@@ -46,9 +51,9 @@ pub enum Answer {
     Refused(u8),
 }
 
-/// The answer of a run.
+/// The answer of a run. Ended: its verdict, the interval and the refinements, and the one figure that the page shows.
 pub enum RunAnswer {
-    Ended(Verdict, Figures),
+    Ended(Verdict, Figures, u64),
     Refused(u8),
 }
 

@@ -9,8 +9,9 @@ use lib.ListN.{getD}
 use borrow.Author.Tests.{eq-eqb, ne-eqb}
 use Rattle.rules.specs.Table.{Table}
 use Rattle.rules.specs.Tree.{Refinement}
-use Rattle.rules.specs.Run.{narrow}
+use Rattle.rules.specs.Run.{aimOf, narrow}
 use Rattle.rules.specs.declared.Limits.{Limits}
+use Rattle.rules.specs.declared.Aim.{Aim}
 use Rattle.rules.specs.declared.Verdict.the-variants.{Met, Done, Full}
 use Rattle.records.specs.Records.{treeRecords, blank}
 use Rattle.records.specs.declared.Node.{Node}
@@ -25,9 +26,9 @@ use Rattle.running.specs.Ran.{Ran}
 use Rattle.running.proofs.Turns.{Goes, is-met, is-done, is-full, goes}
 use Rattle.running.proofs.Going.{Going, stopped, spent}
 
-module _ (t : Table) (ns : List Refinement) (m : Limits) (x : Tree) (made : ℕ) (w : Going t ns (m .allowance) (m .budget) x made) where
-  abbrev a : ℕ
-  a = m .allowance
+module _ (t : Table) (ns : List Refinement) (m : Limits) (x : Tree) (made : ℕ) (w : Going t ns (aimOf m) (m .budget) x made) where
+  abbrev a : Aim
+  a = aimOf m
 
   abbrev root : Node
   root = getD (x .nodes) 0 blank

@@ -8,10 +8,11 @@ use native.Mathlib.Omega.{arith}
 use lib.ListN.{length, getD, length-append}
 use Rattle.rules.specs.Table.{Table}
 use Rattle.rules.specs.Tree.{DTree, leaf, Refinement, refine, grow, tree, acceptable, seriesFrom, series}
-use Rattle.rules.specs.Run.{choice, stop, go, turn, picks, verdict}
+use Rattle.rules.specs.Run.{choice, aimOf, stop, go, turn, picks, verdict}
 use Rattle.rules.specs.Refusals.{Accepted}
 use Rattle.rules.specs.declared.Kind.{Kind}
 use Rattle.rules.specs.declared.Limits.{Limits}
+use Rattle.rules.specs.declared.Aim.{Aim}
 use Rattle.rules.specs.declared.Verdict.{Verdict}
 use Rattle.rules.specs.declared.Verdict.the-variants.{Spent}
 use Rattle.rules.proofs.Booleans.{and-left}
@@ -29,7 +30,7 @@ use Rattle.running.proofs.Turns.{Goes, own, whole, is}
 
 -- ---- one turn of the rules' run
 
-module _ (t : Table) (a : ℕ) (s : DTree) where
+module _ (t : Table) (a : Aim) (s : DTree) where
   module _ (v : Verdict) (e : turn t a s ≡ stop v) where
     no-more : (b : ℕ) → picks t a b s ≡ []
     unfolding picks
@@ -63,7 +64,7 @@ module _ (t : Table) (a : ℕ) (s : DTree) where
 
 -- x is the tree of the series ns and of the refinements ps that were made since. What the rules' run makes of it with the rest of the
 -- budget comes, with ps, to what it makes of ns with the whole.
-pub record Going (t : Table) (ns : List Refinement) (a b : ℕ) (x : Tree) (made : ℕ) : Type 0 where
+pub record Going (t : Table) (ns : List Refinement) (a : Aim) (b : ℕ) (x : Tree) (made : ℕ) : Type 0 where
   pub good : Good t x
   pub safe : Safe (x .nodes)
   pub ps : List Refinement
@@ -74,7 +75,7 @@ pub record Going (t : Table) (ns : List Refinement) (a b : ℕ) (x : Tree) (made
   pub makes : picks t a b (tree ns) ≡ ps ++ picks t a rest (tree (history x))
   pub ends : verdict t a b (tree ns) ≡ verdict t a rest (tree (history x))
 
-pub start : (t : Table) (a b : ℕ) (x : Tree) → Good t x → Safe (x .nodes) → Going t (history x) a b x 0
+pub start : (t : Table) (a : Aim) (b : ℕ) (x : Tree) → Good t x → Safe (x .nodes) → Going t (history x) a b x 0
 start t a b x g s =
     record {
       good = g;
@@ -88,9 +89,9 @@ start t a b x g s =
       ends = refl;
     }
 
-module _ (t : Table) (ns : List Refinement) (m : Limits) (x : Tree) (made : ℕ) (w : Going t ns (m .allowance) (m .budget) x made) where
-  abbrev a : ℕ
-  a = m .allowance
+module _ (t : Table) (ns : List Refinement) (m : Limits) (x : Tree) (made : ℕ) (w : Going t ns (aimOf m) (m .budget) x made) where
+  abbrev a : Aim
+  a = aimOf m
 
   abbrev s : DTree
   s = tree (history x)

@@ -12,6 +12,7 @@ use borrow.Author.Tests.{lt-ltb, le-ltb}
 use Rattle.rules.specs.Table.{Table}
 use Rattle.rules.specs.declared.Way.{Way}
 use Rattle.rules.specs.declared.Kind.the-variants.{IndependentOr, Shannon}
+use Rattle.rules.specs.declared.Aim.{Aim}
 use Rattle.rules.specs.declared.Verdict.the-variants.{Met, Done, Full}
 use Rattle.rules.specs.Group.{fallApart}
 use Rattle.rules.specs.Tree.{DTree, low, high, inners, roomy, Refinement, tree, descend, subtree, series}
@@ -57,8 +58,8 @@ choice-fault ws vs n f l e h = rw (e, choice) (ap Shannon (h ∙ ap (λ (m : ℕ
 
 -- ---- the rules' turn, by its tests
 
-module _ (t : Table) (a : ℕ) (s : DTree) where
-  -- An interval narrow enough: the run has met its allowance.
+module _ (t : Table) (a : Aim) (s : DTree) where
+  -- An interval narrow enough: the run is met.
   turn-met : narrow a (low t s) (high t s) ≡ true → turn t a s ≡ stop Met
   unfolding turn
   turn-met e = rw (e, turn)
@@ -82,9 +83,9 @@ module _ (t : Table) (a : ℕ) (s : DTree) where
 -- ---- a good tree, by its own series
 
 -- The rules refine the leaf in record j, by the choice for its ways.
-pub record Goes (t : Table) (allowance : ℕ) (x : Tree) (j : ℕ) : Type 0 where
+pub record Goes (t : Table) (a : Aim) (x : Tree) (j : ℕ) : Type 0 where
   pub inside : j < length (places (history x))
-  pub taken : turn t allowance (tree (history x))
+  pub taken : turn t a (tree (history x))
       ≡ go (record { place = getD (places (history x)) j []; kind = choice (t .weights) (recordWays t (getD (x .nodes) j blank)) })
 
 module _ (t : Table) (x : Tree) (g : Good t x) where
@@ -141,7 +142,7 @@ module _ (t : Table) (x : Tree) (g : Good t x) where
       lt-ltb (inners (tree (history x))) 255
       (omega (arith, q, used-is, few-places t (history x) whole, length-places (history x), series-inners t (history x) whole))
 
-  module _ (a : ℕ) where
+  module _ (a : Aim) where
     -- What the test of the root's record says.
     test-is : {b : Bool} → b ≡ narrow a (getD (x .nodes) 0 blank .low) (getD (x .nodes) 0 blank .high)
         → b ≡ narrow a (low t (tree (history x))) (high t (tree (history x)))

@@ -6,6 +6,7 @@ use Prim.Native.Nat.{ℕ, _+_}
 use lib.Dec.{eqb}
 use Rattle.rules.specs.Table.{Table}
 use Rattle.rules.specs.Run.{narrow, choice}
+use Rattle.rules.specs.declared.Aim.{Aim}
 use Rattle.rules.specs.declared.Verdict.the-variants.{Met, Done, Full, Spent}
 use Rattle.records.specs.Records.{treeRecords, recordIn, recordWays}
 use Rattle.records.specs.Growing.{grownAt}
@@ -28,9 +29,9 @@ whenWide Nothing used made budget = Stop Done
 whenWide (At j w) used made budget = withLeaf j used made budget
 
 -- Met first, by the root's record; otherwise by what the search finds.
-unfoldable pub decided : ℕ → Tree → ℕ → ℕ → Step
-decided allowance x made budget =
-    elim (narrow allowance (recordIn (x .nodes) 0 .low) (recordIn (x .nodes) 0 .high)) as (λ b. Step)
+unfoldable pub decided : Aim → Tree → ℕ → ℕ → Step
+decided aim x made budget =
+    elim (narrow aim (recordIn (x .nodes) 0 .low) (recordIn (x .nodes) 0 .high)) as (λ b. Step)
     [ true ↦ Stop Met | false ↦ whenWide (pickOf (x .nodes)) (x .used) made budget ]
 
 -- The tree y is the tree x with the leaf in record j refined as the rule says, and code may follow its records.

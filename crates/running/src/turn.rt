@@ -4,6 +4,7 @@ ghost use mathlib.Core.Path.{_≡_};
 ghost use mathlib.Core.List.{List};
 ghost use Prim.Native.Nat.{ℕ, _+_, _<_, _≤_};
 ghost use lib.ListN.{length};
+ghost use Rattle.rules.specs.Rounding.{S};
 ghost use Rattle.rules.specs.Leaf.{Lean};
 ghost use Rattle.rules.specs.Run;
 ghost use Rattle.rules.specs.Run.{choice};
@@ -27,6 +28,7 @@ use pick::Found;
 use pick::next_leaf;
 use records::Node;
 use records::RECORDS;
+use rules::Aim;
 use rules::Kind;
 use rules::Verdict;
 use store::Words;
@@ -45,20 +47,22 @@ fn choose(n: usize, present: &[u64], absent: &[u64], c: Clauses) -> Kind
     Kind::Shannon(most_named(n, present, absent, c) as u64)
 }
 
-/// The record's interval is as narrow as the allowance asks. Crossed ends are as narrow as can be.
-fn narrow(n: Node, allowance: u64) -> bool
-    ensures { λ r. ⌜ r ≡ Run.narrow allowance (n .low) (n .high) ⌝ }
+/// The record's interval is as narrow as is aimed at. Crossed ends are as narrow as can be.
+fn narrow(n: Node, aim: Aim) -> bool
+    requires { ⌜ aim .allowance ≤ S ⌝ }
+    ensures { λ r. ⌜ r ≡ Run.narrow aim (n .low) (n .high) ⌝ }
 {
-    width(n) <= allowance
+    width(n) <= 2 * aim.allowance
 }
 
 /// Met, done, full and spent, in this order; otherwise the leaf that the search finds. Where the run is met, nothing is searched.
-pub fn decide(tree: &Words, allowance: u64, made: u64, budget: u64) -> Step
+pub fn decide(tree: &Words, aim: Aim, made: u64, budget: u64) -> Step
     requires { ⌜ Linked (treeOf (now tree) .nodes) (treeOf (now tree) .used) ⌝ }
     requires { ⌜ Safe (treeOf (now tree) .nodes) ⌝ }
-    ensures { λ r. ⌜ r ≡ decided allowance (treeOf (now (tree .entry))) made budget ⌝ }
+    requires { ⌜ aim .allowance ≤ S ⌝ }
+    ensures { λ r. ⌜ r ≡ decided aim (treeOf (now (tree .entry))) made budget ⌝ }
 {
-    if narrow(record_at(tree, 0), allowance) {
+    if narrow(record_at(tree, 0), aim) {
         return Step::Stop(Verdict::Met);
     }
     let found = next_leaf(tree);

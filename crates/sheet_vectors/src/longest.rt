@@ -64,7 +64,7 @@ fn put_ways(s: &mut [u8]) {
 
 /// The whole sheet, put into zeros.
 pub fn put_longest(s: &mut [u8]) {
-    put_head(s, 64, 24, 125000000, 4);
+    put_head(s, 64, 24, 62500000, 4);
     put_contents(s);
     put_weights(s);
     put_ways(s);

@@ -63,6 +63,9 @@ fn accepted_limits() {
     changed(b"budget 255", 8, 2, 255);
     changed(b"allowance 0", 4, 4, 0);
     changed(b"allowance S", 4, 4, 1000000000);
+    changed(b"twice is less", 4, 4, 24999999);
+    changed(b"twice after 1", 4, 4, 25000000);
+    changed(b"twice at once", 4, 4, 50000000);
 }
 
 /// Accepted: other weights, ways and cue numbers.

@@ -19,5 +19,5 @@ verdictNumber Verdict.Spent = 4
 
 -- A refused run has no verdict: 0.
 abbrev pub endNumber : RunAnswer → ℕ
-endNumber (RunAnswer.Ended v f) = verdictNumber v
+endNumber (RunAnswer.Ended v f g) = verdictNumber v
 endNumber (RunAnswer.Refused n) = 0

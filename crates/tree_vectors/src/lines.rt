@@ -1,7 +1,7 @@
-//! The printed line of an answer: number, low, high and count, and for a run its verdict, 0 if it has none.
+//! The printed line of an answer: number, low, high and count, and for a run its verdict, 0 if it has none, and its figure.
 //! Rests on the answers of `rules`.
 ghost use mathlib.Core.Path.{_≡_};
-ghost use Rattle.rules.specs.Answers.{accepted, refused, answerReply, runReply};
+ghost use Rattle.rules.specs.Answers.{accepted, refused, answerReply, runReply, runFigure};
 ghost use Rattle.tree_vectors.specs.Lines.{lineReply, verdictNumber, endNumber};
 use numbers::wide;
 use rules::Answer;
@@ -57,7 +57,7 @@ fn run_reply(a: RunAnswer) -> Line
     ensures { λ r. ⌜ lineReply r ≡ runReply a ⌝ }
 {
     match a {
-        RunAnswer::Ended(_, f) => accepted_line(f),
+        RunAnswer::Ended(_, f, _) => accepted_line(f),
         RunAnswer::Refused(n) => refused_line(n),
     }
 }
@@ -79,7 +79,17 @@ fn end_number(a: RunAnswer) -> u64
     ensures { λ r. ⌜ r ≡ endNumber a ⌝ }
 {
     match a {
-        RunAnswer::Ended(v, _) => verdict_number(v),
+        RunAnswer::Ended(v, _, _) => verdict_number(v),
+        RunAnswer::Refused(_) => 0,
+    }
+}
+
+/// The figure of a run.
+fn figure_shown(a: RunAnswer) -> u64
+    ensures { λ r. ⌜ r ≡ runFigure a ⌝ }
+{
+    match a {
+        RunAnswer::Ended(_, _, g) => g,
         RunAnswer::Refused(_) => 0,
     }
 }
@@ -106,5 +116,6 @@ pub fn print_line(r: Line) {
 /// Prints the line of a run.
 pub fn print_run(a: RunAnswer) {
     print_figures(run_reply(a), b' ');
-    print_field(end_number(a), b'\n');
+    print_field(end_number(a), b' ');
+    print_field(figure_shown(a), b'\n');
 }

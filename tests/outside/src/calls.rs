@@ -11,7 +11,7 @@ pub const RECORDS: usize = 511;
 pub const STACK: usize = 262_144;
 
 /// The version of the header.
-pub const VERSION: u64 = 2;
+pub const VERSION: u64 = 3;
 
 /// A record of a tree; its fields have one width, so that they can be told by number too.
 #[repr(C)]
@@ -69,11 +69,12 @@ pub struct Answer {
     high: u64,
     count: u64,
     verdict: u64,
+    figure: u64,
 }
 
 impl From<Answer> for reference::Answer {
-    fn from(Answer { number, low, high, count, verdict }: Answer) -> reference::Answer {
-        reference::Answer { number, low, high, count, verdict }
+    fn from(Answer { number, low, high, count, verdict, figure }: Answer) -> reference::Answer {
+        reference::Answer { number, low, high, count, verdict, figure }
     }
 }
 
@@ -120,7 +121,7 @@ pub struct Inside {
 // The header asserts the same.
 const _: () = {
     assert!(size_of::<Node>() == 104 && size_of::<Tree>() == 53_152);
-    assert!(size_of::<Answer>() == 40 && size_of::<Spot>() == 16);
+    assert!(size_of::<Answer>() == 48 && size_of::<Spot>() == 16);
     assert!(size_of::<Head>() == 40 && size_of::<Entry>() == 40 && size_of::<Inside>() == 2_336);
 };
 

@@ -56,8 +56,8 @@ pub enum Step {
     Export(usize),
 
     // Claims about the library alone.
-    /// Figures that the last answer must have: number, low, high, count, verdict.
-    Told([Option<u64>; 5]),
+    /// Figures that the last answer must have: number, low, high, count, verdict, figure.
+    Told([Option<u64>; 6]),
     /// What the last call must have written into its space.
     Printed(Vec<u8>),
     /// Both trees have the same places, with what was done there and the intervals, and the same sum of counts.
@@ -199,7 +199,7 @@ fn step(line: &str) -> Option<Step> {
         "import" => Step::Import(words.number()?),
         "export" => Step::Export(words.number()?),
         "told" => {
-            let mut figures = [None; 5];
+            let mut figures = [None; 6];
             for figure in &mut figures {
                 let word = words.word()?;
                 *figure = if word == "-" { None } else { Some(word.parse().ok()?) };

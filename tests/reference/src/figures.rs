@@ -1,6 +1,7 @@
 //! The figures that are easy to get wrong and those to be run in the tests, each by name and typed by hand: the
-//! root leaf's interval, then for each call number, low, high, count and verdict.
+//! root leaf's interval, then for each call number, low, high, count, verdict and figure.
 
+use crate::distances::{self, Case};
 use crate::paper::{
     chain, done_and_full, equal_ways, most_named, one_division, one_pass, own_high, own_interval,
     p3, p4, p6, p7, p8, skipped, widest, with_empty_way, H,
@@ -12,12 +13,14 @@ use crate::vectors::make;
 use crate::{Act, Answer, Table, DONE, MET, NONE, S, SPENT};
 
 /// A name, a table, its root leaf's interval, and calls with all that they must answer.
-pub type Figures = (&'static str, Table, (u64, u64), Vec<(Call, [u64; 5])>);
+pub type Figures = (&'static str, Table, (u64, u64), Vec<(Call, [u64; 6])>);
 
 /// All of them.
 pub fn typed() -> Vec<Figures> {
     let redundant = redundant::cases().into_iter().map(|case| case.figures);
-    [roots_and_widths(), stops(), redundant.collect()].concat()
+    let distances = distances::cases().into_iter().map(Case::figures);
+    let more = redundant.chain(distances).collect();
+    [roots_and_widths(), stops(), more].concat()
 }
 
 /// All of them as scripts, every place shown at the end.
@@ -27,23 +30,27 @@ pub fn figures() -> Vec<Script> {
     scripts
 }
 
-fn run(allowance: u64, budget: u64, answer: [u64; 5]) -> (Call, [u64; 5]) {
+fn run(allowance: u64, budget: u64, answer: [u64; 6]) -> (Call, [u64; 6]) {
     (Call::Run(allowance, budget), answer)
 }
 
-fn by_hand(place: &[u8], act: Act, answer: [u64; 5]) -> (Call, [u64; 5]) {
+fn by_hand(place: &[u8], act: Act, answer: [u64; 6]) -> (Call, [u64; 6]) {
     (Call::Hand(place.to_vec(), act), answer)
 }
 
 fn roots_and_widths() -> Vec<Figures> {
     let q3 = 750_000_000;
     let half = 500_000_000;
-    let end = |low, high, count, verdict| run(0, 255, [0, low, high, count, verdict]);
-    let own = run(0, 1, [0, q3, 875_000_000, 1, SPENT]);
+    let end = |low, high, count, verdict| run(0, 255, [0, low, high, count, verdict, low]);
+    let own = run(0, 1, [0, q3, 875_000_000, 1, SPENT, 812_500_000]);
     let own_high_end = 612_759_200;
-    let fault_0 = [0, 378_640_398, own_high_end, 1, NONE];
-    let narrow = run(50_000_000, 255, [0, 156_250_000, 203_125_000, 2, MET]);
-    let closed = by_hand(&[], Act::Fault(0), [18, 0, S, 0, NONE]);
+    let fault_0 = [0, 378_640_398, own_high_end, 1, NONE, 0];
+    let narrow = run(
+        25_000_000,
+        255,
+        [0, 156_250_000, 203_125_000, 2, MET, 179_687_500],
+    );
+    let closed = by_hand(&[], Act::Fault(0), [18, 0, S, 0, NONE, 0]);
     let nothing = Table::of(&[H], &[]);
     vec![
         (
@@ -112,51 +119,63 @@ fn stops() -> Vec<Figures> {
             "P3 with allowance 0 is done",
             p3(),
             of_p3,
-            vec![run(0, 255, [0, of_p3.0, of_p3.1, 0, DONE])],
+            vec![run(0, 255, [0, of_p3.0, of_p3.1, 0, DONE, of_p3.0])],
         ),
         (
             "P3 with allowance 1 is met",
             p3(),
             of_p3,
-            vec![run(1, 255, [0, of_p3.0, of_p3.1, 0, MET])],
+            vec![run(1, 255, [0, of_p3.0, of_p3.1, 0, MET, of_p3.0])],
         ),
         (
             "met after the last budgeted refinement",
             p6(),
             (500_000_000, S),
-            vec![run(0, 1, [0, S, S, 1, MET])],
+            vec![run(0, 1, [0, S, S, 1, MET, S])],
         ),
         (
             "done after the last budgeted refinement",
             p8(),
             (555_555_555, 666_666_666),
-            vec![run(0, 1, [0, 555_555_555, 555_555_556, 1, DONE])],
+            vec![run(
+                0,
+                1,
+                [0, 555_555_555, 555_555_556, 1, DONE, 555_555_555],
+            )],
         ),
         (
             "spent counts this run",
             p4(),
             of_p4,
             vec![
-                run(0, 0, [0, of_p4.0, of_p4.1, 0, SPENT]),
-                run(0, 1, [0, 300_000_000, 350_000_000, 1, SPENT]),
-                run(0, 0, [0, 300_000_000, 350_000_000, 0, SPENT]),
-                run(0, 1, [0, 300_000_000, 300_000_000, 1, MET]),
+                run(0, 0, [0, of_p4.0, of_p4.1, 0, SPENT, 300_000_000]),
+                run(0, 1, [0, 300_000_000, 350_000_000, 1, SPENT, 325_000_000]),
+                run(0, 0, [0, 300_000_000, 350_000_000, 0, SPENT, 325_000_000]),
+                run(0, 1, [0, 300_000_000, 300_000_000, 1, MET, 300_000_000]),
             ],
         ),
         (
             "the whole sheet's cue 7",
             p4(),
             of_p4,
-            vec![run(10_000_000, 40, [0, 300_000_000, 300_000_000, 2, MET])],
+            vec![run(
+                10_000_000,
+                40,
+                [0, 300_000_000, 300_000_000, 2, MET, 300_000_000],
+            )],
         ),
         (
             "done before full",
             done_and_full(),
             (683_786_240, S),
             vec![
-                run(0, 254, [0, 931_355_327, 931_371_430, 254, SPENT]),
-                run(0, 1, [0, 931_355_327, 931_355_348, 1, DONE]),
-                run(0, 0, [0, 931_355_327, 931_355_348, 0, DONE]),
+                run(
+                    0,
+                    254,
+                    [0, 931_355_327, 931_371_430, 254, SPENT, 931_363_378],
+                ),
+                run(0, 1, [0, 931_355_327, 931_355_348, 1, DONE, 931_355_337]),
+                run(0, 0, [0, 931_355_327, 931_355_348, 0, DONE, 931_355_337]),
             ],
         ),
         (
@@ -166,7 +185,7 @@ fn stops() -> Vec<Figures> {
             vec![by_hand(
                 &[],
                 Act::Fault(1),
-                [0, 840_000_000, 840_000_000, 1, NONE],
+                [0, 840_000_000, 840_000_000, 1, NONE, 0],
             )],
         ),
     ]
@@ -175,7 +194,7 @@ fn stops() -> Vec<Figures> {
 /// A script whose answers are the typed ones.
 fn held((name, table, root, calls): Figures) -> Script {
     let (opened, mut tree) = open(&table);
-    assert_eq!(told(&opened), [0, root.0, root.1, 0, NONE], "{name}");
+    assert_eq!(told(&opened), [0, root.0, root.1, 0, NONE, 0], "{name}");
     for (call, answer) in &calls {
         assert_eq!(told(&make(&table, &mut tree, call)), *answer, "{name}");
     }
@@ -187,15 +206,16 @@ fn held((name, table, root, calls): Figures) -> Script {
     lined(table, lines)
 }
 
-fn told(answer: &Answer) -> [u64; 5] {
+fn told(answer: &Answer) -> [u64; 6] {
     let Answer {
         number,
         low,
         high,
         count,
         verdict,
+        figure,
     } = *answer;
-    [number, low, high, count, verdict]
+    [number, low, high, count, verdict, figure]
 }
 
 /// The fault named in most ways counts only ways that stay: a run takes fault 0.

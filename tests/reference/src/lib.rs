@@ -5,6 +5,7 @@
 pub mod child;
 pub mod csv;
 pub mod damages;
+pub mod distances;
 pub mod figures;
 pub mod files;
 pub mod leaf;
@@ -36,14 +37,14 @@ pub const MOST_REFINEMENTS: u64 = 255;
 pub const LONGEST_PLACE: usize = 64;
 pub const LONGEST_SHEET: usize = 49_612;
 
-/// Verdicts as an `Answer` carries them; every call but an accepted run has none.
+/// Verdicts as an `Answer` carries them.
 pub const NONE: u64 = 0;
 pub const MET: u64 = 1;
 pub const DONE: u64 = 2;
 pub const FULL: u64 = 3;
 pub const SPENT: u64 = 4;
 
-/// What every call hands back.
+/// What every call hands back. An accepted run has a verdict and a figure; in every other answer both are 0.
 #[derive(Clone, Copy, Debug, PartialEq, Eq)]
 pub struct Answer {
     pub number: u64,
@@ -51,6 +52,7 @@ pub struct Answer {
     pub high: u64,
     pub count: u64,
     pub verdict: u64,
+    pub figure: u64,
 }
 
 impl Answer {
@@ -61,16 +63,18 @@ impl Answer {
             high: S,
             count: 0,
             verdict: NONE,
+            figure: 0,
         }
     }
 
-    pub fn accepted(interval: leaf::Interval, count: u64, verdict: u64) -> Answer {
+    pub fn accepted(interval: leaf::Interval, count: u64) -> Answer {
         Answer {
             number: 0,
             low: interval.low,
             high: interval.high,
             count,
-            verdict,
+            verdict: NONE,
+            figure: 0,
         }
     }
 }

@@ -38,10 +38,10 @@ pub struct Case {
 /// A1 to A10.
 pub fn cases() -> Vec<Case> {
     let (half, q3) = (u64::from(H), u64::from(Q3));
-    let end = |figure, count| vec![(Call::Run(0, 255), [0, figure, figure, count, MET])];
+    let end = |figure, count| vec![(Call::Run(0, 255), [0, figure, figure, count, MET, figure])];
     let by_hand = |act, answer| vec![(Call::Hand(vec![], act), answer)];
-    let apart = by_hand(Act::Independence, [0, q3, q3, 1, NONE]);
-    let refused = by_hand(Act::Fault(2), [20, 0, S, 0, NONE]);
+    let apart = by_hand(Act::Independence, [0, q3, q3, 1, NONE, 0]);
+    let refused = by_hand(Act::Fault(2), [20, 0, S, 0, NONE, 0]);
     let closed = |figure| (figure, figure);
     let open = |low| (low, S);
     let case = |name, weights: &[u32], ways: &[&[i64]], staying, root, calls| Case {

@@ -1,7 +1,7 @@
 //! A counted run: it refines the widest open leaf again and again until it is met, done,
-//! full or spent, and reports how many refinements it made.
+//! full or spent, and reports how many refinements it made and one figure for the page.
 
-use crate::leaf::Way;
+use crate::leaf::{Interval, Way};
 use crate::tree::{split, Act, State};
 use crate::{Answer, Table, Tree, DONE, FULL, MET, MOST_REFINEMENTS, S, SPENT};
 
@@ -29,23 +29,40 @@ pub fn run(table: &Table, tree: &mut Tree, allowance: u64, budget: u64) -> Answe
                 widest = Some(entry);
             }
         }
-        if root.high - root.low <= allowance {
-            return tree.answer(table, made, MET);
+        if near_enough(root, allowance) {
+            return ended(tree.answer(table, made), MET);
         }
         let Some(leaf) = widest else {
-            return tree.answer(table, made, DONE);
+            return ended(tree.answer(table, made), DONE);
         };
         if tree.refinements() >= MOST_REFINEMENTS {
-            return tree.answer(table, made, FULL);
+            return ended(tree.answer(table, made), FULL);
         }
         if made >= budget {
-            return tree.answer(table, made, SPENT);
+            return ended(tree.answer(table, made), SPENT);
         }
         let grew = tree.grow(table, &leaf.place, pick(&leaf.ways));
         assert!(
             grew,
             "a run's own pick is always a refinement that the rules allow"
         );
+    }
+}
+
+/// Some figure is within the allowance of both ends, and so of every chance between them: the lowest figure that reaches up to
+/// the high end is no higher than the highest that reaches down to the low end.
+fn near_enough(root: Interval, allowance: u64) -> bool {
+    let lowest = root.high.saturating_sub(allowance);
+    let highest = root.low + allowance;
+    lowest <= highest
+}
+
+/// An accepted run: its verdict, and for a figure the mean of the two ends, rounded down.
+fn ended(answer: Answer, verdict: u64) -> Answer {
+    Answer {
+        verdict,
+        figure: (answer.low + answer.high) / 2,
+        ..answer
     }
 }
 

@@ -3,7 +3,7 @@
 
 use crate::leaf::Interval;
 use crate::table::{any_weight_above_s, words_number};
-use crate::{Answer, Table, MOST_CUES, MOST_FAULTS, MOST_REFINEMENTS, MOST_WAYS, NONE, S};
+use crate::{Answer, Table, MOST_CUES, MOST_FAULTS, MOST_REFINEMENTS, MOST_WAYS, S};
 
 const HEAD: usize = 12;
 const CONTENTS_LINE: usize = 8;
@@ -231,7 +231,7 @@ fn content_number(
 /// Reading a whole sheet.
 pub fn read(bytes: &[u8]) -> Answer {
     match sheet_number(bytes) {
-        0 => Answer::accepted(Interval { low: 0, high: S }, 0, NONE),
+        0 => Answer::accepted(Interval { low: 0, high: S }, 0),
         number => Answer::refused(number),
     }
 }
@@ -358,7 +358,7 @@ pub fn lay(output: &[u8], space: &mut [u8]) -> Answer {
         None => Answer::refused(22),
         Some(front) => {
             front.copy_from_slice(output);
-            Answer::accepted(Interval { low: 0, high: S }, output.len() as u64, NONE)
+            Answer::accepted(Interval { low: 0, high: S }, output.len() as u64)
         }
     }
 }

@@ -33,13 +33,16 @@ const WHOLE: usize = 72;
 type Case = (&'static str, usize, &'static [(Field, u64)]);
 
 /// Accepted, at the ends of what is allowed.
-const ACCEPTED: [Case; 11] = [
+const ACCEPTED: [Case; 14] = [
     ("paper", WHOLE, &[]),
     ("budget 1", WHOLE, &[(BUDGET, 1)]),
     ("budget 0", WHOLE, &[(BUDGET, 0)]),
     ("budget 255", WHOLE, &[(BUDGET, 255)]),
     ("allowance 0", WHOLE, &[(ALLOWANCE, 0)]),
     ("allowance S", WHOLE, &[(ALLOWANCE, S)]),
+    ("twice is less", WHOLE, &[(ALLOWANCE, 24_999_999)]),
+    ("twice after 1", WHOLE, &[(ALLOWANCE, 25_000_000)]),
+    ("twice at once", WHOLE, &[(ALLOWANCE, 50_000_000)]),
     ("weight 0", WHOLE, &[(FIRST_WEIGHT, 0)]),
     ("weight S", WHOLE, &[(FIRST_WEIGHT, S)]),
     ("an empty way", WHOLE, &[(FIRST_PRESENT, 0)]),
@@ -154,7 +157,7 @@ pub fn longest() -> Sheet {
         weights: (1..=MOST_FAULTS as u32).map(|n| n * 3_000_000).collect(),
         cues: (1..=MOST_CUES as u16).collect(),
         counts: vec![MOST_WAYS as u16; MOST_CUES],
-        allowance: 125_000_000,
+        allowance: 62_500_000,
         budget: 4,
         ..Sheet::default()
     };

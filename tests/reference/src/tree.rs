@@ -3,7 +3,7 @@
 //! out: remaining ways and intervals are found afresh whenever they are asked for.
 
 use crate::leaf::{down, is_open, leaf_interval, product, staying, up, Interval, Way};
-use crate::{Answer, Table, LONGEST_PLACE, MOST_REFINEMENTS, NONE, S};
+use crate::{Answer, Table, LONGEST_PLACE, MOST_REFINEMENTS, S};
 
 /// What is done at a leaf to refine it.
 #[derive(Clone, Copy, Debug, PartialEq, Eq)]
@@ -63,7 +63,7 @@ pub fn open(table: &Table) -> (Answer, Tree) {
         return (Answer::refused(number), Tree::default());
     }
     let tree = Tree::root_leaf(table);
-    (tree.answer(table, 0, NONE), tree)
+    (tree.answer(table, 0), tree)
 }
 
 /// Refining by hand: refusals 9 to 13 and 16 to 20, then that one refinement.
@@ -79,7 +79,7 @@ pub fn refine_by_hand(table: &Table, tree: &mut Tree, place: &[u8], act: Act) ->
         Err(number) => Answer::refused(number),
         Ok(grown) => {
             *tree = grown;
-            tree.answer(table, 1, NONE)
+            tree.answer(table, 1)
         }
     }
 }
@@ -189,8 +189,8 @@ impl Tree {
         entries
     }
 
-    pub(crate) fn answer(&self, table: &Table, count: u64, verdict: u64) -> Answer {
-        Answer::accepted(self.interval(table), count, verdict)
+    pub(crate) fn answer(&self, table: &Table, count: u64) -> Answer {
+        Answer::accepted(self.interval(table), count)
     }
 }
 

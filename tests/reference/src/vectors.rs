@@ -7,7 +7,7 @@ use crate::run::run;
 use crate::scripts::{scripts, Call, Damage, Line, Script};
 use crate::table::{Count, MOST_COUNTED};
 use crate::tree::{open, refine_by_hand, Entry, State};
-use crate::{Act, Answer, Table, Tree, LONGEST_PLACE};
+use crate::{Act, Answer, Table, Tree, LONGEST_PLACE, MET};
 
 /// The test program has room for a place of so many steps.
 const MOST_STEPS: usize = LONGEST_PLACE + 6;
@@ -24,7 +24,7 @@ pub struct Vectors {
 /// the length of the place, its steps, 0 for independence or 1 for a fault and the fault; or
 /// 1, allowance and budget. Or it is 2, the record, the field and what is added there, and a
 /// call; or 3, all places; or 4 and a call, with all places then and the tree kept as it was.
-/// The expected lines: number, low, high and count, and a run's verdict; of a place 1 for a
+/// The expected lines: number, low, high and count, and a run's verdict and figure; of a place 1 for a
 /// leaf, 2 for independence, 3 for a fault, the fault, 1 for an open leaf, low and high, a
 /// node before those below it, left before right. Panics where an answer breaks the rules.
 pub fn vectors() -> Vectors {
@@ -87,8 +87,9 @@ impl Vectors {
     fn tell(&mut self, counted: &Counted, call: &Call, answer: Answer) {
         counted.check(&answer);
         let mut told = figures(&answer).to_vec();
-        if let Call::Run(..) = call {
-            told.push(answer.verdict);
+        if let Call::Run(allowance, _) = call {
+            counted.check_near(&answer, *allowance);
+            told.extend([answer.verdict, answer.figure]);
         }
         self.expected.push_str(&text(&told));
     }
@@ -193,6 +194,19 @@ impl Counted<'_> {
         if answer.number == 0 {
             let encloses = count.encloses(answer.low, answer.high, &self.table.ways());
             assert!(encloses, "{answer:?} does not enclose: {:?}", self.table);
+        }
+    }
+
+    /// At met the chance is within the allowance of the figure.
+    fn check_near(&self, answer: &Answer, allowance: u64) {
+        let Some(count) = &self.count else { return };
+        if answer.verdict == MET {
+            let ends = (
+                answer.figure.saturating_sub(allowance),
+                answer.figure + allowance,
+            );
+            let near = count.encloses(ends.0, ends.1, &self.table.ways());
+            assert!(near, "{answer:?} is not near: {:?}", self.table);
         }
     }
 

@@ -14,15 +14,24 @@ use reference::table::Count;
 use reference::tree::{first_widest, open, refine_by_hand, State};
 use reference::{Act, Answer, Table, DONE, FULL, MET, S, SPENT};
 
-fn answer(interval: (u64, u64), count: u64, verdict: u64) -> Answer {
+/// What an opening or a hand refinement answers.
+fn answer(interval: (u64, u64), count: u64) -> Answer {
     Answer::accepted(
         Interval {
             low: interval.0,
             high: interval.1,
         },
         count,
-        verdict,
     )
+}
+
+/// What a run answers.
+fn ended(interval: (u64, u64), count: u64, verdict: u64, figure: u64) -> Answer {
+    Answer {
+        verdict,
+        figure,
+        ..answer(interval, count)
+    }
 }
 
 /// Opens the table and makes one run.
@@ -37,7 +46,7 @@ fn paper() {
         let table = &case.table;
         let count = Count::new(&table.weights);
         let (opened, mut tree) = open(table);
-        assert_eq!(opened, answer(case.root, 0, 0), "{}", case.name);
+        assert_eq!(opened, answer(case.root, 0), "{}", case.name);
         let root = &tree.places(table)[0];
         assert_eq!(root.state == State::Open, case.open, "{}", case.name);
         assert!(
@@ -48,7 +57,7 @@ fn paper() {
         for (place, act, after) in case.hand {
             assert_eq!(
                 refine_by_hand(table, &mut tree, &place, act),
-                answer(after, 1, 0),
+                answer(after, 1),
                 "{}",
                 case.name
             );
@@ -66,21 +75,21 @@ fn paper_runs() {
     let p3 = p3();
     assert_eq!(
         one_run(&p3, 0, 255),
-        answer((111_111_110, 111_111_111), 0, DONE)
+        ended((111_111_110, 111_111_111), 0, DONE, 111_111_110)
     );
     assert_eq!(
         one_run(&p3, 1, 255),
-        answer((111_111_110, 111_111_111), 0, MET)
+        ended((111_111_110, 111_111_111), 0, MET, 111_111_110)
     );
     assert_eq!(
         one_run(&p3, 0, 0),
-        answer((111_111_110, 111_111_111), 0, DONE)
+        ended((111_111_110, 111_111_111), 0, DONE, 111_111_110)
     );
 }
 
 #[test]
 fn a_way_takes_one_pass_with_both_senses_mixed() {
-    assert_eq!(open(&one_pass()).0, answer((49_999_999, 50_000_000), 0, 0));
+    assert_eq!(open(&one_pass()).0, answer((49_999_999, 50_000_000), 0));
 }
 
 #[test]
@@ -104,8 +113,8 @@ fn groups_follow_chains() {
 #[test]
 fn widest_is_the_leafs_own_width() {
     assert_eq!(
-        one_run(&widest(), 50_000_000, 255),
-        answer((156_250_000, 203_125_000), 2, MET)
+        one_run(&widest(), 25_000_000, 255),
+        ended((156_250_000, 203_125_000), 2, MET, 179_687_500)
     );
 }
 
@@ -119,37 +128,37 @@ fn an_inner_node_keeps_its_own_leaf_interval() {
 fn an_inner_node_keeps_its_own_high_end() {
     let table = own_high();
     let (opened, mut tree) = open(&table);
-    assert_eq!(opened, answer((128_900_954, 612_759_200), 0, 0));
+    assert_eq!(opened, answer((128_900_954, 612_759_200), 0));
     let after = refine_by_hand(&table, &mut tree, &[], Act::Fault(0));
-    assert_eq!(after, answer((378_640_398, 612_759_200), 1, 0));
+    assert_eq!(after, answer((378_640_398, 612_759_200), 1));
 }
 
 #[test]
 fn one_division_for_each_node() {
     assert_eq!(
         one_run(&one_division(), 0, 255),
-        answer((500_000_000, 500_000_000), 1, MET)
+        ended((500_000_000, 500_000_000), 1, MET, 500_000_000)
     );
 }
 
 #[test]
 fn empty_ways_and_no_ways() {
     let with_empty = with_empty_way();
-    assert_eq!(one_run(&with_empty, 0, 255), answer((S, S), 0, MET));
+    assert_eq!(one_run(&with_empty, 0, 255), ended((S, S), 0, MET, S));
     assert_eq!(
         open(&with_empty).1.places(&with_empty)[0].state,
         State::Closed
     );
     assert_eq!(
         one_run(&Table::of(&[H], &[]), 0, 255),
-        answer((0, 0), 0, MET)
+        ended((0, 0), 0, MET, 0)
     );
 }
 
 #[test]
 fn of_equal_ways_one_counts_everywhere() {
     let half = (500_000_000, 500_000_000);
-    assert_eq!(open(&equal_ways()).0, answer(half, 0, 0));
+    assert_eq!(open(&equal_ways()).0, answer(half, 0));
     let most = most_named();
     let (_, mut tree) = open(&most);
     run(&most, &mut tree, 0, 1);
@@ -158,19 +167,19 @@ fn of_equal_ways_one_counts_everywhere() {
 
 #[test]
 fn stops_are_looked_for_after_the_last_budgeted_refinement() {
-    assert_eq!(one_run(&p6(), 0, 1), answer((S, S), 1, MET));
+    assert_eq!(one_run(&p6(), 0, 1), ended((S, S), 1, MET, S));
     assert_eq!(
         one_run(&p8(), 0, 1),
-        answer((555_555_555, 555_555_556), 1, DONE)
+        ended((555_555_555, 555_555_556), 1, DONE, 555_555_555)
     );
     let p4 = p4();
     assert_eq!(
         one_run(&p4, 0, 1),
-        answer((300_000_000, 350_000_000), 1, SPENT)
+        ended((300_000_000, 350_000_000), 1, SPENT, 325_000_000)
     );
     assert_eq!(
         one_run(&p4, 0, 0),
-        answer((250_000_000, 350_000_000), 0, SPENT)
+        ended((250_000_000, 350_000_000), 0, SPENT, 300_000_000)
     );
 }
 
@@ -193,12 +202,21 @@ fn done_comes_before_full() {
     let table = done_and_full();
     let (_, mut tree) = open(&table);
     let first = run(&table, &mut tree, 0, 254);
-    assert_eq!(first, answer((931_355_327, 931_371_430), 254, SPENT));
+    assert_eq!(
+        first,
+        ended((931_355_327, 931_371_430), 254, SPENT, 931_363_378)
+    );
     let after = (931_355_327, 931_355_348);
-    assert_eq!(run(&table, &mut tree, 0, 1), answer(after, 1, DONE));
+    assert_eq!(
+        run(&table, &mut tree, 0, 1),
+        ended(after, 1, DONE, 931_355_337)
+    );
     assert_eq!(tree.refinements(), 255);
     for budget in [0, 1, 255] {
-        assert_eq!(run(&table, &mut tree, 0, budget), answer(after, 0, DONE));
+        assert_eq!(
+            run(&table, &mut tree, 0, budget),
+            ended(after, 0, DONE, 931_355_337)
+        );
     }
 }
 
@@ -215,7 +233,7 @@ fn by_hand_a_fault_may_be_used_where_the_ways_fall_apart() {
 fn the_highest_sizes_are_accepted() {
     let table = stairs();
     assert_eq!(table.table_number(), 0);
-    assert_eq!(open(&table).0, answer((S, S), 0, 0));
+    assert_eq!(open(&table).0, answer((S, S), 0));
     assert_eq!(open(&singles()).0.high, S);
 }
 
@@ -253,10 +271,10 @@ fn the_whole_sheet_of_the_paper() {
     assert_eq!(bytes.len(), 72);
     assert_eq!(encode(&whole_sheet(40)), bytes);
     assert_eq!(decode(&bytes), Ok(whole_sheet(40)));
-    assert_eq!(read(&bytes), answer((0, S), 0, 0));
+    assert_eq!(read(&bytes), answer((0, S), 0));
 
     let mut space = [0xAA; 80];
-    assert_eq!(write(&whole_sheet(40), &mut space), answer((0, S), 72, 0));
+    assert_eq!(write(&whole_sheet(40), &mut space), answer((0, S), 72));
     assert_eq!(space[..72], bytes[..]);
     assert_eq!(space[72..], [0xAA; 8]);
 

@@ -114,7 +114,7 @@ fn two_runs_are_one() {
 /// What a verdict says, looked up in the tree that the run left.
 fn assert_verdict(table: &Table, tree: &Tree, answer: Answer, allowance: u64, budget: u64) {
     let entries = tree.places(table);
-    let met = answer.high - answer.low <= allowance;
+    let met = answer.high - answer.low <= 2 * allowance;
     let done = entries.iter().all(|entry| entry.state != State::Open);
     let full = tree.refinements() == MOST_REFINEMENTS;
     let expected = if met {
@@ -234,7 +234,7 @@ fn the_root_of_an_opening_is_its_leaf() {
         let table = random.table();
         let (answer, tree) = open(&table);
         let leaf = leaf_interval(&table.weights, &staying(&table.ways()));
-        assert_eq!(answer, Answer::accepted(leaf, 0, 0));
+        assert_eq!(answer, Answer::accepted(leaf, 0));
         assert_eq!(tree.places(&table).len(), 1);
     }
 }

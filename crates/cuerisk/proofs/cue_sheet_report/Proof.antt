@@ -1,8 +1,6 @@
 -- `cue_sheet_report` meets its contract: the numbers of what `put_text` answers, and its space.
 -- Rests on Reporting.antt and the contracts of `put_text` and `of_write`.
 use mathlib.Core.Path.{ap, _∙_}
-use mathlib.Core.Option.{none}
-use Rattle.rules.specs.Answers.{Reply}
 use Rattle.cuerisk.specs.Numbers.{flat, flatWrite}
 use Rattle.cuerisk.proofs.Reporting.{report-reply}
 use borrow.Author.Needs.{needs}
@@ -22,7 +20,7 @@ returns : tie.Need-returns
 returns c =
     let w = c .before .before .before .put-text .ensures in
     let e = c .of-write .ensures ∙ ap flatWrite (w .0) in
-    record { numbers = e; counts = e ∙ ap (λ (r : Reply). flat r none) (report-reply _ _); space = w .1 }
+    record { numbers = e; counts = e ∙ ap flat (report-reply _ _); space = w .1 }
 
 pub cue-sheet-report-spec : {M : Type 1} → statement M
 cue-sheet-report-spec = tie.close (tie.spec put-text-requires of-write-requires same-length returns)

@@ -182,7 +182,7 @@ fn faults(session: &mut Session) -> Outcome {
     for fault in CUTS {
         session.opened(p7())?;
         session.make(Step::Refine(vec![], 0, fault + 1))?;
-        session.told(0, (840_000_000, 840_000_000), 1, NONE)?;
+        session.told(0, (840_000_000, 840_000_000), 1)?;
     }
     Ok(())
 }

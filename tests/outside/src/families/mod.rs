@@ -3,6 +3,7 @@
 mod csv;
 mod cuts;
 mod damage;
+mod distance;
 mod drawn;
 mod far;
 mod lists;
@@ -36,10 +37,10 @@ pub struct Family {
     pub least: u64,
 }
 
-pub const FAMILIES: [Family; 24] = [
+pub const FAMILIES: [Family; 25] = [
     family("paper", paper::cases_on_paper, 113),
     family("tests", paper::run_in_the_tests, 135),
-    family("wrong", named::easy_to_get_wrong, 11_170),
+    family("wrong", named::easy_to_get_wrong, 11_290),
     family("orders", named::orders, 155),
     family("scripts", scripts::scripts, 142_446),
     family("edges", tables::edges, 1400),
@@ -52,6 +53,7 @@ pub const FAMILIES: [Family; 24] = [
     family("foreign", damage::foreign, 10_000),
     family("drawn", drawn::drawn, 29_000),
     family("redundant", redundant::redundant, 20_000),
+    family("distance", distance::distance, 30_000),
     family("sheets", reading::sheets, 53_000),
     family("bytes", reading::bytes, 90_000),
     family("reports", reading::reports, 4300),
@@ -78,11 +80,11 @@ fn make(session: &mut Session, call: Call) -> Outcome {
 /// A run whose number and verdict are told; the figures are left to the reference.
 fn run_told(session: &mut Session, (allowance, budget): (u64, u64), number: u64, verdict: u64) -> Outcome {
     session.run(allowance, budget)?;
-    session.make(Step::Told([Some(number), None, None, None, Some(verdict)]))
+    session.make(Step::Told([Some(number), None, None, None, Some(verdict), None]))
 }
 
 fn told_number(session: &mut Session, number: u64) -> Outcome {
-    session.make(Step::Told([Some(number), None, None, None, None]))
+    session.make(Step::Told([Some(number), None, None, None, None, None]))
 }
 
 /// A leaf of the tree at hand that is open, there has to be one, and what a run would do there.

@@ -14,7 +14,7 @@ pub fn easy_to_get_wrong(bench: &mut Bench) -> Outcome {
     for (name, table, root, calls) in typed() {
         bench.case(name, |session, _| {
             session.opened(table)?;
-            session.told(0, root, 0, NONE)?;
+            session.told(0, root, 0)?;
             for (call, answer) in calls {
                 make(session, call)?;
                 session.make(Step::Told(answer.map(Some)))?;
@@ -30,7 +30,7 @@ pub fn easy_to_get_wrong(bench: &mut Bench) -> Outcome {
     for (name, table, root) in largest {
         bench.case(name, |session, _| {
             session.opened(table)?;
-            session.told(0, root, 0, NONE)
+            session.told(0, root, 0)
         })?;
     }
     for weight in [H, 999_999_999, 1] {

@@ -12,14 +12,14 @@ pub fn cases_on_paper(bench: &mut Bench) -> Outcome {
     for case in cases() {
         bench.case(case.name, |session, _| {
             session.opened(case.table)?;
-            session.told(0, case.root, 0, NONE)?;
+            session.told(0, case.root, 0)?;
             if !case.open {
                 session.refine(vec![], Act::Fault(0))?;
-                session.told(18, (0, S), 0, NONE)?;
+                session.told(18, (0, S), 0)?;
             }
             for (place, act, after) in case.hand {
                 session.refine(place, act)?;
-                session.told(0, after, 1, NONE)?;
+                session.told(0, after, 1)?;
             }
             Ok(())
         })?;
@@ -33,16 +33,16 @@ pub fn run_in_the_tests(bench: &mut Bench) -> Outcome {
         let root = (111_111_110, 111_111_111);
         session.opened(p3())?;
         session.run(0, 255)?;
-        session.told(0, root, 0, DONE)?;
+        session.ended(root, 0, DONE, 111_111_110)?;
         session.run(1, 255)?;
-        session.told(0, root, 0, MET)
+        session.ended(root, 0, MET, 111_111_110)
     })?;
     bench.case("budget 255 accepted, 256 refused 15", |session, _| {
         session.opened(p4())?;
         run_told(session, (0, 256), 15, NONE)?;
-        session.told(15, (0, S), 0, NONE)?;
+        session.told(15, (0, S), 0)?;
         run_told(session, (0, 255), 0, MET)?;
-        session.told(0, (300_000_000, 300_000_000), 2, MET)
+        session.ended((300_000_000, 300_000_000), 2, MET, 300_000_000)
     })?;
     for (number, table) in limits() {
         bench.case("the limits of a table: 9 to 13", |session, _| {
@@ -100,10 +100,10 @@ fn sheet_of_the_rules(session: &mut Session) -> Outcome {
         let lists = whole_sheet(budget);
         session.make(Step::Sheet(encode(&lists)))?;
         session.make(Step::Write(lists, 72))?;
-        session.told(0, (0, S), 72, NONE)?;
+        session.told(0, (0, S), 72)?;
         let text = format!("cue low high steps verdict\n{line}\n9 0 0 0 met\n");
         session.make(Step::Report(text.len()))?;
-        session.told(0, (0, S), text.len() as u64, NONE)?;
+        session.told(0, (0, S), text.len() as u64)?;
         session.make(Step::Printed(text.into_bytes()))?;
         (0..4).try_for_each(|position| session.make(Step::Cue(position)))?;
     }

@@ -9,7 +9,7 @@ use crate::session::{Outcome, Session};
 use crate::step::Step;
 use reference::paper::{every_fault_named, largest_ring, stairs, H};
 use reference::sheet::{encode, Sheet};
-use reference::{Act, FULL, LONGEST_SHEET, MOST_CUES, MOST_WAYS, NONE, S};
+use reference::{Act, FULL, LONGEST_SHEET, MOST_CUES, MOST_WAYS, S};
 
 pub fn stack(bench: &mut Bench) -> Outcome {
     bench.case("the largest tables and a full tree", |session, _| trees(session))?;
@@ -52,7 +52,7 @@ fn longest(session: &mut Session) -> Outcome {
     };
     session.make(Step::Stack)?;
     session.make(Step::Write(lists.clone(), LONGEST_SHEET))?;
-    session.told(0, (0, S), LONGEST_SHEET as u64, NONE)?;
+    session.told(0, (0, S), LONGEST_SHEET as u64)?;
     session.make(Step::Sheet(encode(&lists)))?;
     session.make(Step::Check)?;
     told_number(session, 0)?;

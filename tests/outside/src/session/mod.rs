@@ -9,7 +9,7 @@ use crate::exact::Exact;
 use crate::stack::Stack;
 use crate::step::{parse, Field, Step};
 use crate::tally::{Call, Tally};
-use reference::{Act, Answer, Table, Tree};
+use reference::{Act, Answer, Table, Tree, NONE};
 use std::fmt::Debug;
 use std::fs::File;
 use std::io::Write;
@@ -107,9 +107,16 @@ impl Session {
         self.make(Step::Run(allowance, budget))
     }
 
-    pub fn told(&mut self, number: u64, interval: (u64, u64), count: u64, verdict: u64) -> Outcome {
+    /// What a call other than a run answered: it has neither verdict nor figure.
+    pub fn told(&mut self, number: u64, interval: (u64, u64), count: u64) -> Outcome {
         let (low, high) = interval;
-        self.make(Step::Told([number, low, high, count, verdict].map(Some)))
+        self.make(Step::Told([number, low, high, count, NONE, 0].map(Some)))
+    }
+
+    /// What an accepted run answered.
+    pub fn ended(&mut self, interval: (u64, u64), count: u64, verdict: u64, figure: u64) -> Outcome {
+        let (low, high) = interval;
+        self.make(Step::Told([0, low, high, count, verdict, figure].map(Some)))
     }
 
     pub fn make(&mut self, step: Step) -> Outcome {
@@ -180,11 +187,11 @@ impl Session {
         self.tally.answered(call, answer.number, answer.verdict);
     }
 
-    /// Figures typed from the rules; only all five together are a comparison.
-    fn claim_told(&mut self, figures: [Option<u64>; 5]) -> Outcome {
-        let Answer { number, low, high, count, verdict } = self.answer();
-        let got = [number, low, high, count, verdict];
-        let due = [0, 1, 2, 3, 4].map(|i| figures[i].unwrap_or(got[i]));
+    /// Figures typed from the rules; only all six together are a comparison.
+    fn claim_told(&mut self, figures: [Option<u64>; 6]) -> Outcome {
+        let Answer { number, low, high, count, verdict, figure } = self.answer();
+        let got = [number, low, high, count, verdict, figure];
+        let due = [0, 1, 2, 3, 4, 5].map(|i| figures[i].unwrap_or(got[i]));
         self.tally.compared += u64::from(figures.iter().all(Option::is_some));
         must("the figures", &due, &got)
     }

@@ -8,9 +8,10 @@ use crate::lent::LentTree;
 use crate::records::{self, Refinement, Seen};
 use crate::step::Field;
 use crate::tally::Call;
+use reference::leaf::Interval;
 use reference::run::run;
 use reference::tree::{open, refine_by_hand, Entry};
-use reference::{Act, Answer, Table, Tree};
+use reference::{Act, Answer, Table, Tree, MET};
 
 /// A tree on both sides.
 #[derive(Clone)]
@@ -92,7 +93,19 @@ impl Session {
             Call::Run,
             |tree, table| stack.make(Call::Run, || calls::run(tree, table, allowance, budget)),
             |tree, table| run(table, tree, allowance, budget),
-        )
+        )?;
+        self.near(allowance)
+    }
+
+    /// At met the exact chance of the table's ways is within the allowance of the library's figure.
+    fn near(&mut self, allowance: u64) -> Outcome {
+        let Answer { verdict, figure, .. } = self.answer();
+        let around = Interval { low: figure.saturating_sub(allowance), high: figure + allowance };
+        let exact = self.exact.as_mut().filter(|_| verdict == MET);
+        match exact.and_then(|exact| exact.encloses(around, &self.table.ways())) {
+            None => Ok(()),
+            Some(near) => self.same(&format!("{around:?} around the figure"), &true, &near),
+        }
     }
 
     /// A hand refinement or a run: refused, the tree stays byte for byte.

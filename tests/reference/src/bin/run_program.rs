@@ -3,6 +3,7 @@
 //! the same. The input that fails is left in the file FAILED.
 
 use reference::child::{written, Written};
+use reference::distances::{self, Case};
 use reference::files::stored;
 use reference::paper::{done_and_full, ring, whole_sheet};
 use reference::random::Random;
@@ -125,6 +126,11 @@ fn main() -> io::Result<()> {
         "redundant",
         &stored("samples/redundant.sheet"),
     )?;
+    for (name, sheet, text) in distances::cases().into_iter().map(Case::printed) {
+        let bytes = encode(&sheet);
+        assert_eq!(report(&bytes), text, "{name}");
+        program.check(name, &bytes)?;
+    }
     let mut longer = encode(&random.longest_sheet());
     longer.resize(60_000, 0);
     program.check("longest with zeros behind", &longer)?;

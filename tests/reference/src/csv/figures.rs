@@ -4,7 +4,7 @@
 use super::{joined, MISREAD};
 use crate::leaf::Interval;
 use crate::sheet::Sheet;
-use crate::{Answer, MOST_CUES, MOST_FAULTS, MOST_WAYS, NONE, S};
+use crate::{Answer, MOST_CUES, MOST_FAULTS, MOST_WAYS, S};
 
 /// A text, with ⏎ for CR LF where it is typed as a string.
 pub struct Figure {
@@ -24,7 +24,7 @@ pub struct Taken {
 impl Figure {
     pub fn answer(&self) -> Answer {
         match self.number {
-            0 => Answer::accepted(Interval { low: 0, high: S }, self.count, NONE),
+            0 => Answer::accepted(Interval { low: 0, high: S }, self.count),
             number => Answer {
                 count: self.count,
                 ..Answer::refused(number)

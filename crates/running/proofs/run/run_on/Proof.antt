@@ -8,6 +8,8 @@ use borrow.Author.Needs.{needs}
 use lib.ListN.{length, length-append}
 use Rattle.rules.specs.Table.{Table}
 use Rattle.rules.specs.Tree.{Refinement}
+use Rattle.rules.specs.Run.{aimOf}
+use Rattle.rules.specs.declared.Aim.{Aim}
 use Rattle.records.specs.Records.{history}
 use Rattle.records.specs.declared.Tree.{Tree}
 use Rattle.records.proofs.Positions.{length-places}
@@ -22,11 +24,11 @@ use Rattle.running.proofs.run.run_on.Statement.{statement}
 use Rattle.running.proofs.run.run_on.Tie as tie
 
 abbrev Inv-loop : tie.InvT-loop
-Inv-loop weights present absent tree₀ allowance budget made₀ tree made =
-    Going (record { weights = weights; present = present; absent = absent }) (history (treeOf tree₀)) allowance budget (treeOf tree) made
+Inv-loop weights present absent tree₀ aim budget made₀ tree made =
+    Going (record { weights = weights; present = present; absent = absent }) (history (treeOf tree₀)) aim budget (treeOf tree) made
 
 abbrev μ-loop : tie.MeasureT-loop
-μ-loop weights present absent tree₀ allowance budget made₀ tree made = budget - made
+μ-loop weights present absent tree₀ aim budget made₀ tree made = budget - made
 
 -- ---- where things are
 
@@ -60,7 +62,7 @@ decides c =
 
 -- The rules refine the leaf in record j, and the budget is not spent.
 goes-there : (c : tie.After-j Inv-loop μ-loop)
-    → Goes (table (call (turn-of (c .before .before)))) (call (turn-of (c .before .before)) .args .limits .allowance)
+    → Goes (table (call (turn-of (c .before .before)))) (aimOf (call (turn-of (c .before .before)) .args .limits))
     (now-tree (turn-of (c .before .before))) (c .j .given .0 .0)
     × (turn-of (c .before .before) .loop .made ≡ call (turn-of (c .before .before)) .args .limits .budget → ⊥)
 goes-there c = subst (outcome (turn-of (c .before .before))) (c .j .given .1) (decides (c .before .before))
@@ -68,12 +70,12 @@ goes-there c = subst (outcome (turn-of (c .before .before))) (c .j .given .1) (d
 loop-holds : tie.Need-loop-holds Inv-loop μ-loop
 loop-holds c =
     let s = c .before .before .before in
-    start (table s) _ _ (treeOf (s .args .tree .now)) (s .pre .1 .0) (s .pre .1 .1)
+    start (table s) _ _ (treeOf (s .args .tree .now)) (s .pre .1 .0) (s .pre .1 .1 .0)
 
 decide-requires : tie.Need-decide-requires Inv-loop μ-loop
 decide-requires c κs =
     let l = c .before in
-    (linked (table (call l)) (now-tree l) (l .loop .inv .good), l .loop .inv .safe)
+    (linked (table (call l)) (now-tree l) (l .loop .inv .good), (l .loop .inv .safe, call l .pre .1 .1 .1))
 
 enum-known-verdict : tie.Need-enum-known-verdict Inv-loop μ-loop
 enum-known-verdict c = search needs
@@ -100,7 +102,7 @@ refine-by-rule-requires c κs =
     )
 
 -- A run makes no more refinements than its tree has.
-few-made : (t : Table) (ns : List Refinement) (a b : ℕ) (x : Tree) (made : ℕ) → Going t ns a b x made → made ≤ 255
+few-made : (t : Table) (ns : List Refinement) (a : Aim) (b : ℕ) (x : Tree) (made : ℕ) → Going t ns a b x made → made ≤ 255
 few-made t ns a b x made w =
     omega (
       arith,
@@ -115,7 +117,7 @@ add-made : tie.Need-add-made Inv-loop μ-loop
 add-made c =
     let l = turn-of (c .before .before .before .before .before) in
     let s = call l in
-    omega (arith, few-made (table s) (given s) (s .args .limits .allowance) (s .args .limits .budget) (now-tree l) (l .loop .made) (l .loop .inv))
+    omega (arith, few-made (table s) (given s) (aimOf (s .args .limits)) (s .args .limits .budget) (now-tree l) (l .loop .made) (l .loop .inv))
 
 loop-less : tie.Need-loop-less Inv-loop μ-loop
 loop-less c =

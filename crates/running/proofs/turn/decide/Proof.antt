@@ -6,6 +6,7 @@ use Prim.Native.Nat.{ℕ}
 use borrow.Author.Needs.{needs}
 use borrow.Author.Tests.{eq-eqb, ne-eqb}
 use Rattle.rules.specs.Run.{narrow}
+use Rattle.rules.specs.declared.Aim.{Aim}
 use Rattle.rules.specs.declared.Verdict.the-variants.{Met, Done, Full, Spent}
 use Rattle.records.specs.Records.{treeRecords, recordIn}
 use Rattle.records.specs.declared.Node.{Node}
@@ -21,10 +22,10 @@ use Rattle.running.proofs.turn.decide.Tie as tie
 -- ---- one lemma for each way out
 
 -- The root of the tree is as narrow as is asked.
-abbrev root-narrow : ℕ → Tree → Bool
+abbrev root-narrow : Aim → Tree → Bool
 root-narrow a x = narrow a (recordIn (x .nodes) 0 .low) (recordIn (x .nodes) 0 .high)
 
-module _ (a : ℕ) (x : Tree) (m b : ℕ) where
+module _ (a : Aim) (x : Tree) (m b : ℕ) where
   met : root-narrow a x ≡ true → Stop Met ≡ decided a x m b
   unfolding decided
   met h = rw (h, decided)
@@ -52,8 +53,8 @@ module _ (a : ℕ) (x : Tree) (m b : ℕ) where
 abbrev tree-of : tie.After-narrow → Tree
 tree-of n = treeOf (n .before .before .args .tree .now)
 
-abbrev asked : tie.After-narrow → ℕ
-asked n = n .before .before .args .allowance
+abbrev asked : tie.After-narrow → Aim
+asked n = n .before .before .args .aim
 
 -- What was tested is the root's record.
 tested : (n : tie.After-narrow) {s : Bool} → n .narrow .result ≡ s → root-narrow (asked n) (tree-of n) ≡ s
@@ -71,7 +72,7 @@ returns c =
     met (asked n) (tree-of n) _ _ (tested n (c .if1 .taken))
 
 next-leaf-requires : tie.Need-next-leaf-requires
-next-leaf-requires c κs = c .before .before .before .pre
+next-leaf-requires c κs = let p = c .before .before .before .pre in (p .0, p .1 .0)
 
 enum-told : tie.Need-enum-told
 enum-told c = search needs

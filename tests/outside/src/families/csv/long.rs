@@ -8,7 +8,7 @@ use crate::step::Step;
 use reference::csv::figures::{longest, typed};
 use reference::csv::{joined, quoted, table, LONGEST_QUOTED, LONGEST_TEXT, MISREAD};
 use reference::sheet::encode;
-use reference::{LONGEST_SHEET, NONE, S};
+use reference::{LONGEST_SHEET, S};
 
 pub fn texts(bench: &mut Bench) -> Outcome {
     bench.case("the longest", |session, _| the_longest(session))?;
@@ -33,7 +33,7 @@ pub fn the_longest(session: &mut Session) -> Outcome {
     exported(session, sheet, LONGEST_TEXT - 1)?;
     told_number(session, 22)?;
     session.make(Step::Export(LONGEST_TEXT))?;
-    session.told(0, (0, S), LONGEST_TEXT as u64, NONE)?;
+    session.told(0, (0, S), LONGEST_TEXT as u64)?;
     session.make(Step::Printed(plain))
 }
 
@@ -91,7 +91,7 @@ fn repeated(session: &mut Session, Repeated { first, part, last, number, record 
     let times = LONG.div_ceil(part.len());
     session.make(Step::Long(typed(first), part, times, typed(last)))?;
     session.make(Step::Import(100))?;
-    session.told(number, (0, S), (record.0 + record.1 * times) as u64, NONE)
+    session.told(number, (0, S), (record.0 + record.1 * times) as u64)
 }
 
 /// One record with many faults, none of which a word has a bit for.

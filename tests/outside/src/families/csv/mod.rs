@@ -13,7 +13,7 @@ use reference::csv::figures::{figures, taken, typed, Figure, Taken};
 use reference::csv::{import, joined, table, MISREAD};
 use reference::random::Random;
 use reference::sheet::{decode, encode};
-use reference::{Answer, LONGEST_SHEET, NONE, S};
+use reference::{Answer, LONGEST_SHEET, S};
 
 pub fn csv(bench: &mut Bench) -> Outcome {
     for (name, figures) in figures() {
@@ -26,9 +26,9 @@ pub fn csv(bench: &mut Bench) -> Outcome {
     }
     bench.case("nothing at all", |session, _| {
         imported(session, vec![], 0)?;
-        session.told(MISREAD, (0, S), 1, NONE)?;
+        session.told(MISREAD, (0, S), 1)?;
         exported(session, vec![], 0)?;
-        session.told(1, (0, S), 0, NONE)
+        session.told(1, (0, S), 0)
     })?;
     stored::texts(bench)?;
     orders::orders(bench)?;
@@ -56,7 +56,7 @@ fn refused(session: &mut Session, text: Vec<u8>, number: u64, count: u64) -> Out
     session.make(Step::Text(text))?;
     for space in [0, 100] {
         session.make(Step::Import(space))?;
-        session.told(number, (0, S), count, NONE)?;
+        session.told(number, (0, S), count)?;
     }
     Ok(())
 }
@@ -66,8 +66,8 @@ fn spaces(session: &mut Session, step: fn(usize) -> Step, length: usize) -> Outc
     for space in [length + 1, length + 77, length - 1, 0, length] {
         session.make(step(space))?;
         match space < length {
-            true => session.told(22, (0, S), 0, NONE)?,
-            false => session.told(0, (0, S), length as u64, NONE)?,
+            true => session.told(22, (0, S), 0)?,
+            false => session.told(0, (0, S), length as u64)?,
         }
     }
     Ok(())
