@@ -2,6 +2,7 @@
 //! Rests on the definitions of specs/Numbers.antt, most of which go through `rules`, Answers.
 ghost use mathlib.Core.Path.{_≡_};
 ghost use mathlib.Core.Option.{some};
+ghost use Rattle.rules.specs.Rounding.{S};
 ghost use Rattle.rules.specs.Answers.{refused};
 ghost use Rattle.cuerisk.specs.Numbers.{verdictCode, kindAsked, flat, flatAnswer, flatRun, flatSpot};
 ghost use Rattle.cuerisk.specs.Numbers.{flatSheet, flatEntry, noTable, flatTable, flatWrite, flatImport};
@@ -47,18 +48,25 @@ fn verdict_code(v: Verdict) -> u64
     }
 }
 
+/// An answer without an interval: nought to the full billion, neither verdict nor figure.
+fn bare(number: u64, count: u64) -> CueAnswer
+    ensures { λ r. ⌜ r ≡ record { number = number; low = 0; high = S; count = count; verdict = 0; figure = 0 } ⌝ }
+{
+    CueAnswer {
+        number,
+        low: 0,
+        high: S,
+        count,
+        verdict: 0,
+        figure: 0,
+    }
+}
+
 /// A refused call.
 fn refused(n: u8) -> CueAnswer
     ensures { λ r. ⌜ r ≡ flat (refused n) ⌝ }
 {
-    CueAnswer {
-        number: n as u64,
-        low: 0,
-        high: S,
-        count: 0,
-        verdict: 0,
-        figure: 0,
-    }
+    bare(n as u64, 0)
 }
 
 /// An accepted call on a tree, with its verdict's code and its figure.
@@ -207,14 +215,7 @@ pub fn of_write(a: WriteAnswer) -> CueAnswer
     ensures { λ r. ⌜ r ≡ flatWrite a ⌝ }
 {
     match a {
-        WriteAnswer::Written(n) => CueAnswer {
-            number: 0,
-            low: 0,
-            high: S,
-            count: n,
-            verdict: 0,
-            figure: 0,
-        },
+        WriteAnswer::Written(n) => bare(0, n),
         WriteAnswer::Refused(n) => refused(n),
     }
 }
@@ -224,22 +225,8 @@ pub fn of_import(a: ImportAnswer) -> CueAnswer
     ensures { λ r. ⌜ r ≡ flatImport a ⌝ }
 {
     match a {
-        ImportAnswer::Written(bytes) => CueAnswer {
-            number: 0,
-            low: 0,
-            high: S,
-            count: bytes,
-            verdict: 0,
-            figure: 0,
-        },
-        ImportAnswer::Misread(k) => CueAnswer {
-            number: 23,
-            low: 0,
-            high: S,
-            count: k,
-            verdict: 0,
-            figure: 0,
-        },
+        ImportAnswer::Written(n) => bare(0, n),
+        ImportAnswer::Misread(k) => bare(23, k),
         ImportAnswer::Refused(n) => refused(n),
     }
 }

@@ -1,5 +1,5 @@
 -- `of_write` meets its contract, case by case.
--- Rests on the contract of `refused`.
+-- Rests on the contracts of `bare` and `refused`.
 use mathlib.Core.Path.{sym, ap, _∙_}
 use Rattle.cuerisk.specs.Numbers.{flatWrite}
 use borrow.Author.Needs.{needs}
@@ -9,6 +9,9 @@ use Rattle.cuerisk.proofs.numbers.of_write.Tie as tie
 enum-known-a : tie.Need-enum-known-a
 enum-known-a c = search needs
 
+bare-requires : tie.Need-bare-requires
+bare-requires c κs = search needs
+
 enum-known-a-2 : tie.Need-enum-known-a-2
 enum-known-a-2 c = search needs
 
@@ -16,10 +19,10 @@ refused-requires : tie.Need-refused-requires
 refused-requires c κs = search needs
 
 returns : tie.Need-returns
-returns c = sym (ap flatWrite (c .before .a .given .1))
+returns c = c .bare .ensures ∙ sym (ap flatWrite (c .before .before .a .given .1))
 
 returns-2 : tie.Need-returns-2
 returns-2 c = c .refused .ensures ∙ sym (ap flatWrite (c .before .before .a2 .given .1))
 
 pub of-write-spec : {M : Type 1} → statement M
-of-write-spec = tie.close (tie.spec enum-known-a enum-known-a-2 refused-requires returns returns-2)
+of-write-spec = tie.close (tie.spec enum-known-a bare-requires enum-known-a-2 refused-requires returns returns-2)
