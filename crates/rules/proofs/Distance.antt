@@ -52,11 +52,11 @@ unfolding figure
 near-met ws vs a lo hi e h =
     let ordered = enclosing-order ws vs lo hi e in
     let w = narrow-exactly a lo hi .0 h in
-    let far : lo + (hi - lo) / 2 ≤ lo + a .allowance = omega (arith, w) in
-    let near : hi ≤ lo + (hi - lo) / 2 + a .allowance = omega (arith, w, ordered) in
+    let from-low : figure lo hi ≤ lo + a .allowance = omega (arith, w, ordered) in
+    let from-high : hi ≤ figure lo hi + a .allowance = omega (arith, w, ordered) in
     record {
-      below = omega (arith, e .below, mul-le-mul-right (S ^ length ws) far);
-      above = omega (arith, e .above, mul-le-mul-right (S ^ length ws) near);
+      below = omega (arith, e .below, mul-le-mul-right (S ^ length ws) from-low);
+      above = omega (arith, e .above, mul-le-mul-right (S ^ length ws) from-high);
     }
 
 -- ---- what a run hands back

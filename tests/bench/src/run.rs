@@ -12,6 +12,7 @@ pub struct Answer {
     pub high: u64,
     pub count: u64,
     pub verdict: u64,
+    pub figure: u64,
 }
 
 pub const MET: u64 = 1;
@@ -26,6 +27,7 @@ pub fn refused(number: u64) -> Answer {
         high: S,
         count: 0,
         verdict: 0,
+        figure: 0,
     }
 }
 
@@ -68,6 +70,7 @@ pub fn open(tree: &mut Tree, table: &Table) -> Answer {
         high: tree.nodes[0].high,
         count: 0,
         verdict: 0,
+        figure: 0,
     }
 }
 
@@ -94,12 +97,16 @@ fn run_number(table: &Table, allowance: u64, budget: u64) -> u64 {
     0
 }
 
+/// The width of a node's interval; crossed ends have none.
+fn width(node: &Node) -> u64 {
+    node.high.saturating_sub(node.low)
+}
+
 /// The run itself, on a good tree where none of 9 to 15 applies.
 fn run_good(tree: &mut Tree, table: &Table, allowance: u64, budget: u64) -> Answer {
     let mut count = 0;
     let verdict = loop {
-        let root = &tree.nodes[0];
-        if root.high.saturating_sub(root.low) <= allowance {
+        if width(&tree.nodes[0]) <= 2 * allowance {
             break MET;
         }
         let Some(at) = tree.widest() else {
@@ -116,12 +123,14 @@ fn run_good(tree: &mut Tree, table: &Table, allowance: u64, budget: u64) -> Answ
         tree.grow(table, at, &ways, kind);
         count += 1;
     };
+    let root = &tree.nodes[0];
     Answer {
         number: 0,
-        low: tree.nodes[0].low,
-        high: tree.nodes[0].high,
+        low: root.low,
+        high: root.high,
         count,
         verdict,
+        figure: root.low + width(root) / 2,
     }
 }
 

@@ -4,7 +4,9 @@
 use reference::csv::{joined, table};
 use reference::files::{stored, stored_text};
 use reference::report::{enclosing_lines, report};
+use reference::run::run;
 use reference::sheet::{encode, Sheet};
+use reference::tree::open;
 use reference::Table;
 
 // The faults by number; in a way, !f names fault f absent.
@@ -103,6 +105,12 @@ fn the_page_tells_the_shows_figures() {
     let page = stored_text("samples/README.md");
     assert!(page.contains(&report(&encode(&show(0, 8)))));
     assert!(page.contains(&report(&encode(&show(1_000_000, 20)))));
+    // The middle of 75598492 and 77573737, rounded down.
+    let finale = Table::of(&show(1_000_000, 20).weights, FINALE);
+    let (_, mut tree) = open(&finale);
+    let figure = run(&finale, &mut tree, 1_000_000, 20).figure;
+    assert_eq!(figure, 76_586_114);
+    assert!(page.contains(&format!("about {figure} billionths")));
     for (fault, chance) in CHANCES.iter().enumerate() {
         let row = |line: &str| {
             line.starts_with(&format!("| {fault} |")) && line.ends_with(&format!("| {chance} |"))
