@@ -69,7 +69,7 @@ pub run-accepted : (t : Table) (m : Limits) → runNumber t false m ≡ 0 → Ac
 unfolding runNumber runRefusals tableNumber
 run-accepted t m z = front-free (tableRefusals t) _ z
 
--- And so is the allowance.
+-- And the allowance is at most S.
 pub run-allowance : (t : Table) (m : Limits) → runNumber t false m ≡ 0 → m .allowance ≤ S
 unfolding limitRefusals allowanceAbove
 run-allowance t m z =

@@ -191,7 +191,7 @@ pub record Share (t : Table) (cs cs′ : List Call) : Type 0 where
   pub places : inners (tree (noted t cs)) ≡ length (noted t cs)
   pub reported : inners (tree (noted t cs)) ≡ reports (outcomes t cs)
   pub reported′ : inners (tree (noted t cs)) ≡ reports (outcomes t cs′)
-  -- the outcome of every further run, refused ones included (RULES 5.13): number, verdict and count, then every place with its kind and its interval
+  -- the outcome of every further run, refused ones included (RULES 5.13): number, verdict, count and figure, then every place with its kind and its interval
   pub answers : (m : Limits) → outcome t (tree (noted t cs)) (byRun m) ≡ outcome t (tree (noted t cs′)) (byRun m)
   pub then-kinds : (m : Limits) (p : Place) → kindAt p (afterRun t (tree (noted t cs)) m) ≡ kindAt p (afterRun t (tree (noted t cs′)) m)
   pub then-intervals : (m : Limits) (p : Place) → intervalAt t p (afterRun t (tree (noted t cs)) m) ≡ intervalAt t p (afterRun t (tree (noted t cs′)) m)

@@ -1,6 +1,6 @@
 -- The allowance is a distance (RULES 5.7, 5.16): what narrow enough says, what the figure of a run is worth, and where a run stops.
 -- Rests on Runs.antt for the verdict and on Demand3.antt for the interval that a run hands back.
-use mathlib.Core.Path.{_≡_, refl, sym, ap, _∙_}
+use mathlib.Core.Path.{_≡_, refl, ap}
 use mathlib.Core.Bool.{Bool, true, false}
 use mathlib.Core.List.{List, [], _∷_}
 use mathlib.Core.Logic.{_↔_}
@@ -16,7 +16,7 @@ use Rattle.rules.specs.Table.{Way, Table, ways, Encloses, Near}
 use Rattle.rules.specs.Tree.{DTree, tree, low, high, roomy, Refinement, refine, series}
 use Rattle.rules.specs.Run.{next, aimOf, narrow, Turn, stop, go, turn, picks, verdict, ran, figure}
 use Rattle.rules.specs.Refusals.{Accepted}
-use Rattle.rules.specs.Answers.{Reply, runReply, runVerdict, runFigure}
+use Rattle.rules.specs.Answers.{runReply, runVerdict, runFigure}
 use Rattle.rules.specs.Calls.{runNumber, runAnswer, runAnswerBy, runMakes, figures, byRun, callNumber, outcome}
 use Rattle.rules.specs.declared.Limits.{Limits}
 use Rattle.rules.specs.declared.Aim.{Aim}
@@ -93,7 +93,7 @@ no-figure t m bad s f = by (runNumber t bad m) refl
 
 -- ---- where a run stops
 
--- THE SAME RUN BY ITS WIDTH: one that stops as soon as the root is at most w wide, and is otherwise a run as it is defined.
+-- A RUN BY ITS WIDTH: it stops as soon as the root is at most w wide; its leaves, its refinements and its other verdicts are those of Run.antt.
 module _ (t : Table) (w : ℕ) where
   abbrev pub turnTo : DTree → Turn
   turnTo s =
@@ -110,7 +110,7 @@ module _ (t : Table) (w : ℕ) where
   verdictTo zero s = elim (turnTo s) as (λ x. Verdict) [ stop v ↦ v | go n ↦ Spent ]
   verdictTo (suc b) s = elim (turnTo s) as (λ x. Verdict) [ stop v ↦ v | go n ↦ verdictTo b (refine n s) ]
 
--- A RUN WITH THE ALLOWANCE a makes and says what the run does that stops at the width 2 × a. Nothing else of a run looks at the allowance.
+-- A RUN WITH THE ALLOWANCE a makes and says what that run does for the width 2 × a: nothing else of a run looks at the allowance.
 module _ (t : Table) (a : Aim) where
   pub same-picks : (b : ℕ) (s : DTree) → picks t a b s ≡ picksTo t (2 * a .allowance) b s
   unfolding picks turn narrow

@@ -208,7 +208,7 @@ distances =
     -- C1, C2: an odd width is not halved away, and the figure is rounded down.
     (runAnswer p3 false leaf (limits 0 255), ended Done 111111110 111111111 0 111111110)
     ∷ (runAnswer p3 false leaf (limits 1 255), ended Met 111111110 111111111 0 111111110)
-    -- C3, C4: one billionth more than twice the allowance, and not.
+    -- C3, C4: a width one above twice the allowance, and one below.
     ∷ (runAnswer p8 false leaf (limits 55555555 255), ended Met 555555555 555555556 1 555555555)
     ∷ (runAnswer p8 false leaf (limits 55555556 255), ended Met 555555555 666666666 0 611111110)
     -- C5 to C7: the figure is that of the tree after the run.
