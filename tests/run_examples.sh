@@ -86,6 +86,7 @@ for cue in 1 2 3 5 8 12; do
 done
 headed "Cue 12: about 77469685 billionths, 77396690 to 77542680, after 8 refinements, spent" samples/show.sheet 12 8
 cmp "$built/page.svg" docs/finale.svg
+headed "Cue 12: about 76586114 billionths, 75598492 to 77573737, after 6 refinements, met" samples/near.sheet 12 20
 
 # Five faults of 0.5 in a row, each two neighbours a way: of the 32 combinations 19 have two neighbours. With an allowance of 0.1
 # fewer refinements are made.

@@ -63,6 +63,9 @@ const CUES: [(u16, &[&[i64]]); 6] = [
     (12, FINALE),
 ];
 
+/// The limits of samples/near.sheet: within a thousandth, above or below.
+const NEAR: (u64, u64) = (1_000_000, 20);
+
 /// The show's sheet with these limits.
 fn show(allowance: u64, budget: u64) -> Sheet {
     let weights = CHANCES.map(|chance| (chance * 1e9).round() as u32);
@@ -89,6 +92,7 @@ fn the_stored_sheet_is_the_show() {
     assert_eq!(stored("crates/show_sheet/stdout"), bytes);
     assert_eq!(stored("crates/cue_import/stdout"), bytes);
     assert_eq!(stored("crates/cue_export/stdin"), bytes);
+    assert_eq!(stored("samples/near.sheet"), encode(&show(NEAR.0, NEAR.1)));
 }
 
 #[test]
@@ -99,16 +103,17 @@ fn the_stored_text_is_the_shows() {
     assert_eq!(stored("crates/cue_export/stdout"), text);
 }
 
-/// Both texts, of the stored sheet and of the change that the page proposes, and every chance.
+/// Both texts, of the two stored sheets, the finale's figure, and every chance.
 #[test]
 fn the_page_tells_the_shows_figures() {
     let page = stored_text("samples/README.md");
     assert!(page.contains(&report(&encode(&show(0, 8)))));
-    assert!(page.contains(&report(&encode(&show(1_000_000, 20)))));
+    let near = show(NEAR.0, NEAR.1);
+    assert!(page.contains(&report(&encode(&near))));
     // The middle of 75598492 and 77573737, rounded down.
-    let finale = Table::of(&show(1_000_000, 20).weights, FINALE);
+    let finale = Table::of(&near.weights, FINALE);
     let (_, mut tree) = open(&finale);
-    let figure = run(&finale, &mut tree, 1_000_000, 20).figure;
+    let figure = run(&finale, &mut tree, NEAR.0, NEAR.1).figure;
     assert_eq!(figure, 76_586_114);
     assert!(page.contains(&format!("about {figure} billionths")));
     for (fault, chance) in CHANCES.iter().enumerate() {
@@ -121,6 +126,8 @@ fn the_page_tells_the_shows_figures() {
 
 #[test]
 fn every_interval_encloses_the_count_over_all_assignments() {
-    let bytes = encode(&show(0, 8));
-    assert_eq!(enclosing_lines(&bytes, &report(&bytes)), Ok(CUES.len()));
+    for sheet in [show(0, 8), show(NEAR.0, NEAR.1)] {
+        let bytes = encode(&sheet);
+        assert_eq!(enclosing_lines(&bytes, &report(&bytes)), Ok(CUES.len()));
+    }
 }

@@ -121,6 +121,7 @@ fn main() -> io::Result<()> {
     cut(&mut program, "paper", &paper)?;
     damage(&mut program, "paper", &paper)?;
     cut(&mut program, "show", &stored("samples/show.sheet"))?;
+    program.check("near", &stored("samples/near.sheet"))?;
     cut(
         &mut program,
         "redundant",
