@@ -5,12 +5,12 @@ use mathlib.Core.Bool.{Bool, true, false}
 use mathlib.Core.List.{List, [], _∷_}
 use mathlib.Core.Logic.{_↔_}
 use mathlib.Core.Option.{none, some, Option·some-injective}
-use Prim.Native.Nat.{ℕ, zero, suc, _+_, _-_, _*_, _/_, _^_, _≤_}
+use Prim.Native.Nat.{ℕ, zero, suc, _+_, _-_, _*_, _/_, _^_, _≤_, _<_}
 use native.Mathlib.Nat.{mul-le-mul-right}
 use native.Mathlib.Omega.{arith}
 use lib.ListN.{length}
 use lib.Dec.{leb}
-use borrow.Author.Tests.{leb-true, le-leb}
+use borrow.Author.Tests.{leb-true, leb-false, le-leb, lt-leb}
 use Rattle.rules.specs.Rounding.{S}
 use Rattle.rules.specs.Table.{Way, Table, ways, Encloses, Near}
 use Rattle.rules.specs.Tree.{DTree, tree, low, high, roomy, Refinement, refine, series}
@@ -33,6 +33,11 @@ use Rattle.rules.proofs.Demand3.{HandsBack, hands-back}
 pub narrow-exactly : (a : Aim) (lo hi : ℕ) → (narrow a lo hi ≡ true) ↔ (hi - lo ≤ 2 * a .allowance)
 unfolding narrow
 narrow-exactly a lo hi = (leb-true (hi - lo) (2 * a .allowance), le-leb (hi - lo) (2 * a .allowance))
+
+-- TOO WIDE is a width above that.
+pub wide-exactly : (a : Aim) (lo hi : ℕ) → (narrow a lo hi ≡ false) ↔ (2 * a .allowance < hi - lo)
+unfolding narrow
+wide-exactly a lo hi = (leb-false (hi - lo) (2 * a .allowance), lt-leb (hi - lo) (2 * a .allowance))
 
 -- MET is said exactly if the interval then at the root is that narrow.
 pub met-exactly : (t : Table) (a : Aim) (b : ℕ) (s : DTree) → (verdict t a b s ≡ Met) ↔ (high t (ran t a b s) - low t (ran t a b s) ≤ 2 * a .allowance)

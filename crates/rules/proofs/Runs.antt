@@ -70,7 +70,7 @@ next-acceptable t ok s n room e = by (widest (t .weights) (rootWays t) s) (wides
 
 -- ---- a turn, read backwards
 
--- The interval at the root is as narrow as is aimed at.
+-- The interval at the root is as narrow as is aimed at. Which width that is, Distance.antt says: `narrow-exactly`, `wide-exactly`.
 abbrev pub NarrowEnough : Table → Aim → DTree → Type 0
 NarrowEnough t a s = narrow a (low t s) (high t s) ≡ true
 
