@@ -41,6 +41,7 @@ fn by_hand(place: &[u8], act: Act, answer: [u64; 6]) -> (Call, [u64; 6]) {
 fn roots_and_widths() -> Vec<Figures> {
     let q3 = 750_000_000;
     let half = 500_000_000;
+    // Of an interval that is at most 1 wide the figure is its low end.
     let end = |low, high, count, verdict| run(0, 255, [0, low, high, count, verdict, low]);
     let own = run(0, 1, [0, q3, 875_000_000, 1, SPENT, 812_500_000]);
     let own_high_end = 612_759_200;

@@ -50,7 +50,7 @@ fn half_after(session: &mut Session, table: &Table, budget: u64) -> Result<u64, 
     Ok((high - low) / 2)
 }
 
-/// Runs from an opening with an allowance at that half, one less and one more, each with what is left of 10 refinements more.
+/// Runs from an opening with an allowance at that half, one less and one more, each followed by a run of budget 10.
 fn about_half(session: &mut Session, table: &Table, budget: u64) -> Outcome {
     let half = half_after(session, table, budget)?;
     for allowance in [half.saturating_sub(1), half, half + 1] {
