@@ -61,6 +61,16 @@
  * order, and a last record without its CR LF. Numbers are decimal, of at most 10 digits, without plus or leading
  * zeros; a cue begins where the number changes. Exported and imported again a sheet is the same, byte for byte.
  *
+ * LOGS
+ * A log has the sequence byte of each streaming ACN packet (ANSI E1.31) that a node heard, in the order in which they
+ * came. Its first packet is accepted and not judged. For every further one the last accepted number is subtracted from
+ * the new one on eight bits and the result read as signed; if that is at most 0 and above -20 the packet is discarded,
+ * else the new number becomes the last. So twenty numbers are discarded, the last accepted one and the 19 before it on
+ * the circle of 256. The fraction of a log is the packets discarded of those judged; that of several logs, or of
+ * several fractions, has the sums of both numbers and is not reduced. A log begins anew: no number is carried over from
+ * the log before it. The weight of a fraction is discarded * CUE_BILLION / judged, rounded up; it is a fault's weight
+ * in a table or a sheet.
+ *
  * DUTIES OF THE CALLER
  *  - a pointer with a count points to that many elements of its type, aligned; where the count is 0 nothing is read or
  *    written through it, and it may be NULL;
@@ -78,7 +88,7 @@
  * is refused,
  *  - a CueAnswer has the number, low 0, high CUE_BILLION, count, verdict and figure 0; only with 23 the count is a
  *    record;
- *  - a CueSheet, CueEntry or CueTable has the number and zeros: it has no interval;
+ *  - a CueSheet, CueEntry, CueTable, CueFraction, CueWeight or CueOrder has the number and zeros: it has no interval;
  *  - tree and space are as they were. Only a refused cue_open writes its tree: it has no nodes then, used 0 and every
  *    record blank, and 16 refuses it later.
  */
@@ -88,7 +98,7 @@
 #include <stddef.h>
 #include <stdint.h>
 
-#define CUE_VERSION 3u          /* of this header */
+#define CUE_VERSION 4u          /* of this header */
 #define CUE_BILLION 1000000000u /* chance 1 */
 #define CUE_FAULTS 64           /* the most faults */
 #define CUE_WAYS 128            /* the most ways of a table */
@@ -96,6 +106,7 @@
 #define CUE_TEXT 939            /* no report is longer */
 #define CUE_SHEET 49612         /* the longest sheet */
 #define CUE_CSV 781021          /* the longest text that cue_csv_export writes */
+#define CUE_JUDGED 4000000000u  /* the most packets judged in a fraction */
 #define CUE_STACK 262144        /* bytes of stack to leave for a call */
 
 /* CueAnswer.verdict: why a run stopped. Every other call has none. */
@@ -106,6 +117,9 @@ enum { CUE_INDEPENDENCE = 0, CUE_FAULT = 1 };
 
 /* CueNode.kind */
 enum { CUE_BLANK = 0, CUE_LEAF = 1, CUE_INDEPENDENT_OR = 2, CUE_SHANNON = 3 };
+
+/* CueOrder.order: the first fraction beside the second. */
+enum { CUE_LESS = 1, CUE_EQUAL = 2, CUE_GREATER = 3 };
 
 /* The answer of a call on a tree, and of a call that fills a space: writer, report, import and export. */
 typedef struct CueAnswer {
@@ -175,6 +189,25 @@ typedef struct CueTable {
     uint64_t absent[CUE_WAYS];
 } CueTable;
 
+/* A fraction: discarded of judged. */
+typedef struct CueFraction {
+    uint64_t number;    /* 0, or 25 */
+    uint64_t discarded; /* at most judged */
+    uint64_t judged;    /* 0 to CUE_JUDGED */
+} CueFraction;
+
+/* The weight of a fraction. */
+typedef struct CueWeight {
+    uint64_t number; /* 0, 24 or 25 */
+    uint64_t weight; /* 0 to CUE_BILLION */
+} CueWeight;
+
+/* The comparison of two fractions. */
+typedef struct CueOrder {
+    uint64_t number; /* 0, 24 or 25 */
+    uint64_t order;  /* CUE_LESS, CUE_EQUAL or CUE_GREATER; 0 if refused */
+} CueOrder;
+
 /* Words for a refusal's number. */
 static inline const char *cue_refusal(uint64_t number)
 {
@@ -203,6 +236,8 @@ static inline const char *cue_refusal(uint64_t number)
         /* 21 */ "the writer's lists do not agree in length with each other or with the ways its cues count",
         /* 22 */ "the space lent for writing is shorter than the output",
         /* 23 */ "a record of the text is missing, is of no shape there, or names a fault twice in the same sense",
+        /* 24 */ "no packet was judged",
+        /* 25 */ "more than 4000000000 packets were judged, or more were discarded than judged",
     };
     return number < sizeof words / sizeof words[0] ? words[number] : "unknown number";
 }
@@ -297,6 +332,30 @@ CueAnswer cue_csv_import(const uint8_t *text, size_t n_text,
 CueAnswer cue_csv_export(const uint8_t *sheet, size_t n_sheet,
                          uint8_t *space, size_t n_space);
 
+/* ---- logs */
+
+/* The fraction of one log, of any length. A log of no packet or of one has 0 of 0. Refusal 25, for a log of more than
+   4000000001 bytes. */
+CueFraction cue_log(const uint8_t *log, size_t n_log);
+
+/* The fraction of several logs, whose bytes stand one behind the other: the next lengths[i] bytes are log i. A log of
+   which bytes are lacking has those that are there; bytes behind the last log are no log. No log at all has 0 of 0.
+   Refusal 25, for any log and for the sums. In whatever order the logs are given, the answer is the same. */
+CueFraction cue_logs(const uint8_t *bytes, size_t n_bytes,
+                     const uint64_t *lengths, size_t n_lengths);
+
+/* The sum of fractions, discarded[i] of judged[i]. There are as many as the longer list has, and a number that the
+   shorter one lacks is 0. No fraction at all has 0 of 0. Refusal 25, for any fraction and for the sums. */
+CueFraction cue_fractions(const uint64_t *discarded, size_t n_discarded,
+                          const uint64_t *judged, size_t n_judged);
+
+/* The weight of a fraction: the smallest whole number of billionths that is not below it. Refusals 24, 25. */
+CueWeight cue_fraction_weight(uint64_t discarded, uint64_t judged);
+
+/* Compares a fraction with another, exactly. Refusals 24, for either of them, then 25, for either. */
+CueOrder cue_fraction_compare(uint64_t discarded, uint64_t judged,
+                              uint64_t other_discarded, uint64_t other_judged);
+
 #ifdef __cplusplus
 }
 #endif
@@ -318,6 +377,9 @@ CUE_ASSERT(sizeof(CueSpot) == 16);
 CUE_ASSERT(sizeof(CueSheet) == 40);
 CUE_ASSERT(sizeof(CueEntry) == 40);
 CUE_ASSERT(sizeof(CueTable) == 2336);
+CUE_ASSERT(sizeof(CueFraction) == 24);
+CUE_ASSERT(sizeof(CueWeight) == 16);
+CUE_ASSERT(sizeof(CueOrder) == 16);
 #undef CUE_ASSERT
 #endif
 

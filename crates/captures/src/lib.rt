@@ -1,8 +1,8 @@
 //! Weights from captures: the types that its definitions and its code share (docs/RULES.md, 14).
 //! logs.rt counts what a node heard, fractions.rt adds fractions, compares them and makes weights of them.
 //! Rests on the definitions of specs/, and of `rules` on the billion and on the form of refusals alone.
-mod fractions;
-mod logs;
+pub mod fractions;
+pub mod logs;
 
 /// The most packets judged in a fraction: any two numbers up to it have a product below 2^64.
 pub const LIMIT: u64 = 4000000000;

@@ -34,7 +34,7 @@ fn is_discarded(last: u8, new: u8) -> bool
 }
 
 /// A count is above the limit.
-fn is_full(log: Log) -> bool
+pub fn is_full(log: Log) -> bool
     ensures { λ r. ⌜ r ≡ isFull log ⌝ }
 {
     if LIMIT < log.judged {

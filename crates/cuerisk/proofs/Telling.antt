@@ -1,5 +1,5 @@
 -- What a call says of its answer, and the numbers of that answer, are the promise told in numbers.
--- Rests on specs/Told.antt; a promise of `dtree` says itself which answer it is about.
+-- Rests on specs/Told.antt; a promise of `dtree`, `csv` or `captures` says itself which answer it is about.
 use mathlib.Core.Path.{_≡_, refl, ap, subst, _∙_}
 use mathlib.Core.List.{List}
 use Prim.Native.Nat.{ℕ, zero, suc}
@@ -20,12 +20,21 @@ use Rattle.dtree.specs.Promises.{Opening, Refining, Running}
 use Rattle.writer.specs.Promises.{Writing}
 use Rattle.csv.specs.declared.ImportAnswer.{ImportAnswer}
 use Rattle.csv.specs.Promises.{Importing, Exporting}
+use Rattle.captures.specs.declared.Fraction.{Fraction}
+use Rattle.captures.specs.declared.FractionAnswer.{FractionAnswer}
+use Rattle.captures.specs.declared.WeightAnswer.{WeightAnswer}
+use Rattle.captures.specs.declared.OrderAnswer.{OrderAnswer}
+use Rattle.captures.specs.Promises.{LogCounted, LogsCounted, Added, Weighed, Compared}
 use Rattle.cuerisk.specs.Numbers.{flat, flatAnswer, flatRun, flatWrite, flatImport, flatSheet, flatEntry}
 use Rattle.cuerisk.specs.Told.{refineAnswer, runOnAnswer, OpeningTold, RefiningTold, RunningTold, ReadingTold, EntryTold, WritingTold}
-use Rattle.cuerisk.specs.Told.{ImportingTold, ExportingTold}
+use Rattle.cuerisk.specs.Numbers.{flatFraction, flatWeight, flatOrder}
+use Rattle.cuerisk.specs.Told.{ImportingTold, ExportingTold, LogTold, LogsTold, AddingTold, WeighingTold, ComparingTold}
 use Rattle.cuerisk.specs.declared.CueAnswer.{CueAnswer}
 use Rattle.cuerisk.specs.declared.CueSheet.{CueSheet}
 use Rattle.cuerisk.specs.declared.CueEntry.{CueEntry}
+use Rattle.cuerisk.specs.declared.CueFraction.{CueFraction}
+use Rattle.cuerisk.specs.declared.CueWeight.{CueWeight}
+use Rattle.cuerisk.specs.declared.CueOrder.{CueOrder}
 
 -- The answer that an outcome is of.
 abbrev answerIn : Outcome → Answer → Answer
@@ -109,3 +118,23 @@ pub exporting-told : (bs before : List ℕ) {after : List ℕ} {a : WriteAnswer}
     → Exporting bs before after a → r ≡ flatWrite a → ExportingTold bs before after r
 exporting-told bs before {after} p e =
     record { numbers = e ∙ ap flatWrite (p .answer); promise = subst (Exporting bs before after) (p .answer) p }
+
+-- Counting one log told in numbers.
+pub log-told : (bs : List ℕ) {a : FractionAnswer} {r : CueFraction} → LogCounted bs a → r ≡ flatFraction a → LogTold bs r
+log-told bs p e = record { numbers = e ∙ ap flatFraction (p .answer); promise = subst (LogCounted bs) (p .answer) p }
+
+-- Counting several.
+pub logs-told : (ls : List (List ℕ)) {a : FractionAnswer} {r : CueFraction} → LogsCounted ls a → r ≡ flatFraction a → LogsTold ls r
+logs-told ls p e = record { numbers = e ∙ ap flatFraction (p .answer); promise = subst (LogsCounted ls) (p .answer) p }
+
+-- Adding fractions.
+pub adding-told : (xs : List Fraction) {a : FractionAnswer} {r : CueFraction} → Added xs a → r ≡ flatFraction a → AddingTold xs r
+adding-told xs p e = record { numbers = e ∙ ap flatFraction (p .answer); promise = subst (Added xs) (p .answer) p }
+
+-- Making a weight.
+pub weighing-told : (x : Fraction) {a : WeightAnswer} {r : CueWeight} → Weighed x a → r ≡ flatWeight a → WeighingTold x r
+weighing-told x p e = record { numbers = e ∙ ap flatWeight (p .answer); promise = subst (Weighed x) (p .answer) p }
+
+-- Comparing.
+pub comparing-told : (x y : Fraction) {a : OrderAnswer} {r : CueOrder} → Compared x y a → r ≡ flatOrder a → ComparingTold x y r
+comparing-told x y p e = record { numbers = e ∙ ap flatOrder (p .answer); promise = subst (Compared x y) (p .answer) p }

@@ -20,16 +20,23 @@ use Rattle.rules.specs.declared.WriteAnswer.{WriteAnswer}
 use Rattle.page.specs.declared.Spot.{Spot}
 use Rattle.csv.specs.declared.ImportAnswer.{ImportAnswer}
 use Rattle.csv.specs.Calls.{importReply}
+use Rattle.captures.specs.declared.FractionAnswer.{FractionAnswer}
+use Rattle.captures.specs.declared.WeightAnswer.{WeightAnswer}
+use Rattle.captures.specs.declared.OrderAnswer.{OrderAnswer}
+use Rattle.captures.specs.Fractions.{fractionNumber, fractionTold, weightRefused, weightTold, orderRefused, orderTold}
 use Rattle.sheet.specs.Handed.{sized}
 use Rattle.cuerisk.specs.declared.CueAnswer.{CueAnswer}
 use Rattle.cuerisk.specs.declared.CueSpot.{CueSpot}
 use Rattle.cuerisk.specs.declared.CueSheet.{CueSheet}
 use Rattle.cuerisk.specs.declared.CueEntry.{CueEntry}
 use Rattle.cuerisk.specs.declared.CueTable.{CueTable}
+use Rattle.cuerisk.specs.declared.CueFraction.{CueFraction}
+use Rattle.cuerisk.specs.declared.CueWeight.{CueWeight}
+use Rattle.cuerisk.specs.declared.CueOrder.{CueOrder}
 
 -- The version: another one for every change of a struct or of a call, and for every new one. CUE_VERSION in include/cue_risk.h.
 abbrev pub version : ℕ
-version = 3
+version = 4
 
 -- The refinement asked for (docs/RULES.md, 5.4): 0 is independence, 1 the fault named. Any other number asks for fault 64, which no accepted table has.
 unfoldable pub kindAsked : ℕ → ℕ → Kind
@@ -106,6 +113,20 @@ flatEntry a =
       ways = handedOver a .ways;
       start = handedOver a .start;
     }
+
+-- ---- logs and fractions (docs/RULES.md, 14)
+
+-- The answer of a log, of several, and of a sum of fractions; refused, 0 of 0.
+abbrev pub flatFraction : FractionAnswer → CueFraction
+flatFraction a = record { number = fractionNumber a; discarded = fractionTold a .discarded; judged = fractionTold a .judged }
+
+-- The answer of making a weight; refused, 0.
+abbrev pub flatWeight : WeightAnswer → CueWeight
+flatWeight a = record { number = weightRefused a; weight = weightTold a }
+
+-- The answer of a comparison; refused, 0.
+abbrev pub flatOrder : OrderAnswer → CueOrder
+flatOrder a = record { number = orderRefused a; order = orderTold a }
 
 -- ---- a cue's table (docs/RULES.md, 7.13)
 

@@ -1,5 +1,5 @@
 -- What each call promises whose answer is told in numbers: the promise of the call that it stands for, whole, and the numbers of that very
--- answer. Rests on Numbers.antt and Into.antt, on `dtree` and `csv`, Promises, on `page`, Widest, and on `rules`, Sheet.
+-- answer. Rests on Numbers.antt and Into.antt, on `dtree`, `csv` and `captures`, Promises, on `page`, Widest, and on `rules`, Sheet.
 use mathlib.Core.Path.{_≡_}
 use mathlib.Core.List.{List}
 use Prim.Native.Nat.{ℕ, _<_}
@@ -22,13 +22,20 @@ use Rattle.dtree.specs.Promises.{Opening, Refining, Running}
 use Rattle.page.specs.Widest.{widestOf, WidestLaw}
 use Rattle.csv.specs.Calls.{importAnswer, exportAnswer}
 use Rattle.csv.specs.Promises.{Importing, Exporting}
+use Rattle.captures.specs.declared.Fraction.{Fraction}
+use Rattle.captures.specs.Fractions.{logAnswer, logsAnswer, totalAnswer, weightAnswer, compareAnswer}
+use Rattle.captures.specs.Promises.{LogCounted, LogsCounted, Added, Weighed, Compared}
 use Rattle.cuerisk.specs.Numbers.{flat, flatAnswer, flatRun, flatWrite, flatImport, flatSpot, flatSheet, flatEntry, flatTableAt}
+use Rattle.cuerisk.specs.Numbers.{flatFraction, flatWeight, flatOrder}
 use Rattle.cuerisk.specs.Into.{reportNumber, reportAnswer, reported}
 use Rattle.cuerisk.specs.declared.CueAnswer.{CueAnswer}
 use Rattle.cuerisk.specs.declared.CueSpot.{CueSpot}
 use Rattle.cuerisk.specs.declared.CueSheet.{CueSheet}
 use Rattle.cuerisk.specs.declared.CueEntry.{CueEntry}
 use Rattle.cuerisk.specs.declared.CueTable.{CueTable}
+use Rattle.cuerisk.specs.declared.CueFraction.{CueFraction}
+use Rattle.cuerisk.specs.declared.CueWeight.{CueWeight}
+use Rattle.cuerisk.specs.declared.CueOrder.{CueOrder}
 
 -- The answer of a hand refinement on any tree, 16 judged by the records.
 abbrev pub refineAnswer : Table → Tree → List ℕ → Kind → Answer
@@ -102,3 +109,28 @@ pub record ImportingTold (t before after : List ℕ) (r : CueAnswer) : Type 0 wh
 pub record ExportingTold (bs before after : List ℕ) (r : CueAnswer) : Type 0 where
   pub numbers : r ≡ flatWrite (exportAnswer bs (length before))
   pub promise : Exporting bs before after (exportAnswer bs (length before))
+
+-- COUNTING one log.
+pub record LogTold (bs : List ℕ) (r : CueFraction) : Type 0 where
+  pub numbers : r ≡ flatFraction (logAnswer bs)
+  pub promise : LogCounted bs (logAnswer bs)
+
+-- COUNTING several logs.
+pub record LogsTold (ls : List (List ℕ)) (r : CueFraction) : Type 0 where
+  pub numbers : r ≡ flatFraction (logsAnswer ls)
+  pub promise : LogsCounted ls (logsAnswer ls)
+
+-- ADDING fractions.
+pub record AddingTold (xs : List Fraction) (r : CueFraction) : Type 0 where
+  pub numbers : r ≡ flatFraction (totalAnswer xs)
+  pub promise : Added xs (totalAnswer xs)
+
+-- MAKING A WEIGHT of a fraction.
+pub record WeighingTold (x : Fraction) (r : CueWeight) : Type 0 where
+  pub numbers : r ≡ flatWeight (weightAnswer x)
+  pub promise : Weighed x (weightAnswer x)
+
+-- COMPARING a fraction with another.
+pub record ComparingTold (x y : Fraction) (r : CueOrder) : Type 0 where
+  pub numbers : r ≡ flatOrder (compareAnswer x y)
+  pub promise : Compared x y (compareAnswer x y)

@@ -1,5 +1,5 @@
 //! The C interface (include/cue_risk.h): trees, slices and spaces are lent and written where they are, answers are handed back as plain numbers.
-//! Each export is one call of `dtree`, `page`, `sheet`, `writer`, `report`, `csv_import` or `csv_export`, and carries its promise whole
+//! Each export is one call of `dtree`, `page`, `sheet`, `writer`, `report`, `csv_import`, `csv_export` or `captures`, and carries its promise whole
 //! (specs/Told.antt); specs/Numbers.antt says which numbers stand for which answer. No enum crosses this border, and a number that a rule
 //! judges crosses it whole, in 64 bits.
 mod numbers;
@@ -11,16 +11,22 @@ ghost use Rattle.store.specs.Lent.{treeOf};
 ghost use Rattle.writer.specs.Given.{given};
 ghost use Rattle.cuerisk.specs.Numbers.{version, kindAsked};
 ghost use Rattle.cuerisk.specs.Told.{OpeningTold, RefiningTold, RunningTold, SearchTold, ReadingTold, EntryTold, TableTold, WritingTold, ReportingTold};
-ghost use Rattle.cuerisk.specs.Told.{ImportingTold, ExportingTold};
+ghost use Rattle.captures.specs.Logs.{logsIn};
+ghost use Rattle.captures.specs.Fractions.{fraction, fractionsIn};
+ghost use Rattle.cuerisk.specs.Told.{ImportingTold, ExportingTold, LogTold, LogsTold, AddingTold, WeighingTold, ComparingTold};
+use captures::Fraction;
 use numbers::kind_asked;
 use numbers::no_table;
 use numbers::of_answer;
 use numbers::of_entry;
+use numbers::of_fraction;
 use numbers::of_import;
+use numbers::of_order;
 use numbers::of_read;
 use numbers::of_run;
 use numbers::of_spot;
 use numbers::of_table;
+use numbers::of_weight;
 use numbers::of_write;
 use records::Node;
 use reports::put_text;
@@ -80,12 +86,34 @@ pub struct CueTable {
     pub absent: [u64; 128],
 }
 
+/// The answer of counting one log or several, and of adding fractions: the fraction, or the number that refuses it and 0 of 0.
+#[repr(C)]
+pub struct CueFraction {
+    pub number: u64,
+    pub discarded: u64,
+    pub judged: u64,
+}
+
+/// The answer of making a weight of a fraction: the weight, or the number that refuses it and 0.
+#[repr(C)]
+pub struct CueWeight {
+    pub number: u64,
+    pub weight: u64,
+}
+
+/// The answer of comparing a fraction with another: 1 less, 2 equal, 3 greater, or the number that refuses it and 0.
+#[repr(C)]
+pub struct CueOrder {
+    pub number: u64,
+    pub order: u64,
+}
+
 /// The version of these structs and calls, to be compared with that of the header.
 #[no_mangle]
 pub extern "C" fn cue_version() -> u64
     ensures promise { λ r. ⌜ r ≡ version ⌝ }
 {
-    3
+    4
 }
 
 /// Opens a table. What the tree held before does not matter; refused, it is left without nodes.
@@ -214,4 +242,53 @@ pub extern "C" fn cue_csv_export(sheet: &[u8], space: &mut [u8]) -> CueAnswer
     ensures promise { λ r. ⌜ ExportingTold (now (sheet .entry)) (now (space .entry)) (now (space .exit)) r ⌝ }
 {
     of_write(csv_export::export(sheet, space))
+}
+
+/// Counts one log, of any length.
+#[no_mangle]
+pub extern "C" fn cue_log(log: &[u8]) -> CueFraction
+    ensures promise { λ r. ⌜ LogTold (now (log .entry)) r ⌝ }
+{
+    of_fraction(captures::logs::log(log))
+}
+
+/// Counts several logs, whose bytes stand one behind the other.
+#[no_mangle]
+pub extern "C" fn cue_logs(bytes: &[u8], lengths: &[u64]) -> CueFraction
+    ensures promise { λ r. ⌜ LogsTold (logsIn (now (lengths .entry)) (now (bytes .entry))) r ⌝ }
+{
+    of_fraction(captures::logs::logs(bytes, lengths))
+}
+
+/// Adds the fractions that two lists give.
+#[no_mangle]
+pub extern "C" fn cue_fractions(discarded: &[u64], judged: &[u64]) -> CueFraction
+    ensures promise { λ r. ⌜ AddingTold (fractionsIn (now (discarded .entry)) (now (judged .entry))) r ⌝ }
+{
+    of_fraction(captures::fractions::total(discarded, judged))
+}
+
+/// The weight of a fraction.
+#[no_mangle]
+pub extern "C" fn cue_fraction_weight(discarded: u64, judged: u64) -> CueWeight
+    ensures promise { λ r. ⌜ WeighingTold (fraction discarded judged) r ⌝ }
+{
+    of_weight(captures::fractions::weight(Fraction { discarded, judged }))
+}
+
+/// Compares a fraction with another.
+#[no_mangle]
+pub extern "C" fn cue_fraction_compare(
+    discarded: u64,
+    judged: u64,
+    other_discarded: u64,
+    other_judged: u64,
+) -> CueOrder
+    ensures promise { λ r. ⌜ ComparingTold (fraction discarded judged) (fraction «other_discarded» «other_judged») r ⌝ }
+{
+    let other = Fraction {
+        discarded: other_discarded,
+        judged: other_judged,
+    };
+    of_order(captures::fractions::compare(Fraction { discarded, judged }, other))
 }

@@ -6,11 +6,18 @@ ghost use Rattle.rules.specs.Rounding.{S};
 ghost use Rattle.rules.specs.Answers.{refused};
 ghost use Rattle.cuerisk.specs.Numbers.{verdictCode, kindAsked, flat, flatAnswer, flatRun, flatSpot};
 ghost use Rattle.cuerisk.specs.Numbers.{flatSheet, flatEntry, noTable, flatTable, flatWrite, flatImport};
+ghost use Rattle.cuerisk.specs.Numbers.{flatFraction, flatWeight, flatOrder};
 use super::CueAnswer;
 use super::CueEntry;
+use super::CueFraction;
+use super::CueOrder;
 use super::CueSheet;
 use super::CueSpot;
 use super::CueTable;
+use super::CueWeight;
+use captures::FractionAnswer;
+use captures::OrderAnswer;
+use captures::WeightAnswer;
 use csv::ImportAnswer;
 use page::Spot;
 use rules::Answer;
@@ -228,5 +235,63 @@ pub fn of_import(a: ImportAnswer) -> CueAnswer
         ImportAnswer::Written(n) => bare(0, n),
         ImportAnswer::Misread(k) => bare(23, k),
         ImportAnswer::Refused(n) => refused(n),
+    }
+}
+
+/// The numbers of a fraction's answer.
+pub fn of_fraction(a: FractionAnswer) -> CueFraction
+    ensures { λ r. ⌜ r ≡ flatFraction a ⌝ }
+{
+    match a {
+        FractionAnswer::Counted(x) => CueFraction {
+            number: 0,
+            discarded: x.discarded,
+            judged: x.judged,
+        },
+        FractionAnswer::Refused(n) => CueFraction {
+            number: n as u64,
+            discarded: 0,
+            judged: 0,
+        },
+    }
+}
+
+/// The numbers of a weight's answer.
+pub fn of_weight(a: WeightAnswer) -> CueWeight
+    ensures { λ r. ⌜ r ≡ flatWeight a ⌝ }
+{
+    match a {
+        WeightAnswer::Weight(w) => CueWeight {
+            number: 0,
+            weight: w as u64,
+        },
+        WeightAnswer::Refused(n) => CueWeight {
+            number: n as u64,
+            weight: 0,
+        },
+    }
+}
+
+/// The numbers of a comparison's answer.
+pub fn of_order(a: OrderAnswer) -> CueOrder
+    ensures { λ r. ⌜ r ≡ flatOrder a ⌝ }
+{
+    match a {
+        OrderAnswer::Less => CueOrder {
+            number: 0,
+            order: 1,
+        },
+        OrderAnswer::Equal => CueOrder {
+            number: 0,
+            order: 2,
+        },
+        OrderAnswer::Greater => CueOrder {
+            number: 0,
+            order: 3,
+        },
+        OrderAnswer::Refused(n) => CueOrder {
+            number: n as u64,
+            order: 0,
+        },
     }
 }
