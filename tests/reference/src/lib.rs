@@ -2,6 +2,7 @@
 //! the other side of randomized comparisons with the verified library.
 //! Trees live on the heap and every interval is worked out from scratch.
 
+pub mod captures;
 pub mod child;
 pub mod csv;
 pub mod damages;
