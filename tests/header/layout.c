@@ -3,7 +3,7 @@
 #include <assert.h>
 #include "cue_risk.h"
 
-static_assert(CUE_VERSION == 3, "");
+static_assert(CUE_VERSION == 4, "");
 static_assert(CUE_BILLION == 1000000000, "");
 static_assert(CUE_FAULTS == 64, "");
 static_assert(CUE_WAYS == 128, "");
@@ -11,6 +11,7 @@ static_assert(CUE_NODES == 511, "");
 static_assert(CUE_TEXT == 939, "");
 static_assert(CUE_SHEET == 49612, "");
 static_assert(CUE_CSV == 781021, "");
+static_assert(CUE_JUDGED == 4000000000, "");
 static_assert(CUE_STACK == 262144, "");
 
 static_assert(CUE_NONE == 0, "");
@@ -24,6 +25,9 @@ static_assert(CUE_BLANK == 0, "");
 static_assert(CUE_LEAF == 1, "");
 static_assert(CUE_INDEPENDENT_OR == 2, "");
 static_assert(CUE_SHANNON == 3, "");
+static_assert(CUE_LESS == 1, "");
+static_assert(CUE_EQUAL == 2, "");
+static_assert(CUE_GREATER == 3, "");
 
 /* A field's place and its type: pointers to different types cannot stand in one choice. */
 #define FIELD(S, type, field, place) \
@@ -87,3 +91,16 @@ FIELD(CueTable, Weights, weights, 32);
 FIELD(CueTable, Words, present, 288);
 FIELD(CueTable, Words, absent, 1312);
 static_assert(sizeof(CueTable) == 2336, "");
+
+FIELD(CueFraction, uint64_t, number, 0);
+FIELD(CueFraction, uint64_t, discarded, 8);
+FIELD(CueFraction, uint64_t, judged, 16);
+static_assert(sizeof(CueFraction) == 24, "");
+
+FIELD(CueWeight, uint64_t, number, 0);
+FIELD(CueWeight, uint64_t, weight, 8);
+static_assert(sizeof(CueWeight) == 16, "");
+
+FIELD(CueOrder, uint64_t, number, 0);
+FIELD(CueOrder, uint64_t, order, 8);
+static_assert(sizeof(CueOrder) == 16, "");

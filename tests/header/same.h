@@ -9,6 +9,7 @@ extern int differs;
 void on_trees(void);
 void on_sheets(void);
 void on_texts(void);
+void on_logs(void);
 
 static inline void same(int line, const char *what, uint64_t got, uint64_t want)
 {

@@ -1,4 +1,4 @@
-/* The archive's version, the words of the refusals, and then the cases on trees, on sheets and on texts. */
+/* The archive's version, the words of the refusals, and then the cases on trees, on sheets, on texts and on logs. */
 #include "same.h"
 
 static const char *(*const refusal)(uint64_t) = cue_refusal;
@@ -31,19 +31,22 @@ static const char *const words[] = {
     "the writer's lists do not agree in length with each other or with the ways its cues count",
     "the space lent for writing is shorter than the output",
     "a record of the text is missing, is of no shape there, or names a fault twice in the same sense",
+    "no packet was judged",
+    "more than 4000000000 packets were judged, or more were discarded than judged",
 };
 
 int main(void)
 {
-    SAME(version(), 3);
-    SAME(sizeof words / sizeof words[0], 24);
-    for (uint64_t i = 0; i < 24; i++) {
+    SAME(version(), 4);
+    SAME(sizeof words / sizeof words[0], 26);
+    for (uint64_t i = 0; i < 26; i++) {
         same(__LINE__, words[i], strcmp(refusal(i), words[i]) == 0, 1);
     }
-    HOLDS(strcmp(refusal(24), "unknown number") == 0);
+    HOLDS(strcmp(refusal(26), "unknown number") == 0);
     HOLDS(strcmp(refusal(UINT64_MAX), "unknown number") == 0);
     on_trees();
     on_sheets();
     on_texts();
+    on_logs();
     return differs;
 }
