@@ -1,19 +1,21 @@
 #!/bin/bash
 # Compares the built programs with the reference, byte for byte, in a stack of 2 MiB. The report: seeded sheets, sound and damaged ones,
 # every beginning of three sheets, and inputs of 0 to 60,000 bytes that are no sheets. Import and export: the typed and the stored texts,
-# every beginning of the show, seeded texts and sheets, sound and damaged ones, both ways, and the longest of all. Then inputs of other
-# kinds, and the README's line that puts a text right. Usage: tests/run_program.sh [COUNT [ROUNDS]]; COUNT is the number of seeded
-# sheets for the report, ROUNDS that of seeded rounds of import and export. The programs are target/bin/cue_risk, cue_import and
-# cue_export, built first; an input that fails is left in target/failed.sheet or target/failed.input.
+# every beginning of the show, seeded texts and sheets, sound and damaged ones, both ways, and the longest of all. Weights: the typed logs
+# and seeded lists of logs, each in two orders. Then inputs of other kinds, the README's line that puts a text right, and logs of billions
+# of packets. Usage: tests/run_program.sh [COUNT [ROUNDS [LISTS]]]; COUNT is the number of seeded sheets for the report, ROUNDS that of
+# seeded rounds of import and export, LISTS that of seeded lists of logs. The programs are target/bin/cue_risk, cue_import, cue_export and
+# cue_weight, built first; an input that fails is left in target/failed.sheet or target/failed.input, logs in target/failed.logs.
 set -e
 cd "$(dirname "$0")/.."
-rt check cue_risk cue_import cue_export
+rt check cue_risk cue_import cue_export cue_weight
 programs=target/bin
 reference="--quiet --release --offline --manifest-path tests/reference/Cargo.toml"
 cargo build $reference --bins
 ulimit -s 2048
 cargo run $reference --bin run_program -- $programs/cue_risk "${1:-3000}" target/failed.sheet
 cargo run $reference --bin run_texts -- $programs/cue_import $programs/cue_export "${2:-300}" target/failed.input
+cargo run $reference --bin run_weights -- $programs/cue_weight "${3:-300}" target/failed.logs
 
 made=target/programs
 mkdir -p $made
@@ -68,3 +70,35 @@ cp samples/show.csv $made/list.csv
 (cd $made && eval "$tidy")
 cmp $made/tidy.csv samples/show.csv
 echo "the README's line puts a text right"
+
+# Holds what cue_weight prints for logs to a line, and its standard error to nothing. Usage: weighs LINE LOG..
+weighs() {
+    $programs/cue_weight "${@:2}" > $made/output 2> $made/error || { echo "cue_weight does not end well"; exit 1; }
+    echo "$1" > $made/line
+    cmp $made/output $made/line
+    cmp $made/error /dev/null
+}
+# A log that cannot be had: nothing on standard output, a line that names it on standard error, and a status that is not 0.
+# Usage: lacks NAME LOG..
+lacks() {
+    local status=0
+    $programs/cue_weight "${@:2}" > $made/output 2> $made/error || status=$?
+    [ $status != 0 ] && [ ! -s $made/output ] && [ "$(wc -l < $made/error)" = 1 ] && grep -qF -- "$1" $made/error ||
+        { echo "cue_weight does not say that $1 is lacking"; exit 1; }
+}
+# 10 10 247 246 246 3, twenty times: of each six 10, 247 and 246 are discarded, and the first of all is not judged.
+for i in {1..20}; do printf '\12\12\367\366\366\3'; done > $made/a.log
+weighs "60 119 504201681" $made/a.log
+pieces $made/a.log | weighs "60 119 504201681" /dev/stdin
+pieces $made/a.log | weighs "120 238 504201681" $made/a.log /dev/stdin
+weighs "refused 24"
+weighs "refused 24" /dev/null /dev/null
+weighs "refused 24" /dev/stdin < /dev/null
+lacks $made/no.log $made/no.log
+lacks $made/no.log $made/a.log $made/no.log
+lacks $made/no.log $made/no.log $made/a.log
+# The most packets that are judged, one more, and more than 32 bits count; the program need not read all of what it refuses.
+head -c 4000000001 /dev/zero | weighs "4000000000 4000000000 1000000000" /dev/stdin
+head -c 4000000002 /dev/zero | weighs "refused 25" /dev/stdin
+head -c 5000000000 /dev/zero | weighs "refused 25" /dev/stdin
+echo "logs in pieces, of none, not there and of billions: as they should be"

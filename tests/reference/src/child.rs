@@ -1,7 +1,8 @@
-//! The built programs, run as child processes: each reads standard input and nothing else.
+//! The built programs, run as child processes: each reads standard input or the files that it is handed, and nothing else.
 
+use std::ffi::OsStr;
 use std::io::{self, Write};
-use std::process::{Command, Stdio};
+use std::process::{Command, Output, Stdio};
 use std::thread;
 
 /// What a program writes to standard output and to standard error.
@@ -29,6 +30,19 @@ pub fn written(program: &str, input: &[u8]) -> io::Result<Written> {
             _ => Ok(ended),
         }
     })?;
+    well(ended)
+}
+
+/// What a program writes that is handed words and no input. It fails if it does not end well.
+pub fn written_for<W: AsRef<OsStr>>(program: &str, words: &[W]) -> io::Result<Written> {
+    let ended = Command::new(program)
+        .args(words)
+        .stdin(Stdio::null())
+        .output()?;
+    well(ended)
+}
+
+fn well(ended: Output) -> io::Result<Written> {
     match ended.status.success() {
         true => Ok(Written {
             output: ended.stdout,
