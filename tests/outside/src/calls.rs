@@ -1,6 +1,7 @@
 //! The C interface of the library as include/cue_risk.h has it: its structs, its functions, and a safe wrapper
 //! for each. Nothing is judged here.
 
+use reference::captures;
 use reference::sheet::Sheet;
 use reference::{Table, MOST_FAULTS, MOST_WAYS};
 use std::ptr;
@@ -11,7 +12,7 @@ pub const RECORDS: usize = 511;
 pub const STACK: usize = 262_144;
 
 /// The version of the header.
-pub const VERSION: u64 = 3;
+pub const VERSION: u64 = 4;
 
 /// A record of a tree; its fields have one width, so that they can be told by number too.
 #[repr(C)]
@@ -118,11 +119,40 @@ pub struct Inside {
     pub absent: [u64; MOST_WAYS],
 }
 
+#[repr(C)]
+#[derive(Clone, Copy, Debug, PartialEq, Eq)]
+pub struct Fraction {
+    number: u64,
+    discarded: u64,
+    judged: u64,
+}
+
+/// The weight of a fraction, or the order of two.
+#[repr(C)]
+#[derive(Clone, Copy, Debug, PartialEq, Eq)]
+pub struct Figure {
+    number: u64,
+    value: u64,
+}
+
+impl Fraction {
+    pub fn fields(self) -> Vec<u64> {
+        vec![self.number, self.discarded, self.judged]
+    }
+}
+
+impl Figure {
+    pub fn fields(self) -> Vec<u64> {
+        vec![self.number, self.value]
+    }
+}
+
 // The header asserts the same.
 const _: () = {
     assert!(size_of::<Node>() == 104 && size_of::<Tree>() == 53_152);
     assert!(size_of::<Answer>() == 48 && size_of::<Spot>() == 16);
     assert!(size_of::<Head>() == 40 && size_of::<Entry>() == 40 && size_of::<Inside>() == 2_336);
+    assert!(size_of::<Fraction>() == 24 && size_of::<Figure>() == 16);
 };
 
 #[rustfmt::skip]
@@ -144,6 +174,11 @@ extern "C" {
     fn cue_sheet_report(sheet: *const u8, length: usize, space: *mut u8, room: usize) -> Answer;
     fn cue_csv_import(text: *const u8, length: usize, space: *mut u8, room: usize) -> Answer;
     fn cue_csv_export(sheet: *const u8, length: usize, space: *mut u8, room: usize) -> Answer;
+    fn cue_log(log: *const u8, length: usize) -> Fraction;
+    fn cue_logs(bytes: *const u8, count: usize, lengths: *const u64, logs: usize) -> Fraction;
+    fn cue_fractions(discarded: *const u64, discardeds: usize, judged: *const u64, judgeds: usize) -> Fraction;
+    fn cue_fraction_weight(discarded: u64, judged: u64) -> Figure;
+    fn cue_fraction_compare(discarded: u64, judged: u64, other_discarded: u64, other_judged: u64) -> Figure;
 }
 
 // Each pointer comes from a slice or a reference that lives through the call, with that slice's own length, or is
@@ -226,4 +261,24 @@ pub fn import(text: &[u8], space: &mut [u8]) -> Answer {
 pub fn export(sheet: &[u8], space: &mut [u8]) -> Answer {
     let room = space.len();
     unsafe { cue_csv_export(at(sheet), sheet.len(), at_mut(space), room) }
+}
+
+pub fn log(log: &[u8]) -> Fraction {
+    unsafe { cue_log(at(log), log.len()) }
+}
+
+pub fn logs(bytes: &[u8], lengths: &[u64]) -> Fraction {
+    unsafe { cue_logs(at(bytes), bytes.len(), at(lengths), lengths.len()) }
+}
+
+pub fn fractions(discarded: &[u64], judged: &[u64]) -> Fraction {
+    unsafe { cue_fractions(at(discarded), discarded.len(), at(judged), judged.len()) }
+}
+
+pub fn weight(fraction: captures::Fraction) -> Figure {
+    unsafe { cue_fraction_weight(fraction.discarded, fraction.judged) }
+}
+
+pub fn compare(one: captures::Fraction, other: captures::Fraction) -> Figure {
+    unsafe { cue_fraction_compare(one.discarded, one.judged, other.discarded, other.judged) }
 }

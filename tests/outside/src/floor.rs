@@ -5,7 +5,7 @@ use crate::tally::{Call, Tally};
 use reference::{DONE, FULL, MET, SPENT};
 
 /// For each call the numbers that concern it, 0 for accepted, and how often each must have been given.
-const NUMBERS: [(Call, u64, &[u64]); 10] = [
+const NUMBERS: [(Call, u64, &[u64]); 17] = [
     (Call::Open, 30, &[0, 9, 10, 11, 12, 13]),
     (Call::Refine, 30, &[0, 9, 10, 11, 12, 13, 16, 17, 18, 19, 20]),
     (Call::Run, 30, &[0, 9, 10, 11, 12, 13, 14, 15, 16]),
@@ -16,6 +16,14 @@ const NUMBERS: [(Call, u64, &[u64]); 10] = [
     (Call::Report, 100, &[0, 22]),
     (Call::Import, 100, &[0, 2, 5, 6, 10, 12, 13, 14, 15, 22, 23]),
     (Call::Export, 30, &[0, 1, 2, 3, 4, 5, 6, 7, 8, 10, 12, 13, 14, 15, 22]),
+    (Call::Log, 60_000, &[0]),
+    (Call::Logs, 5000, &[0]),
+    // No log of fewer than four billion packets is refused.
+    (Call::Log, 2, &[25]),
+    (Call::Logs, 1, &[25]),
+    (Call::Fractions, 1000, &[0, 25]),
+    (Call::Weight, 1000, &[0, 24, 25]),
+    (Call::Compare, 1000, &[0, 24, 25]),
 ];
 
 /// The verdicts of runs, and how often each must have been given.

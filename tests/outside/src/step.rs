@@ -1,6 +1,7 @@
 //! The steps of a case, and a case as text, a step to a line: what a disagreement is written as and `--replay` reads.
 
 use crate::calls::{Node, Tree, FIELDS};
+use reference::captures::Fraction;
 use reference::sheet::Sheet;
 use reference::Table;
 use std::fmt::{self, Display, Formatter};
@@ -25,6 +26,10 @@ pub enum Step {
     Text(Vec<u8>),
     /// A text of its first bytes, a part so many times, and its last bytes.
     Long(Vec<u8>, Vec<u8>, usize, Vec<u8>),
+    /// The bytes of logs.
+    Bytes(Vec<u8>),
+    /// So many bytes of logs, all 0. What they must give follows from lengths, and is asked of nobody packet by packet.
+    Zeros(usize),
     /// From now on each call of the library has no more stack than the header asks for.
     Stack,
 
@@ -54,10 +59,22 @@ pub enum Step {
     Import(usize),
     /// The sheet into a space of this length, as text.
     Export(usize),
+    /// The bytes as one log.
+    Log,
+    /// The bytes as logs of these lengths.
+    Logs(Vec<u64>),
+    /// The sum of fractions: numbers of discarded and of judged packets.
+    Fractions(Vec<u64>, Vec<u64>),
+    /// The weight of a fraction.
+    Weight(Fraction),
+    /// One fraction beside another.
+    Compare(Fraction, Fraction),
 
     // Claims about the library alone.
     /// Figures that the last answer must have: number, low, high, count, verdict, figure.
     Told([Option<u64>; 6]),
+    /// All that the last call on logs or fractions must have answered: the number, and then its figures.
+    Answered(Vec<u64>),
     /// What the last call must have written into its space.
     Printed(Vec<u8>),
     /// Both trees have the same places, with what was done there and the intervals, and the same sum of counts.
@@ -93,6 +110,8 @@ impl Display for Step {
             Step::Long(first, part, times, last) => {
                 write!(f, "long {} {} {times} {}", hex(first), hex(part), hex(last))
             }
+            Step::Bytes(bytes) => write!(f, "bytes {}", hex(bytes)),
+            Step::Zeros(count) => write!(f, "zeros {count}"),
             Step::Stack => write!(f, "stack"),
             Step::Version => write!(f, "version"),
             Step::Open => write!(f, "open"),
@@ -112,10 +131,16 @@ impl Display for Step {
             }
             Step::Import(space) => write!(f, "import {space}"),
             Step::Export(space) => write!(f, "export {space}"),
+            Step::Log => write!(f, "log"),
+            Step::Logs(lengths) => write!(f, "logs {}", list(lengths)),
+            Step::Fractions(discarded, judged) => write!(f, "fractions {} {}", list(discarded), list(judged)),
+            Step::Weight(fraction) => write!(f, "weight {}", of(fraction)),
+            Step::Compare(one, other) => write!(f, "compare {} {}", of(one), of(other)),
             Step::Told(figures) => {
                 let figures = figures.map(|figure| figure.map_or("-".into(), |figure| figure.to_string()));
                 write!(f, "told {}", figures.join(" "))
             }
+            Step::Answered(figures) => write!(f, "answered {}", list(figures)),
             Step::Printed(text) => write!(f, "printed {}", hex(text)),
             Step::Alike => write!(f, "alike"),
             Step::Agree => write!(f, "agree"),
@@ -130,6 +155,10 @@ fn list<T: Display>(numbers: &[T]) -> String {
         return "-".into();
     }
     numbers.iter().map(T::to_string).collect::<Vec<_>>().join(",")
+}
+
+fn of(Fraction { discarded, judged }: &Fraction) -> String {
+    format!("{discarded} {judged}")
 }
 
 /// The fields of records, one after the other.
@@ -172,6 +201,8 @@ fn step(line: &str) -> Option<Step> {
         "sheet" => Step::Sheet(words.bytes()?),
         "text" => Step::Text(words.bytes()?),
         "long" => Step::Long(words.bytes()?, words.bytes()?, words.number()?, words.bytes()?),
+        "bytes" => Step::Bytes(words.bytes()?),
+        "zeros" => Step::Zeros(words.number()?),
         "stack" => Step::Stack,
         "version" => Step::Version,
         "open" => Step::Open,
@@ -198,6 +229,11 @@ fn step(line: &str) -> Option<Step> {
         }
         "import" => Step::Import(words.number()?),
         "export" => Step::Export(words.number()?),
+        "log" => Step::Log,
+        "logs" => Step::Logs(words.list()?),
+        "fractions" => Step::Fractions(words.list()?, words.list()?),
+        "weight" => Step::Weight(words.fraction()?),
+        "compare" => Step::Compare(words.fraction()?, words.fraction()?),
         "told" => {
             let mut figures = [None; 6];
             for figure in &mut figures {
@@ -206,6 +242,7 @@ fn step(line: &str) -> Option<Step> {
             }
             Step::Told(figures)
         }
+        "answered" => Step::Answered(words.list()?),
         "printed" => Step::Printed(words.bytes()?),
         "alike" => Step::Alike,
         "agree" => Step::Agree,
@@ -241,6 +278,10 @@ impl<'a> Words<'a> {
         };
         let byte = |at| u8::from_str_radix(digits.get(at..at + 2)?, 16).ok();
         (0..digits.len()).step_by(2).map(byte).collect()
+    }
+
+    fn fraction(&mut self) -> Option<Fraction> {
+        Some(Fraction::new(self.number()?, self.number()?))
     }
 
     fn records(&mut self) -> Option<Vec<Node>> {

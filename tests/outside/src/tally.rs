@@ -18,6 +18,11 @@ pub enum Call {
     Report,
     Import,
     Export,
+    Log,
+    Logs,
+    Fractions,
+    Weight,
+    Compare,
 }
 
 impl Call {
@@ -35,6 +40,11 @@ impl Call {
             Call::Report => "cue_sheet_report",
             Call::Import => "cue_csv_import",
             Call::Export => "cue_csv_export",
+            Call::Log => "cue_log",
+            Call::Logs => "cue_logs",
+            Call::Fractions => "cue_fractions",
+            Call::Weight => "cue_fraction_weight",
+            Call::Compare => "cue_fraction_compare",
         }
     }
 }

@@ -1,5 +1,6 @@
 //! The families of cases, in the order in which they are played, and what several of them share.
 
+mod captures;
 mod csv;
 mod cuts;
 mod damage;
@@ -37,7 +38,7 @@ pub struct Family {
     pub least: u64,
 }
 
-pub const FAMILIES: [Family; 25] = [
+pub const FAMILIES: [Family; 28] = [
     family("paper", paper::cases_on_paper, 113),
     family("tests", paper::run_in_the_tests, 135),
     family("wrong", named::easy_to_get_wrong, 11_290),
@@ -61,8 +62,11 @@ pub const FAMILIES: [Family; 25] = [
     family("writing", writing::writing, 12_000),
     family("search", search::search, 7200),
     family("far", far::far, 5700),
-    family("stack", stack::stack, 1071),
+    family("stack", stack::stack, 1077),
     family("csv", csv::csv, 113_000),
+    family("captures", captures::captures, 340_000),
+    family("fractions", captures::fractions::fractions, 178_000),
+    family("billions", captures::billions::billions, 10),
 ];
 
 const fn family(name: &'static str, play: fn(&mut Bench) -> Outcome, least: u64) -> Family {

@@ -7,7 +7,9 @@ use crate::bench::Bench;
 use crate::calls::{Node, RECORDS};
 use crate::session::{Outcome, Session};
 use crate::step::Step;
+use reference::captures::{Fraction, MOST_JUDGED};
 use reference::paper::{every_fault_named, largest_ring, stairs, H};
+use reference::random::Random;
 use reference::sheet::{encode, Sheet};
 use reference::{Act, FULL, LONGEST_SHEET, MOST_CUES, MOST_WAYS, S};
 
@@ -17,7 +19,8 @@ pub fn stack(bench: &mut Bench) -> Outcome {
     bench.case("the longest texts", |session, _| {
         session.make(Step::Stack)?;
         the_longest(session)
-    })
+    })?;
+    bench.case("long logs and lists", logs)
 }
 
 fn trees(session: &mut Session) -> Outcome {
@@ -59,4 +62,18 @@ fn longest(session: &mut Session) -> Outcome {
     session.make(Step::Cue(MOST_CUES - 1))?;
     session.make(Step::Inside(MOST_CUES - 1))?;
     session.make(Step::Report(1 << 16))
+}
+
+/// A log of a million packets, as many logs of one or two, the last of which find no bytes, and as many fractions.
+fn logs(session: &mut Session, random: &mut Random) -> Outcome {
+    const MANY: usize = 1_000_000;
+    session.make(Step::Stack)?;
+    session.make(Step::Bytes(random.log(MANY)))?;
+    session.make(Step::Log)?;
+    session.make(Step::Logs((0..MANY as u64).map(|at| 1 + at % 2).collect()))?;
+    session.make(Step::Fractions(vec![1; MANY], vec![4000; MANY]))?;
+    session.make(Step::Answered(vec![0, MANY as u64, MOST_JUDGED]))?;
+    let near_one = |judged| Fraction::new(judged - 1, judged);
+    session.make(Step::Weight(near_one(MOST_JUDGED)))?;
+    session.make(Step::Compare(near_one(MOST_JUDGED), near_one(MOST_JUDGED - 1)))
 }

@@ -1,7 +1,8 @@
 //! A case as it goes: each step is made on both sides and every answer, place and byte compared.
-//! `trees` has the steps on trees, `bytes` the search and the steps on sheets.
+//! `trees` has the steps on trees, `bytes` the search and the steps on sheets, `captures` those on logs and fractions.
 
 mod bytes;
+mod captures;
 mod trees;
 
 use crate::calls;
@@ -9,6 +10,7 @@ use crate::exact::Exact;
 use crate::stack::Stack;
 use crate::step::{parse, Field, Step};
 use crate::tally::{Call, Tally};
+use captures::Lent;
 use reference::{Act, Answer, Table, Tree, NONE};
 use std::fmt::Debug;
 use std::fs::File;
@@ -34,6 +36,9 @@ pub struct Session {
     place: usize,
     text: Vec<u8>,
     printed: Vec<u8>,
+    logs: Lent,
+    /// The last answer on logs or fractions.
+    figures: Vec<u64>,
     stack: Stack,
 }
 
@@ -51,6 +56,8 @@ impl Session {
             place: 0,
             text: Vec::new(),
             printed: Vec::new(),
+            logs: Lent::default(),
+            figures: Vec::new(),
             stack: Stack::Ample,
         }
     }
@@ -86,6 +93,11 @@ impl Session {
     /// What the library wrote last.
     pub fn printed(&self) -> &[u8] {
         &self.printed
+    }
+
+    /// All that the library answered last on logs or fractions.
+    pub fn figures(&self) -> &[u64] {
+        &self.figures
     }
 
     // Steps, made and kept.
@@ -135,6 +147,8 @@ impl Session {
             Step::Sheet(bytes) => (self.sheet, self.place) = (bytes, 0),
             Step::Text(text) => self.text = text,
             Step::Long(first, part, times, last) => self.text = [first, part.repeat(times), last].concat(),
+            Step::Bytes(bytes) => self.logs = Lent::listed(bytes),
+            Step::Zeros(count) => self.logs = Lent::zeros(count),
             Step::Stack => self.stack = Stack::Least,
             Step::Version => self.make_version()?,
             Step::Open => self.make_open()?,
@@ -156,7 +170,13 @@ impl Session {
             Step::Write(lists, space) => self.make_write(&lists, space)?,
             Step::Import(space) => self.make_import(space)?,
             Step::Export(space) => self.make_export(space)?,
+            Step::Log => self.make_log()?,
+            Step::Logs(lengths) => self.make_logs(&lengths)?,
+            Step::Fractions(discarded, judged) => self.make_fractions(&discarded, &judged)?,
+            Step::Weight(fraction) => self.make_weight(fraction)?,
+            Step::Compare(one, other) => self.make_compare(one, other)?,
             Step::Told(figures) => self.claim_told(figures)?,
+            Step::Answered(figures) => self.claim_answered(&figures)?,
             Step::Printed(text) => self.claim_printed(&text)?,
             Step::Alike => self.claim_alike()?,
             Step::Agree => self.claim_agree()?,
