@@ -22,7 +22,7 @@ const NUMBERS: [(Call, u64, &[u64]); 17] = [
     (Call::Log, 2, &[25]),
     (Call::Logs, 1, &[25]),
     (Call::Fractions, 1000, &[0, 25]),
-    (Call::Weight, 1000, &[0, 24, 25]),
+    (Call::Weight, 500, &[0, 24, 25]),
     (Call::Compare, 1000, &[0, 24, 25]),
 ];
 
