@@ -78,14 +78,17 @@ weighs() {
     cmp $made/output $made/line
     cmp $made/error /dev/null
 }
-# A log that cannot be had: nothing on standard output, a line that names it on standard error, and a status that is not 0.
-# Usage: lacks NAME LOG..
+# A log that cannot be had: nothing on standard output, and one line that names it on standard error. Usage: lacks NAME LOG..
 lacks() {
-    local status=0
-    $programs/cue_weight "${@:2}" > $made/output 2> $made/error || status=$?
-    [ $status != 0 ] && [ ! -s $made/output ] && [ "$(wc -l < $made/error)" = 1 ] && grep -qF -- "$1" $made/error ||
+    $programs/cue_weight "${@:2}" > $made/output 2> $made/error || { echo "cue_weight does not end well"; exit 1; }
+    [ ! -s $made/output ] && [ "$(wc -l < $made/error)" = 1 ] && grep -qF -- "$1: " $made/error ||
         { echo "cue_weight does not say that $1 is lacking"; exit 1; }
 }
+# The samples, which the crate's own run has again.
+for log in monday tuesday; do cmp samples/$log.log crates/cue_weight/data/$log.log; done
+weighs "4 240 16666667" samples/monday.log
+weighs "3 160 18750000" samples/tuesday.log
+weighs "7 400 17500000" samples/tuesday.log samples/monday.log
 # 10 10 247 246 246 3, twenty times: of each six 10, 247 and 246 are discarded, and the first of all is not judged.
 for i in {1..20}; do printf '\12\12\367\366\366\3'; done > $made/a.log
 weighs "60 119 504201681" $made/a.log
@@ -97,6 +100,8 @@ weighs "refused 24" /dev/stdin < /dev/null
 lacks $made/no.log $made/no.log
 lacks $made/no.log $made/a.log $made/no.log
 lacks $made/no.log $made/no.log $made/a.log
+lacks $made $made/a.log $made
+lacks "the name of a log" "$(printf '%5000s' | tr ' ' a)"
 # The most packets that are judged, one more, and more than 32 bits count; the program need not read all of what it refuses.
 head -c 4000000001 /dev/zero | weighs "4000000000 4000000000 1000000000" /dev/stdin
 head -c 4000000002 /dev/zero | weighs "refused 25" /dev/stdin

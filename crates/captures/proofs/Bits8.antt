@@ -1,6 +1,6 @@
 -- Eight bits as the machine reads them: minus one less a byte below 128, and the test of a signed difference by its bits.
 -- Rests on Circle.antt and on the toolchain's integers.
-use mathlib.Core.Path.{_≡_, refl, sym, ap, _∙_}
+use mathlib.Core.Path.{_≡_, refl, ap, _∙_}
 use mathlib.Core.Bool.{_&&_}
 use Prim.Native.Nat.{ℕ, zero, suc, _+_, _-_, _%_, _≤_, _<_}
 use native.Mathlib.Nat.{zero-add}
@@ -11,7 +11,7 @@ use lib.Signed.{leZ, ltZ}
 use mir.Syntax.{w8}
 use mir.Val.{toZ, ofZ, SFits}
 use mir.Facts.{toZ-pos, toZ-ofZ}
-use Rattle.captures.specs.Logs.{difference, signed, discards}
+use Rattle.captures.specs.Logs.{signed, discards}
 use Rattle.captures.proofs.Circle.{signed-low, signed-high, difference-is}
 
 -- Minus one less n.

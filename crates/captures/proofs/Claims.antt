@@ -1,10 +1,11 @@
 -- WHERE TO LOOK FIRST: what is shown of weights from captures, each claim under the clauses of docs/RULES.md that it settles.
 -- Every claim is about the definitions in specs/; the contracts of the code say that its results equal those definitions.
-use mathlib.Core.Path.{_≡_, refl, sym, ap, ap₂, _∙_}
+use mathlib.Core.Path.{_≡_, refl, sym, ap, _∙_}
 use mathlib.Core.Bool.{Bool, true, false}
-use mathlib.Core.List.{List, [], _∷_, _++_, map, flatten, map-append, List·Permᴰ, List·Permᴰ·append-comm}
+use mathlib.Core.List.{List, [], _∷_, _++_, map, flatten, map-append, List·Permᴰ·append-comm}
 use mathlib.Core.Logic.{_↔_}
-use Prim.Native.Nat.{ℕ, zero, suc, _+_, _-_, _%_, _≤_, _<_, zero-le}
+use Prim.Native.Nat.{ℕ, _+_, _-_, _%_, _≤_, _<_, zero-le}
+use native.Mathlib.Nat.{lt-irrefl}
 use native.Mathlib.Omega.{arith}
 use lib.ListN.{length}
 use lib.Dec.{ltb}
@@ -12,9 +13,12 @@ use borrow.Author.Tests.{ltb-true, ltb-false, lt-ltb}
 use Rattle.rules.proofs.Refused.{numbersTried}
 use Rattle.captures.specs.declared.Fraction.{Fraction}
 use Rattle.captures.specs.declared.FractionAnswer.{FractionAnswer}
-use Rattle.captures.specs.Logs.{discards, heardAll, silent, counted, fractionOf, capped, inPieces}
-use Rattle.captures.specs.Fractions.{beyond, fractionRefusals, fractionAnswer, logAnswer, totalRefusals, totalAnswer, logsAnswer, joined}
+use Rattle.captures.specs.declared.WeightAnswer.{WeightAnswer}
+use Rattle.captures.specs.declared.OrderAnswer.{OrderAnswer}
+use Rattle.captures.specs.Logs.{discards, heardAll, silent, counted, fractionOf, inPieces, limit}
+use Rattle.captures.specs.Fractions.{fraction, beyond, fractionRefusals, fractionAnswer, logAnswer, totalRefusals, totalAnswer, logsAnswer, joined}
 use Rattle.captures.specs.Fractions.{weightRefusals, weightAnswer, compareRefusals, compareAnswer, fractionNumber, fractionTold}
+use Rattle.captures.specs.Fractions.{weightRefused, weightTold, orderRefused, orderTold}
 use Rattle.captures.specs.Promises.{LogCounted, LogsCounted, Added, Weighed, Compared}
 use Rattle.captures.proofs.Circle.{discards-exactly}
 use Rattle.captures.proofs.Counting.{heard-joined, heard-within, judged-is, pieces-capped, pieces-within}
@@ -49,29 +53,34 @@ in-pieces ps =
 -- ---- RULES 14.6: a log is refused exactly if it is too long.
 
 -- By the judged packets.
-log-beyond : (bs : List ℕ) → beyond (fractionOf bs) ≡ ltb 4000000000 (length bs - 1)
-log-beyond bs = beyond-judged (fractionOf bs) (never-above bs) ∙ ap (ltb 4000000000) (all-judged bs)
+log-beyond : (bs : List ℕ) → beyond (fractionOf bs) ≡ ltb limit (length bs - 1)
+log-beyond bs = beyond-judged (fractionOf bs) (never-above bs) ∙ ap (ltb limit) (all-judged bs)
 
 -- THE ANSWER OF A LOG keeps its promise.
 pub log-counted : (bs : List ℕ) → LogCounted bs (logAnswer bs)
 log-counted bs = by (beyond (fractionOf bs)) refl
   where
-    long : beyond (fractionOf bs) ≡ true → 4000000001 < length bs
-    long e = over (length bs) (ltb-true 4000000000 (length bs - 1) (sym (log-beyond bs) ∙ e))
+    long : beyond (fractionOf bs) ≡ true → limit + 1 < length bs
+    long e = over (length bs) (ltb-true limit (length bs - 1) (sym (log-beyond bs) ∙ e))
       where
-        over : (n : ℕ) → 4000000000 < n - 1 → 4000000001 < n
+        over : (n : ℕ) → limit < n - 1 → limit + 1 < n
         over n h = omega (arith, h)
 
-    short : beyond (fractionOf bs) ≡ false → 4000000001 < length bs → ⊥
-    short e h = under (length bs) h (ltb-false 4000000000 (length bs - 1) (sym (log-beyond bs) ∙ e))
+    short : beyond (fractionOf bs) ≡ false → limit + 1 < length bs → ⊥
+    short e h = under (length bs) h (ltb-false limit (length bs - 1) (sym (log-beyond bs) ∙ e))
       where
-        under : (n : ℕ) → 4000000001 < n → n - 1 ≤ 4000000000 → ⊥
+        under : (n : ℕ) → limit + 1 < n → n - 1 ≤ limit → ⊥
         under n h k = omega (arith, h, k)
 
     by : (b : Bool) → beyond (fractionOf bs) ≡ b → LogCounted bs (logAnswer bs)
     by true e =
         rw (fraction-refused (fractionOf bs) e)
-        (record { answer = sym (fraction-refused (fractionOf bs) e); too-long = (λ _. long e, λ _. refl); judged = λ z. omega (arith, z); discarded = zero-le })
+        (record {
+          answer = sym (fraction-refused (fractionOf bs) e);
+          too-long = (λ _. long e, λ _. refl);
+          judged = λ z. omega (arith, z);
+          discarded = zero-le;
+        })
     by false e =
         rw (fraction-counted (fractionOf bs) e)
         (record {
@@ -103,12 +112,12 @@ logs-joined ls ms = ap totalAnswer (map-append fractionOf ls ms) ∙ total-joine
 pub refused-whole : (xs ys : List Fraction) (x : Fraction) → beyond x ≡ true → totalAnswer (xs ++ x ∷ ys) ≡ FractionAnswer.Refused 25
 refused-whole = some-refused
 
-pub log-refused-whole : (ls ms : List (List ℕ)) (bs : List ℕ) → 4000000001 < length bs → logsAnswer (ls ++ bs ∷ ms) ≡ FractionAnswer.Refused 25
+pub log-refused-whole : (ls ms : List (List ℕ)) (bs : List ℕ) → limit + 1 < length bs → logsAnswer (ls ++ bs ∷ ms) ≡ FractionAnswer.Refused 25
 log-refused-whole ls ms bs h =
     ap totalAnswer (map-append fractionOf ls (bs ∷ ms))
-    ∙ some-refused (map fractionOf ls) (map fractionOf ms) (fractionOf bs) (log-beyond bs ∙ lt-ltb 4000000000 (length bs - 1) (over (length bs) h))
+    ∙ some-refused (map fractionOf ls) (map fractionOf ms) (fractionOf bs) (log-beyond bs ∙ lt-ltb limit (length bs - 1) (over (length bs) h))
   where
-    over : (n : ℕ) → 4000000001 < n → 4000000000 < n - 1
+    over : (n : ℕ) → limit + 1 < n → limit < n - 1
     over n h = omega (arith, h)
 
 -- ---- RULES 14.8: the weight is at most S, and the smallest whole number of billionths that is not below the fraction.
@@ -138,3 +147,18 @@ weight-order x = refl
 pub compare-order : (x y : Fraction) → numbersTried (compareRefusals x y) ≡ 24 ∷ 25 ∷ []
 unfolding compareRefusals
 compare-order x y = refl
+
+-- REFUSED, a fraction is 0 of 0, a weight 0 and a comparison 0.
+pub no-fraction : (a : FractionAnswer) → 0 < fractionNumber a → fractionTold a ≡ fraction 0 0
+no-fraction (FractionAnswer.Counted x) h = absurd (lt-irrefl 0 h)
+no-fraction (FractionAnswer.Refused n) h = refl
+
+pub no-weight : (a : WeightAnswer) → 0 < weightRefused a → weightTold a ≡ 0
+no-weight (WeightAnswer.Weight w) h = absurd (lt-irrefl 0 h)
+no-weight (WeightAnswer.Refused n) h = refl
+
+pub no-order : (a : OrderAnswer) → 0 < orderRefused a → orderTold a ≡ 0
+no-order OrderAnswer.Less h = absurd (lt-irrefl 0 h)
+no-order OrderAnswer.Equal h = absurd (lt-irrefl 0 h)
+no-order OrderAnswer.Greater h = absurd (lt-irrefl 0 h)
+no-order (OrderAnswer.Refused n) h = refl

@@ -1,9 +1,9 @@
 -- What a log counts: every packet but the first is judged, no more are discarded, and reading in pieces makes no difference.
 -- Rests on specs/Logs.antt.
-use mathlib.Core.Path.{_≡_, refl, sym, ap, _∙_, subst}
+use mathlib.Core.Path.{_≡_, refl, sym, ap, _∙_}
 use mathlib.Core.Bool.{Bool, true, false, _||_, true≢false}
 use mathlib.Core.List.{List, [], _∷_, _++_, flatten}
-use Prim.Native.Nat.{ℕ, zero, suc, _+_, _-_, _≤_, _<_, zero-le}
+use Prim.Native.Nat.{ℕ, suc, _+_, _-_, _≤_, _<_, zero-le}
 use native.Mathlib.Nat.{le-trans, lt-of-lt-of-le}
 use native.Mathlib.Numerals.{add-one, unary-clauses}
 use native.Mathlib.Omega.{arith}
@@ -11,9 +11,9 @@ use lib.ListN.{length, getD, take, drop, take-append-drop}
 use lib.Seq.{take-suc, take-all}
 use lib.Dec.{ltb}
 use borrow.Author.Tests.{ltb-true, ltb-false, lt-ltb, le-ltb}
-use Rattle.rules.proofs.Booleans.{or-cases, or-first, or-second, or-split, or-neither}
+use Rattle.rules.proofs.Booleans.{or-cases, or-first, or-second, or-split}
 use Rattle.captures.specs.declared.Log.{Log}
-use Rattle.captures.specs.Logs.{discards, afterDiscarded, afterAccepted, afterFirst, hear, heardAll, silent, isFull, full, capped, inPieces}
+use Rattle.captures.specs.Logs.{discards, afterDiscarded, afterAccepted, afterFirst, hear, heardAll, silent, isFull, full, capped, inPieces, limit}
 
 -- ---- one packet
 
@@ -132,17 +132,17 @@ judged-is (new ∷ bs) = heard-judged (hear silent new) bs refl ∙ omega arith
 -- ---- a log that is too long
 
 -- One count after the other.
-pub full-judged : (l : Log) → 4000000000 < l .judged → isFull l ≡ true
+pub full-judged : (l : Log) → limit < l .judged → isFull l ≡ true
 unfolding isFull
-full-judged l h = or-first (ltb 4000000000 (l .judged)) (ltb 4000000000 (l .discarded)) (lt-ltb 4000000000 (l .judged) h)
+full-judged l h = or-first (ltb limit (l .judged)) (ltb limit (l .discarded)) (lt-ltb limit (l .judged) h)
 
-pub full-discarded : (l : Log) → l .judged ≤ 4000000000 → isFull l ≡ ltb 4000000000 (l .discarded)
+pub full-discarded : (l : Log) → l .judged ≤ limit → isFull l ≡ ltb limit (l .discarded)
 unfolding isFull
-full-discarded l h = ap (λ b. b || ltb 4000000000 (l .discarded)) (le-ltb 4000000000 (l .judged) h)
+full-discarded l h = ap (λ b. b || ltb limit (l .discarded)) (le-ltb limit (l .judged) h)
 
 -- A number that is not below one above the limit is above it too.
-above-stays : (a b : ℕ) → a ≤ b → ltb 4000000000 a ≡ true → ltb 4000000000 b ≡ true
-above-stays a b h e = lt-ltb 4000000000 b (lt-of-lt-of-le (ltb-true 4000000000 a e) h)
+above-stays : (a b : ℕ) → a ≤ b → ltb limit a ≡ true → ltb limit b ≡ true
+above-stays a b h e = lt-ltb limit b (lt-of-lt-of-le (ltb-true limit a e) h)
 
 -- Once a count is above the limit it stays so.
 pub full-stays : (l : Log) (bs : List ℕ) → isFull l ≡ true → isFull (heardAll l bs) ≡ true
@@ -150,22 +150,22 @@ unfolding isFull
 full-stays l bs h =
     let m : Log = heardAll l bs in
     or-cases
-    (ltb 4000000000 (l .judged))
-    (ltb 4000000000 (l .discarded))
-    (λ e. or-first (ltb 4000000000 (m .judged)) (ltb 4000000000 (m .discarded)) (above-stays (l .judged) (m .judged) (heard-grown l bs .judged) e))
+    (ltb limit (l .judged))
+    (ltb limit (l .discarded))
+    (λ e. or-first (ltb limit (m .judged)) (ltb limit (m .discarded)) (above-stays (l .judged) (m .judged) (heard-grown l bs .judged) e))
     (λ e.
     or-second
-    (ltb 4000000000 (m .judged))
-    (ltb 4000000000 (m .discarded))
+    (ltb limit (m .judged))
+    (ltb limit (m .discarded))
     (above-stays (l .discarded) (m .discarded) (heard-grown l bs .discarded) e))
     h
 
 -- Where it is not so both counts have room for one more.
-pub not-full : (l : Log) → isFull l ≡ false → (l .judged ≤ 4000000000) × (l .discarded ≤ 4000000000)
+pub not-full : (l : Log) → isFull l ≡ false → (l .judged ≤ limit) × (l .discarded ≤ limit)
 unfolding isFull
 not-full l h =
-    let both = or-split (ltb 4000000000 (l .judged)) (ltb 4000000000 (l .discarded)) h in
-    (ltb-false 4000000000 (l .judged) (both .0), ltb-false 4000000000 (l .discarded) (both .1))
+    let both = or-split (ltb limit (l .judged)) (ltb limit (l .discarded)) h in
+    (ltb-false limit (l .judged) (both .0), ltb-false limit (l .discarded) (both .1))
 
 -- A full log is handed on as `full`, any other as it is.
 pub capped-full : (l : Log) → isFull l ≡ true → capped l ≡ full

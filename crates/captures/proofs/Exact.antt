@@ -1,26 +1,23 @@
 -- Weights and comparisons are exact: a weight is the smallest that is not below the fraction, a comparison is that of the rationals.
 -- Rests on specs/Fractions.antt and Promises.antt, and on Sums.antt for 25.
-use mathlib.Core.Path.{_≡_, refl, sym, ap, ap₂, _∙_, subst}
+use mathlib.Core.Path.{_≡_, refl, sym, ap, _∙_, subst}
 use mathlib.Core.Bool.{Bool, true, false, _||_}
-use mathlib.Core.List.{List, [], _∷_}
-use mathlib.Core.Logic.{_↔_}
-use Prim.Native.Nat.{ℕ, zero, suc, _+_, _-_, _*_, _/_, _%_, _≤_, _<_, zero-le}
-use native.Mathlib.Nat.{le-trans, mod-lt, div-add-mod', mul-le-mul, mul-le-mul-right, mul-lt-mul-of-pos-right, lt-of-mul-lt-mul-right, eq-of-mul-eq-mul-right}
+use mathlib.Core.List.{[], _∷_}
+use Prim.Native.Nat.{ℕ, suc, _+_, _-_, _*_, _/_, _≤_, _<_, zero-le}
+use native.Mathlib.Nat.{le-trans, mod-lt, div-add-mod', mul-le-mul, mul-lt-mul-of-pos-right, lt-of-mul-lt-mul-right, eq-of-mul-eq-mul-right}
 use native.Mathlib.Decide.{decLt}
 use native.Mathlib.Omega.{arith}
-use lib.Dec.{eqb, ltb}
-use borrow.Author.Tests.{eqb-true, eqb-false, lt-ltb, le-ltb}
+use borrow.Author.Tests.{eqb-false, lt-ltb, le-ltb}
 use Rattle.rules.specs.Rounding.{S}
-use Rattle.rules.specs.Refusals.{first}
 use Rattle.rules.proofs.First.{first-none, first-here, first-later}
 use Rattle.rules.proofs.Booleans.{or-split}
 use Rattle.captures.specs.declared.Fraction.{Fraction}
 use Rattle.captures.specs.declared.WeightAnswer.{WeightAnswer}
 use Rattle.captures.specs.declared.OrderAnswer.{OrderAnswer}
-use Rattle.captures.specs.Fractions.{unjudged, beyond, fractionRefusals, weightOf, weightRefusals, weightNumber, weightBy, weightAnswer, weightRefused}
-use Rattle.captures.specs.Fractions.{weightTold, orderOf, compareRefusals, compareNumber, compareBy, compareAnswer, orderRefused, orderTold}
+use Rattle.captures.specs.Fractions.{unjudged, beyond, fractionRefusals, weightOf, weightRefusals, weightNumber, weightBy, weightAnswer}
+use Rattle.captures.specs.Fractions.{orderOf, compareRefusals, compareNumber, compareBy, compareAnswer, orderRefused, orderTold}
 use Rattle.captures.specs.Promises.{Weighed, Tells, Compared}
-use Rattle.captures.proofs.Sums.{Within, within-is}
+use Rattle.captures.proofs.Sums.{within-is}
 
 -- What is not refused by 24 has a packet judged.
 pub judged-some : (x : Fraction) → unjudged x ≡ false → 0 < x .judged
@@ -124,15 +121,27 @@ weighed x = by (unjudged x) (beyond x) refl refl
 -- A number that is less than another, equal to it, greater.
 tells-less : (a b : ℕ) → a < b → Tells 1 a b
 tells-less a b h =
-    record { less = (λ _. h, λ _. refl); equal = (λ e. omega (arith, e), λ e. omega (arith, h, e)); greater = (λ e. omega (arith, e), λ k. omega (arith, h, k)) }
+    record {
+      less = (λ _. h, λ _. refl);
+      equal = (λ e. omega (arith, e), λ e. omega (arith, h, e));
+      greater = (λ e. omega (arith, e), λ k. omega (arith, h, k));
+    }
 
 tells-equal : (a b : ℕ) → a ≡ b → Tells 2 a b
 tells-equal a b h =
-    record { less = (λ e. omega (arith, e), λ k. omega (arith, h, k)); equal = (λ _. h, λ _. refl); greater = (λ e. omega (arith, e), λ k. omega (arith, h, k)) }
+    record {
+      less = (λ e. omega (arith, e), λ k. omega (arith, h, k));
+      equal = (λ _. h, λ _. refl);
+      greater = (λ e. omega (arith, e), λ k. omega (arith, h, k));
+    }
 
 tells-greater : (a b : ℕ) → b < a → Tells 3 a b
 tells-greater a b h =
-    record { less = (λ e. omega (arith, e), λ k. omega (arith, h, k)); equal = (λ e. omega (arith, e), λ e. omega (arith, h, e)); greater = (λ _. h, λ _. refl) }
+    record {
+      less = (λ e. omega (arith, e), λ k. omega (arith, h, k));
+      equal = (λ e. omega (arith, e), λ e. omega (arith, h, e));
+      greater = (λ _. h, λ _. refl);
+    }
 
 -- The order of two numbers.
 pub order-less : (p q : ℕ) → p < q → orderOf p q ≡ OrderAnswer.Less
@@ -188,7 +197,7 @@ compare-refused : (x y : Fraction) (n : ℕ) → compareNumber x y ≡ suc n →
 unfolding compareAnswer compareBy
 compare-refused x y n e =
     let told : compareAnswer x y ≡ OrderAnswer.Refused (suc n) = ap (λ n. compareBy n x y) e in
-    rw told (record { answer = sym told; number = sym e; exact = λ z. absurd (none z e); refused = λ _. refl })
+    rw told (record { answer = sym told; number = sym e; exact = λ z. absurd (none z e) })
   where
     none : compareNumber x y ≡ 0 → compareNumber x y ≡ suc n → ⊥
     none z e = omega (arith, z, e)
@@ -223,11 +232,8 @@ compare-accepted x y e hx hy =
           (omega (arith, mul-lt-mul-of-pos-right hx hy))
           (scale-x m a ea)
           (scale-y m b eb);
-      refused = λ some. absurd (none some e);
     })
   where
-    none : 0 < compareNumber x y → compareNumber x y ≡ 0 → ⊥
-    none some e = omega (arith, some, e)
 
     scale-x : (m a : ℕ) → x .discarded * m ≡ a * x .judged → x .discarded * y .judged * m ≡ a * (x .judged * y .judged)
     scale-x m a e = omega (arith, ap (λ z. z * y .judged) e)

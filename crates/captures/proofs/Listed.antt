@@ -3,16 +3,16 @@
 use mathlib.Core.Path.{_≡_, refl, sym, ap, ap₂, _∙_}
 use mathlib.Core.List.{List, [], _∷_, map}
 use Prim.Native.Nat.{ℕ, zero, suc, _+_, _-_, _≤_, _<_, min, max, zero-le}
-use native.Mathlib.Nat.{zero-max, suc-max-suc, max-zero, min-eq-left, min-eq-right}
+use native.Mathlib.Nat.{zero-max, suc-max-suc, max-zero}
 use native.Mathlib.Numerals.{add-one}
 use native.Mathlib.Decide.{decLt}
 use native.Mathlib.Omega.{arith}
 use lib.ListN.{length, getD, take, drop, length-drop, drop-of-length-le, length-map, List·getD-map}
-use lib.Seq.{take-all, take-suc, drop-cons, drop-drop, drop-nil, getD-drop}
+use lib.Seq.{take-all, drop-cons, drop-drop, getD-drop}
 use Rattle.captures.specs.declared.Fraction.{Fraction}
 use Rattle.captures.specs.declared.FractionAnswer.{FractionAnswer}
 use Rattle.captures.specs.Logs.{heardAll, silent, counted, fractionOf, capped, logsIn}
-use Rattle.captures.specs.Fractions.{fraction, totalAnswer, logsAnswer, sumOf, fractionsIn}
+use Rattle.captures.specs.Fractions.{fraction, totalAnswer, logsAnswer, fractionsIn}
 use Rattle.captures.proofs.Counting.{heard-within}
 use Rattle.captures.proofs.Sums.{total-none, turn, capped-added}
 

@@ -1,22 +1,21 @@
 -- Sums of fractions: when they are refused, that lists may be joined in any order, and one turn of a loop that adds.
 -- Rests on specs/Fractions.antt and Counting.antt.
-use mathlib.Core.Path.{_≡_, refl, sym, ap, ap₂, _∙_, subst}
+use mathlib.Core.Path.{_≡_, refl, sym, ap, ap₂, _∙_}
 use mathlib.Core.Bool.{Bool, true, false, _||_, or-false, or-assoc, or-comm}
 use mathlib.Core.List.{List, [], _∷_, _++_, map, List·Permᴰ, List·Permᴰ·nil, List·Permᴰ·cons, List·Permᴰ·swap, List·Permᴰ·trans, List·Permᴰ·append-comm}
-use Prim.Native.Nat.{ℕ, zero, suc, _+_, _-_, _≤_, _<_, zero-le}
+use Prim.Native.Nat.{ℕ, suc, _+_, _-_, _≤_, _<_, zero-le}
 use native.Mathlib.Nat.{le-trans, lt-of-lt-of-le}
 use native.Mathlib.Omega.{arith}
 use lib.ListN.{length, getD, take, drop, take-append-drop}
 use lib.Seq.{take-suc}
 use lib.Dec.{ltb}
 use borrow.Author.Tests.{ltb-true, ltb-false, lt-ltb, le-ltb}
-use Rattle.rules.specs.Refusals.{first}
 use Rattle.rules.proofs.First.{first-none, first-here, first-later}
-use Rattle.rules.proofs.Booleans.{or-cases, or-first, or-second, or-split, or-neither, same-test}
+use Rattle.rules.proofs.Booleans.{or-first, or-split, or-neither}
 use Rattle.captures.specs.declared.Log.{Log}
 use Rattle.captures.specs.declared.Fraction.{Fraction}
 use Rattle.captures.specs.declared.FractionAnswer.{FractionAnswer}
-use Rattle.captures.specs.Logs.{counted, isFull, full, capped}
+use Rattle.captures.specs.Logs.{counted, isFull, full, capped, limit}
 use Rattle.captures.specs.Fractions.{fraction, beyond, someBeyond, fractionBy, fractionRefusals, fractionAnswer, plus, sumOf}
 use Rattle.captures.specs.Fractions.{totalRefusals, totalAnswer, joined}
 use Rattle.captures.proofs.Counting.{capped-full, capped-open}
@@ -25,28 +24,28 @@ use Rattle.captures.proofs.Counting.{capped-full, capped-open}
 
 -- What is not beyond is within both limits.
 pub record Within (x : Fraction) : Type 0 where
-  pub judged : x .judged ≤ 4000000000
+  pub judged : x .judged ≤ limit
   pub discarded : x .discarded ≤ x .judged
 
 pub within-is : (x : Fraction) → beyond x ≡ false → Within x
 unfolding beyond
 within-is x h =
-    let both = or-split (ltb 4000000000 (x .judged)) (ltb (x .judged) (x .discarded)) h in
-    record { judged = ltb-false 4000000000 (x .judged) (both .0); discarded = ltb-false (x .judged) (x .discarded) (both .1) }
+    let both = or-split (ltb limit (x .judged)) (ltb (x .judged) (x .discarded)) h in
+    record { judged = ltb-false limit (x .judged) (both .0); discarded = ltb-false (x .judged) (x .discarded) (both .1) }
 
 -- One number after the other.
-pub beyond-many : (x : Fraction) → 4000000000 < x .judged → beyond x ≡ true
+pub beyond-many : (x : Fraction) → limit < x .judged → beyond x ≡ true
 unfolding beyond
-beyond-many x h = or-first (ltb 4000000000 (x .judged)) (ltb (x .judged) (x .discarded)) (lt-ltb 4000000000 (x .judged) h)
+beyond-many x h = or-first (ltb limit (x .judged)) (ltb (x .judged) (x .discarded)) (lt-ltb limit (x .judged) h)
 
-pub beyond-few : (x : Fraction) → x .judged ≤ 4000000000 → beyond x ≡ ltb (x .judged) (x .discarded)
+pub beyond-few : (x : Fraction) → x .judged ≤ limit → beyond x ≡ ltb (x .judged) (x .discarded)
 unfolding beyond
-beyond-few x h = ap (λ b. b || ltb (x .judged) (x .discarded)) (le-ltb 4000000000 (x .judged) h)
+beyond-few x h = ap (λ b. b || ltb (x .judged) (x .discarded)) (le-ltb limit (x .judged) h)
 
 -- Where no more is discarded than judged, only the judged packets count.
-pub beyond-judged : (x : Fraction) → x .discarded ≤ x .judged → beyond x ≡ ltb 4000000000 (x .judged)
+pub beyond-judged : (x : Fraction) → x .discarded ≤ x .judged → beyond x ≡ ltb limit (x .judged)
 unfolding beyond
-beyond-judged x h = ap (λ b. ltb 4000000000 (x .judged) || b) (le-ltb (x .judged) (x .discarded) h) ∙ or-false (ltb 4000000000 (x .judged))
+beyond-judged x h = ap (λ b. ltb limit (x .judged) || b) (le-ltb (x .judged) (x .discarded) h) ∙ or-false (ltb limit (x .judged))
 
 -- The answer of a fraction.
 pub fraction-refused : (x : Fraction) → beyond x ≡ true → fractionAnswer x ≡ FractionAnswer.Refused 25
@@ -106,7 +105,7 @@ sum-within (x ∷ xs) h =
     omega (arith, here, rest)
 
 -- So the sum is beyond exactly if its judged packets are too many.
-amiss-judged : (xs : List Fraction) → someBeyond xs ≡ false → amiss xs ≡ ltb 4000000000 (sumOf xs .judged)
+amiss-judged : (xs : List Fraction) → someBeyond xs ≡ false → amiss xs ≡ ltb limit (sumOf xs .judged)
 unfolding amiss
 amiss-judged xs h = ap (λ b. b || beyond (sumOf xs)) h ∙ beyond-judged (sumOf xs) (sum-within xs h)
 
@@ -122,8 +121,8 @@ amiss-before xs ys h = by (someBeyond (xs ++ ys)) refl
     by true e = or-first (someBeyond (xs ++ ys)) (beyond (sumOf (xs ++ ys))) e
     by false e =
         let none : someBeyond xs ≡ false = or-split (someBeyond xs) (someBeyond ys) (sym (some-joined xs ys) ∙ e) .0 in
-        let many = ltb-true 4000000000 (sumOf xs .judged) (sym (amiss-judged xs none) ∙ h) in
-        amiss-judged (xs ++ ys) e ∙ lt-ltb 4000000000 (sumOf (xs ++ ys) .judged) (lt-of-lt-of-le many judged-grows)
+        let many = ltb-true limit (sumOf xs .judged) (sym (amiss-judged xs none) ∙ h) in
+        amiss-judged (xs ++ ys) e ∙ lt-ltb limit (sumOf (xs ++ ys) .judged) (lt-of-lt-of-le many judged-grows)
 
 -- ---- any order
 
@@ -273,11 +272,11 @@ front-refused xs i n e =
 -- Where no more is discarded than judged, a log is full exactly if its fraction is beyond.
 full-beyond : (l : Log) → l .discarded ≤ l .judged → isFull l ≡ beyond (counted l)
 unfolding isFull
-full-beyond l h = by (ltb 4000000000 (l .judged)) refl ∙ sym (beyond-judged (counted l) h)
+full-beyond l h = by (ltb limit (l .judged)) refl ∙ sym (beyond-judged (counted l) h)
   where
-    by : (b : Bool) → ltb 4000000000 (l .judged) ≡ b → ltb 4000000000 (l .judged) || ltb 4000000000 (l .discarded) ≡ ltb 4000000000 (l .judged)
+    by : (b : Bool) → ltb limit (l .judged) ≡ b → ltb limit (l .judged) || ltb limit (l .discarded) ≡ ltb limit (l .judged)
     by true e = rw e refl
-    by false e = rw e (le-ltb 4000000000 (l .discarded) (le-trans h (ltb-false 4000000000 (l .judged) e)))
+    by false e = rw e (le-ltb limit (l .discarded) (le-trans h (ltb-false limit (l .judged) e)))
 
 -- Its fraction, handed on or not, has the same answer,
 pub capped-answer : (l : Log) → l .discarded ≤ l .judged → fractionAnswer (counted (capped l)) ≡ fractionAnswer (counted l)

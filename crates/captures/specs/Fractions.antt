@@ -10,7 +10,7 @@ use Rattle.captures.specs.declared.Fraction.{Fraction}
 use Rattle.captures.specs.declared.FractionAnswer.{FractionAnswer}
 use Rattle.captures.specs.declared.WeightAnswer.{WeightAnswer}
 use Rattle.captures.specs.declared.OrderAnswer.{OrderAnswer}
-use Rattle.captures.specs.Logs.{fractionOf, logsIn}
+use Rattle.captures.specs.Logs.{fractionOf, limit}
 
 -- A fraction by its numbers.
 abbrev pub fraction : ℕ → ℕ → Fraction
@@ -24,7 +24,7 @@ unjudged x = eqb (x .judged) 0
 
 -- 25: judged packets above 4,000,000,000, or discarded above judged.
 unfoldable pub beyond : Fraction → Bool
-beyond x = ltb 4000000000 (x .judged) || ltb (x .judged) (x .discarded)
+beyond x = ltb limit (x .judged) || ltb (x .judged) (x .discarded)
 
 -- 25 applies to some fraction of a list.
 unfoldable pub someBeyond : List Fraction → Bool

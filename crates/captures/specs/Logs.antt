@@ -2,7 +2,7 @@
 -- Rests on the integers of the library; i8 in code is its ℤ.
 use mathlib.Core.Bool.{Bool, true, false, _&&_, _||_}
 use mathlib.Core.List.{List, [], _∷_}
-use Prim.Native.Nat.{ℕ, zero, suc, _+_, _-_, _%_}
+use Prim.Native.Nat.{ℕ, suc, _+_, _-_, _%_}
 use lib.IntN.{ℤ, pos, negℤ, _-ℤ_}
 use lib.Signed.{leZ, ltZ}
 use lib.Dec.{ltb}
@@ -57,15 +57,19 @@ counted l = record { discarded = l .discarded; judged = l .judged }
 abbrev pub fractionOf : List ℕ → Fraction
 fractionOf bs = counted (heardAll silent bs)
 
--- ---- a log in pieces: counting stops above four billion, since whatever follows the log is refused
+-- ---- a log in pieces: counting stops above the limit, since whatever follows the log is refused
 
--- A count is above four billion.
+-- The most packets judged in a fraction.
+abbrev pub limit : ℕ
+limit = 4000000000
+
+-- A count is above the limit.
 unfoldable pub isFull : Log → Bool
-isFull l = ltb 4000000000 (l .judged) || ltb 4000000000 (l .discarded)
+isFull l = ltb limit (l .judged) || ltb limit (l .discarded)
 
 -- A log that is too long, however it goes on.
 abbrev pub full : Log
-full = record { heard = true; last = 0; discarded = 0; judged = 4000000001 }
+full = record { heard = true; last = 0; discarded = 0; judged = limit + 1 }
 
 -- A log as it is handed on from piece to piece.
 unfoldable pub capped : Log → Log

@@ -10,13 +10,14 @@ use Rattle.captures.specs.declared.Fraction.{Fraction}
 use Rattle.captures.specs.declared.FractionAnswer.{FractionAnswer}
 use Rattle.captures.specs.declared.WeightAnswer.{WeightAnswer}
 use Rattle.captures.specs.declared.OrderAnswer.{OrderAnswer}
+use Rattle.captures.specs.Logs.{limit}
 use Rattle.captures.specs.Fractions.{logAnswer, logsAnswer, totalAnswer, weightNumber, weightAnswer, compareNumber, compareAnswer}
 use Rattle.captures.specs.Fractions.{fractionNumber, fractionTold, weightRefused, weightTold, orderRefused, orderTold}
 
 -- A LOG: it is refused exactly if it is too long, every packet but the first is judged, and no more are discarded.
 pub record LogCounted (bs : List ℕ) (r : FractionAnswer) : Type 0 where
   pub answer : r ≡ logAnswer bs
-  pub too-long : (fractionNumber r ≡ 25) ↔ (4000000001 < length bs)
+  pub too-long : (fractionNumber r ≡ 25) ↔ (limit + 1 < length bs)
   pub judged : fractionNumber r ≡ 0 → fractionTold r .judged ≡ length bs - 1
   pub discarded : fractionTold r .discarded ≤ fractionTold r .judged
 
@@ -50,4 +51,3 @@ pub record Compared (x y : Fraction) (r : OrderAnswer) : Type 0 where
   pub number : orderRefused r ≡ compareNumber x y
   pub exact : compareNumber x y ≡ 0
       → (m a b : ℕ) → 0 < m → x .discarded * m ≡ a * x .judged → y .discarded * m ≡ b * y .judged → Tells (orderTold r) a b
-  pub refused : (0 < compareNumber x y) → orderTold r ≡ 0

@@ -92,7 +92,7 @@ fn log_in(i: usize) -> Heard {
     let mut path = io::buffer();
     let n = os::arg(i, &mut path);
     if os::errno() != 0 {
-        os::fail(&path[..n]);
+        os::fail(b"the name of a log");
         return Heard::Unread;
     }
     let fd = os::open_read(&path[..n]);

@@ -1,14 +1,14 @@
 -- `compare` meets its contract: 24 over both, 25 over both, then two products that fit.
 -- Rests on Exact.antt.
 use mathlib.Core.Path.{_≡_, refl, sym, ap, _∙_, subst}
-use mathlib.Core.Bool.{true, false, _||_}
+use mathlib.Core.Bool.{true, _||_}
 use mathlib.Core.Logic.{inl, inr}
 use Prim.Native.Nat.{ℕ}
 use borrow.Author.Needs.{needs}
 use Rattle.rules.proofs.Booleans.{or-first, or-second, or-neither}
 use Rattle.captures.specs.declared.Fraction.{Fraction}
 use Rattle.captures.specs.declared.OrderAnswer.{OrderAnswer}
-use Rattle.captures.specs.Fractions.{unjudged, beyond, orderOf, compareNumber, compareBy, compareAnswer}
+use Rattle.captures.specs.Fractions.{unjudged, beyond, compareNumber, compareBy, compareAnswer}
 use Rattle.captures.specs.Promises.{Compared}
 use Rattle.captures.proofs.Exact.{product-fits, compare-24, compare-25, compare-0, compared}
 use Rattle.captures.proofs.fractions.compare.Statement.{statement}

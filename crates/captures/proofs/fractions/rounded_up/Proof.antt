@@ -2,7 +2,7 @@
 -- Rests on Exact.antt.
 use mathlib.Core.Path.{_≡_, refl}
 use mathlib.Core.Bool.{false}
-use Prim.Native.Nat.{_-_, _*_, _/_, _<_, _≤_}
+use Prim.Native.Nat.{_-_, _*_, _<_}
 use native.Mathlib.Omega.{arith}
 use Rattle.rules.specs.Rounding.{S}
 use Rattle.captures.specs.declared.Fraction.{Fraction}

@@ -1,7 +1,7 @@
 -- `hear` meets its contract: the first packet, a discarded one, an accepted one; a log that is not full has room for one more.
 -- Rests on Counting.antt.
 use mathlib.Core.Path.{_≡_, sym, _∙_}
-use mathlib.Core.Bool.{false, not}
+use mathlib.Core.Bool.{false}
 use Prim.Native.Nat.{_+_, _<_}
 use native.Mathlib.Omega.{arith}
 use borrow.Author.Needs.{needs}

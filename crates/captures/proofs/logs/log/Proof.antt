@@ -1,7 +1,6 @@
 -- `log` meets its contract: the log heard whole, and capped, has the answer of the log.
 -- Rests on Claims.antt and Sums.antt.
 use mathlib.Core.Path.{sym, ap, _∙_, subst}
-use Prim.Native.Nat.{zero-le}
 use borrow.Author.Needs.{needs}
 use Rattle.captures.specs.Logs.{heardAll, silent, counted}
 use Rattle.captures.specs.Fractions.{fractionAnswer}

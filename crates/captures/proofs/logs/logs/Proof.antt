@@ -1,11 +1,11 @@
 -- `logs` meets its contract. The loop's invariant: so far the first i logs are added, none was refused, and the next begins at `at`.
 -- Rests on Listed.antt and Sums.antt.
-use mathlib.Core.Path.{_≡_, refl, sym, ap, _∙_, subst}
+use mathlib.Core.Path.{_≡_, sym, ap, _∙_, subst}
 use mathlib.Core.List.{List, [], _∷_, map}
-use Prim.Native.Nat.{ℕ, _+_, _-_, _≤_, _<_, min}
+use Prim.Native.Nat.{ℕ, _+_, _-_, _≤_, min}
 use native.Mathlib.Omega.{arith}
 use borrow.Author.Needs.{needs}
-use lib.ListN.{length, getD, take, drop}
+use lib.ListN.{length, take, drop}
 use Rattle.captures.specs.declared.Log.{Log}
 use Rattle.captures.specs.declared.Fraction.{Fraction}
 use Rattle.captures.specs.declared.FractionAnswer.{FractionAnswer}

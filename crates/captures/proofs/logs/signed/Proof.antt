@@ -1,10 +1,10 @@
 -- Below 128 the byte as it is, else minus one less what is missing to 255.
-use mathlib.Core.Path.{_≡_, sym, ap, _∙_}
+use mathlib.Core.Path.{_≡_, sym, _∙_}
 use Prim.Native.Nat.{ℕ, _-_, _≤_, _<_}
 use native.Mathlib.Omega.{arith}
 use lib.IntN.{negsuc, _-ℤ_}
 use mir.Syntax.{w8}
-use mir.Val.{toZ, ofZ, SFits}
+use mir.Val.{toZ, ofZ}
 use mir.Facts.{toZ-pos, toZ-ofZ}
 use borrow.Author.Needs.{needs}
 use Rattle.captures.specs.Logs.{signed}
