@@ -84,8 +84,7 @@ lacks() {
     [ ! -s $made/output ] && [ "$(wc -l < $made/error)" = 1 ] && grep -qF -- "$1: " $made/error ||
         { echo "cue_weight does not say that $1 is lacking"; exit 1; }
 }
-# The samples, which the crate's own run has again.
-for log in monday tuesday; do cmp samples/$log.log crates/cue_weight/data/$log.log; done
+# The samples.
 weighs "4 240 16666667" samples/monday.log
 weighs "3 160 18750000" samples/tuesday.log
 weighs "7 400 17500000" samples/tuesday.log samples/monday.log

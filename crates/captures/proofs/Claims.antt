@@ -132,21 +132,21 @@ order-exact = compared
 
 -- ---- RULES 14.10: the refusals of each call, in their order.
 
-pub log-order : (x : Fraction) → numbersTried (fractionRefusals x) ≡ 25 ∷ []
+pub log-tries : (x : Fraction) → numbersTried (fractionRefusals x) ≡ 25 ∷ []
 unfolding fractionRefusals
-log-order x = refl
+log-tries x = refl
 
-pub total-order-of-refusals : (xs : List Fraction) → numbersTried (totalRefusals xs) ≡ 25 ∷ []
+pub sum-tries : (xs : List Fraction) → numbersTried (totalRefusals xs) ≡ 25 ∷ []
 unfolding totalRefusals
-total-order-of-refusals xs = refl
+sum-tries xs = refl
 
-pub weight-order : (x : Fraction) → numbersTried (weightRefusals x) ≡ 24 ∷ 25 ∷ []
+pub weight-tries : (x : Fraction) → numbersTried (weightRefusals x) ≡ 24 ∷ 25 ∷ []
 unfolding weightRefusals fractionRefusals
-weight-order x = refl
+weight-tries x = refl
 
-pub compare-order : (x y : Fraction) → numbersTried (compareRefusals x y) ≡ 24 ∷ 25 ∷ []
+pub compare-tries : (x y : Fraction) → numbersTried (compareRefusals x y) ≡ 24 ∷ 25 ∷ []
 unfolding compareRefusals
-compare-order x y = refl
+compare-tries x y = refl
 
 -- REFUSED, a fraction is 0 of 0, a weight 0 and a comparison 0.
 pub no-fraction : (a : FractionAnswer) → 0 < fractionNumber a → fractionTold a ≡ fraction 0 0

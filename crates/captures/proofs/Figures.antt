@@ -1,4 +1,4 @@
--- The figures of weights from captures (RULES 14.11): what logs, sums, weights and comparisons tell, as one list with one claim about it.
+-- The figures of weights from captures (RULES 14.13), D1 to D50: what logs, sums, weights and comparisons tell, as one list with one claim about it.
 -- The checker computes all of them from the definitions. They pin what the theorems leave open: which packet is the first that is judged, what is
 -- carried over, which refusal comes first. Rests on specs/ alone.
 use mathlib.Core.Path.{_≡_, refl}
@@ -92,56 +92,53 @@ pair last new = log (last ∷ new ∷ [])
 -- Each is a call with what it is to tell.
 abbrev figures : List Figure
 figures =
-    -- The request's four: from 10 a 10 and a 247 are discarded, a 246 is accepted; from 250 a 3 is accepted.
+    -- D1 to D4, the four that the rule is told by: from 10 a 10 and a 247 are discarded, a 246 is accepted; from 250 a 3 is accepted.
     counts (pair 10 10) 1 1
     ∷ counts (pair 10 247) 1 1
     ∷ counts (pair 10 246) 0 1
     ∷ counts (pair 250 3) 0 1
-    -- The ends of what is discarded, and of what eight bits are read as.
+    -- D5 to D10: the ends of what is discarded, and of what eight bits are read as.
     ∷ counts (pair 10 9) 1 1
     ∷ counts (pair 10 11) 0 1
     ∷ counts (pair 0 237) 1 1
     ∷ counts (pair 0 236) 0 1
     ∷ counts (pair 0 128) 0 1
     ∷ counts (pair 0 127) 0 1
-    -- A discarded number does not become the last, an accepted one does.
+    -- D11, D12: an accepted number becomes the last, a discarded one does not.
     ∷ counts (log (10 ∷ 247 ∷ 246 ∷ 246 ∷ [])) 2 3
     ∷ counts (log (1 ∷ 2 ∷ 3 ∷ 3 ∷ 2 ∷ 5 ∷ 250 ∷ 251 ∷ [])) 4 7
-    -- The first packet is not judged, and no number is carried over to the next log.
+    -- D13, D14: the first packet is not judged.
     ∷ counts (log (5 ∷ [])) 0 0
     ∷ counts (log []) 0 0
+    -- D15 to D18: several logs. The pair of sums is not reduced, and no number is carried over to the next log.
     ∷ counts (logs (2 ∷ 2 ∷ 0 ∷ []) (10 ∷ 10 ∷ 250 ∷ 3 ∷ [])) 1 2
-    ∷ counts (logs (1 ∷ 1 ∷ []) (10 ∷ 10 ∷ [])) 0 0
     ∷ counts (logs [] []) 0 0
-    -- The pair of sums is not reduced.
     ∷ counts (logs (2 ∷ 2 ∷ []) (10 ∷ 10 ∷ 10 ∷ 10 ∷ [])) 2 2
-    -- A log of which bytes are lacking has those that are there; bytes behind the last log are no log.
-    ∷ counts (logs (2 ∷ 9 ∷ 4 ∷ []) (10 ∷ 10 ∷ 7 ∷ 6 ∷ 8 ∷ [])) 2 3
-    ∷ counts (logs (2 ∷ []) (10 ∷ 10 ∷ 10 ∷ [])) 1 1
-    -- Sums: each fraction and the total are judged.
+    ∷ counts (logs (1 ∷ 1 ∷ []) (10 ∷ 10 ∷ [])) 0 0
+    -- D19 to D28: sums. Each fraction and the total are judged, and a number that one list lacks is 0.
     ∷ isBeyond (sum (1 ∷ 0 ∷ []) (4000000000 ∷ 1 ∷ []))
     ∷ isBeyond (sum (5 ∷ 0 ∷ []) (4 ∷ 10 ∷ []))
     ∷ counts (sum [] []) 0 0
     ∷ counts (sum (0 ∷ []) (0 ∷ [])) 0 0
     ∷ counts (sum (1 ∷ []) (4000000000 ∷ [])) 1 4000000000
     ∷ counts (sum (2 ∷ 1 ∷ []) (4 ∷ 2 ∷ [])) 3 6
-    ∷ isBeyond (sum (1 ∷ []) (0 ∷ []))
-    ∷ isBeyond (sum (18446744073709551615 ∷ 2 ∷ []) (18446744073709551615 ∷ 2 ∷ []))
-    -- A number that one list lacks is 0.
     ∷ isBeyond (sum (5 ∷ []) [])
     ∷ counts (sum [] (7 ∷ [])) 0 7
-    -- Weights are rounded up; 24 comes before 25.
+    ∷ isBeyond (sum (18446744073709551615 ∷ 2 ∷ []) (18446744073709551615 ∷ 2 ∷ []))
+    ∷ isBeyond (sum (1 ∷ []) (0 ∷ []))
+    -- D29 to D39: weights are rounded up, and 24 comes before 25.
     ∷ gives (weigh (fraction 1 3)) 333333334
     ∷ gives (weigh (fraction 2 3)) 666666667
     ∷ gives (weigh (fraction 0 5)) 0
     ∷ gives (weigh (fraction 3 3)) 1000000000
     ∷ gives (weigh (fraction 1 4000000000)) 1
+    ∷ gives (weigh (fraction 4000000000 4000000000)) 1000000000
     ∷ gives (weigh (fraction 3999999999 4000000000)) 1000000000
     ∷ refusedBy 24 (weigh (fraction 0 0))
     ∷ refusedBy 24 (weigh (fraction 1 0))
     ∷ refusedBy 25 (weigh (fraction 1 4000000001))
     ∷ refusedBy 25 (weigh (fraction 5 4))
-    -- Comparisons: 1 less, 2 equal, 3 greater; 24 over both comes before 25 over either.
+    -- D40 to D48: comparisons, 1 less, 2 equal, 3 greater; 24 over both comes before 25 over either.
     ∷ gives (compare (fraction 1 3) (fraction 2 6)) 2
     ∷ gives (compare (fraction 1 3) (fraction 333333333 1000000000)) 3
     ∷ gives (compare (fraction 3999999999 4000000000) (fraction 3999999998 3999999999)) 3
@@ -151,6 +148,9 @@ figures =
     ∷ refusedBy 24 (compare (fraction 0 0) (fraction 5 4))
     ∷ refusedBy 25 (compare (fraction 5 4) (fraction 1 2))
     ∷ refusedBy 25 (compare (fraction 1 2) (fraction 1 4000000001))
+    -- D49, D50: a log of which bytes are lacking has those that are there; bytes behind the last log are no log.
+    ∷ counts (logs (2 ∷ 9 ∷ 4 ∷ []) (10 ∷ 10 ∷ 7 ∷ 6 ∷ 8 ∷ [])) 2 3
+    ∷ counts (logs (2 ∷ []) (10 ∷ 10 ∷ 10 ∷ [])) 1 1
     ∷ []
 
 -- ALL OF THEM HOLD.

@@ -1,4 +1,4 @@
--- Fractions: their sums, weights and comparisons, with 24 and 25 in the order in which each call tries them (RULES 14.5 to 14.10).
+-- Fractions: their sums, weights and comparisons, with 24 and 25 in the order in which each call tries them (RULES 14.4 to 14.11).
 -- A fraction is the pair of its numbers, never reduced. Rests on Logs.antt and on `rules`, Refusals.
 use mathlib.Core.Bool.{Bool, true, false, _||_}
 use mathlib.Core.List.{List, [], _∷_, map}

@@ -1,4 +1,4 @@
--- A log: which packets are discarded, how many are judged (RULES 14.1 to 14.4).
+-- A log: which packets are discarded, how many are judged (RULES 14.1 to 14.5), and logs one behind the other (14.11).
 -- Rests on the integers of the library; i8 in code is its ℤ.
 use mathlib.Core.Bool.{Bool, true, false, _&&_, _||_}
 use mathlib.Core.List.{List, [], _∷_}

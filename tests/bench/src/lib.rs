@@ -6,6 +6,7 @@ pub mod clock;
 pub mod csv;
 pub mod formula;
 pub mod library;
+pub mod logs;
 pub mod run;
 pub mod sheet;
 pub mod sheets;

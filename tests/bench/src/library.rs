@@ -106,3 +106,23 @@ pub fn export(sheet: &[u8], space: &mut [u8]) -> Answer {
 pub mod other {
     build!("other_cue_sheet_report", "other_cue_open", "other_cue_run");
 }
+
+// Logs
+
+#[repr(C)]
+struct Fraction {
+    number: u64,
+    discarded: u64,
+    judged: u64,
+}
+
+extern "C" {
+    fn cue_log(log: *const u8, len: usize) -> Fraction;
+}
+
+/// The fraction of a log; none if it is refused.
+pub fn count(log: &[u8]) -> Option<(u64, u64)> {
+    // Sound: the log is lent for the call, with its length.
+    let answer = unsafe { cue_log(log.as_ptr(), log.len()) };
+    (answer.number == 0).then_some((answer.discarded, answer.judged))
+}

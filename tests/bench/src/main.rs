@@ -1,10 +1,10 @@
 //! Measures the library against the same rules and loops in Rust, on the same sheets: prints tables in markdown.
 //! Both sides alternate; a time is the median of the rounds. Every report, answer and tree has to be equal.
 //!
-//! `bench`: the tables. `bench texts`: the last of them, on comma separated text, with a third side, tuned and not in the library's loops.
-//! `bench stack`: the stack that the largest sheet needs.
+//! `bench`: the tables. `bench texts`: the one on comma separated text, with a third side, tuned and not in the library's loops.
+//! `bench logs`: the one on logs. `bench stack`: the stack that the largest sheet needs.
 //! `bench once SIDE FAMILY` or `bench once SIDE CALL`: one sheet or text, for a profiler. `bench beside`, if another build is linked: the
-//! tables for that and this one, without the last, since another build may have no calls on text.
+//! tables for that and this one, without the last two, since another build may have no calls on text or on logs.
 
 use std::array;
 use std::hint::black_box;
@@ -15,7 +15,7 @@ use bench::formula::Table;
 use bench::run::{self, Answer};
 use bench::sheets::Shape;
 use bench::tree::Tree;
-use bench::{clock, csv, library, sheet, sheets, texts};
+use bench::{clock, csv, library, logs, sheet, sheets, texts};
 
 #[cfg(beside)]
 mod beside;
@@ -264,6 +264,32 @@ fn text_table() {
     }
 }
 
+/// The packets of a log that is measured.
+const PACKETS: usize = 4_000_000;
+
+type Count = fn(&[u8]) -> Option<logs::Fraction>;
+
+/// Compares and measures the two sides on each log.
+fn log_table() {
+    let sides: [Count; 2] = [library::count, logs::count];
+    println!("\n| log of {PACKETS} packets | discarded | library, ns a packet | Rust, ns a packet | ratio |");
+    println!("|---|---|---|---|---|");
+    for (name, log) in logs::samples(PACKETS) {
+        let [ours, theirs] = sides.map(|count| count(&log));
+        assert_eq!(ours, theirs, "the fractions differ");
+        let Medians { times, ratios } = in_turn(sides, |count| {
+            let start = clock::now();
+            black_box(count(black_box(&log)));
+            (clock::now() - start).as_secs_f64() * 1e9 / PACKETS as f64
+        });
+        let (discarded, _) = ours.unwrap();
+        println!(
+            "| {name} | {discarded} | {:.2} | {:.2} | {:.2} |",
+            times[0], times[1], ratios[1]
+        );
+    }
+}
+
 type Heading = fn(&str);
 type Line = fn(&str, &Shape);
 
@@ -354,8 +380,10 @@ fn main() {
         [] => {
             tables(heading, line, pieces_heading, pieces_line);
             text_table();
+            log_table();
         }
         ["texts"] => text_table(),
+        ["logs"] => log_table(),
         #[cfg(beside)]
         ["beside"] => tables(
             beside::heading,
@@ -373,6 +401,6 @@ fn main() {
         }
         ["in-stack", name, bytes] => in_stack(name, bytes.parse().unwrap()),
         ["once", name, title] => io::stdout().write_all(&once(name, title)).unwrap(),
-        _ => panic!("usage: bench [texts | stack | once library|rust FAMILY|CALL | once tuned CALL | beside]"),
+        _ => panic!("usage: bench [texts | logs | stack | once library|rust FAMILY|CALL | once tuned CALL | beside]"),
     }
 }

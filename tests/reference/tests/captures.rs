@@ -5,6 +5,7 @@ use reference::captures::figures::{figures, Call};
 use reference::captures::{
     compare, cut, fractions, log, logs, repeats, weight, Fraction, AMISS, MOST_JUDGED, UNJUDGED,
 };
+use reference::files::{stored, stored_text};
 use reference::random::Random;
 use reference::S;
 
@@ -31,7 +32,7 @@ fn joined(one: Result<Fraction, u64>, other: Result<Fraction, u64>) -> Result<Fr
 #[test]
 fn every_figure() {
     let figures = figures();
-    assert_eq!(figures.len(), 48);
+    assert_eq!(figures.len(), 50);
     for (at, (name, call, answer)) in figures.into_iter().enumerate() {
         assert!(name.starts_with(&format!("D{}: ", at + 1)), "{name}");
         assert_eq!(call.answer(), answer, "{name}");
@@ -55,7 +56,7 @@ fn every_call_has_figures_and_every_refusal() {
     }
 }
 
-/// Whether a packet is discarded, as the request says it.
+/// Whether a packet is discarded, by eight bits read as signed.
 fn is_discarded(last: u8, new: u8) -> bool {
     let difference = new.wrapping_sub(last) as i8;
     difference <= 0 && difference > -20
@@ -121,7 +122,7 @@ fn logs_that_lack_bytes_and_bytes_that_are_left() {
     }
 }
 
-/// Refusals as the request has them, for the fractions that are compared or made a weight.
+/// Refusals in their order, for the fractions that are compared or made a weight.
 fn number(list: &[(u64, u64)]) -> u64 {
     let is_amiss = |&(discarded, judged): &(u64, u64)| judged > MOST_JUDGED || discarded > judged;
     match list {
@@ -259,5 +260,34 @@ fn lists_of_unequal_length() {
         assert_eq!(fractions(&discarded, &judged[..at]), answer);
         let answer = fractions(&without(&discarded), &judged);
         assert_eq!(fractions(&discarded[..at], &judged), answer);
+    }
+}
+
+/// The stored logs give what samples/README.md tells, and together the first weight of the stored show.
+#[test]
+fn the_samples() {
+    let (monday, tuesday) = (stored("samples/monday.log"), stored("samples/tuesday.log"));
+    assert_eq!(log(&monday), Ok(Fraction::new(4, 240)));
+    assert_eq!(log(&tuesday), Ok(Fraction::new(3, 160)));
+    let both = logs(&[&monday, &tuesday]).unwrap();
+    assert_eq!(both, Fraction::new(7, 400));
+    let text = stored_text("samples/show.csv");
+    let weights = text.lines().nth(1).unwrap();
+    let first: u64 = weights.split(',').nth(1).unwrap().parse().unwrap();
+    assert_eq!(weight(both), Ok(first));
+    let page = stored_text("samples/README.md");
+    for line in [
+        "# 4 240 16666667\n",
+        "# 3 160 18750000\n",
+        "# 7 400 17500000\n",
+    ] {
+        assert!(page.contains(line), "{line}");
+    }
+    for name in ["monday", "tuesday"] {
+        let sample = stored(&format!("samples/{name}.log"));
+        assert_eq!(
+            sample,
+            stored(&format!("crates/cue_weight/data/{name}.log"))
+        );
     }
 }

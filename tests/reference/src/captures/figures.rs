@@ -1,4 +1,4 @@
-//! Logs and fractions that are easy to get wrong, D1 to D48, each typed by hand with all that its call answers.
+//! Logs and fractions that are easy to get wrong, D1 to D50, each typed by hand with all that its call answers.
 
 use super::{compare, cut, fractions, log, logs, weight, Fraction, EQUAL, GREATER, LESS};
 use crate::S;
@@ -50,7 +50,7 @@ pub fn of_number(answer: Result<u64, u64>) -> Vec<u64> {
     }
 }
 
-/// D1 to D48.
+/// D1 to D50.
 pub fn figures() -> Vec<Figure> {
     [
         packets(),
@@ -59,11 +59,12 @@ pub fn figures() -> Vec<Figure> {
         weights(),
         comparisons(),
         refused_comparisons(),
+        cuts(),
     ]
     .concat()
 }
 
-/// Logs alone, the request's four first.
+/// Logs alone, first the four that the rule is told by.
 fn packets() -> Vec<Figure> {
     let log = |name, log: &[u8], discarded, judged| {
         let answer = vec![0, discarded, judged];
@@ -172,5 +173,17 @@ fn refused_comparisons() -> Vec<Figure> {
         compared("D46: 24 and 25", (0, 0), (5, 4), [24, 0]),
         compared("D47: the first amiss", (5, 4), (1, 2), [25, 0]),
         compared("D48: the second amiss", (1, 2), (1, LIMIT + 1), [25, 0]),
+    ]
+}
+
+/// Lengths that do not add up to the bytes: of the second log six are lacking and of the third all; one is left over.
+fn cuts() -> Vec<Figure> {
+    let logs = |name, lengths: &[u64], bytes: &[u8], discarded, judged| {
+        let answer = vec![0, discarded, judged];
+        (name, Call::Logs(bytes.to_vec(), lengths.to_vec()), answer)
+    };
+    vec![
+        logs("D49: bytes lacking", &[2, 9, 4], &[10, 10, 7, 6, 8], 2, 3),
+        logs("D50: a byte left over", &[2], &[10, 10, 10], 1, 1),
     ]
 }
