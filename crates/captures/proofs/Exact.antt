@@ -16,7 +16,7 @@ use Rattle.captures.specs.declared.WeightAnswer.{WeightAnswer}
 use Rattle.captures.specs.declared.OrderAnswer.{OrderAnswer}
 use Rattle.captures.specs.Fractions.{unjudged, beyond, fractionRefusals, weightOf, weightRefusals, weightNumber, weightBy, weightAnswer}
 use Rattle.captures.specs.Fractions.{orderOf, compareRefusals, compareNumber, compareBy, compareAnswer, orderRefused, orderTold}
-use Rattle.captures.specs.Promises.{Weighed, Tells, Compared}
+use Rattle.captures.specs.Promises.{Weighed, Tells, Over, Compared}
 use Rattle.captures.proofs.Sums.{within-is}
 
 -- What is not refused by 24 has a packet judged.
@@ -197,7 +197,7 @@ compare-refused : (x y : Fraction) (n : ℕ) → compareNumber x y ≡ suc n →
 unfolding compareAnswer compareBy
 compare-refused x y n e =
     let told : compareAnswer x y ≡ OrderAnswer.Refused (suc n) = ap (λ n. compareBy n x y) e in
-    rw told (record { answer = sym told; number = sym e; exact = λ z. absurd (none z e) })
+    rw told (record { answer = sym told; number = sym e; exact = λ z. absurd (none z e); common = λ z. absurd (none z e) })
   where
     none : compareNumber x y ≡ 0 → compareNumber x y ≡ suc n → ⊥
     none z e = omega (arith, z, e)
@@ -220,7 +220,7 @@ compare-accepted x y e hx hy =
     (record {
       answer = sym told;
       number = order-accepted (x .discarded * y .judged) (y .discarded * x .judged) ∙ sym e;
-      exact = λ _ m a b hm ea eb.
+      exact = λ _ m a b over.
           order-scaled
           (x .discarded * y .judged)
           (y .discarded * x .judged)
@@ -228,12 +228,18 @@ compare-accepted x y e hx hy =
           b
           m
           (x .judged * y .judged)
-          hm
-          (omega (arith, mul-lt-mul-of-pos-right hx hy))
-          (scale-x m a ea)
-          (scale-y m b eb);
+          (over .some)
+          positive
+          (scale-x m a (over .first))
+          (scale-y m b (over .second));
+      common = λ _. (x .judged * y .judged, x .discarded * y .judged, y .discarded * x .judged, whole);
     })
   where
+    positive : 0 < x .judged * y .judged
+    positive = omega (arith, mul-lt-mul-of-pos-right hx hy)
+
+    whole : Over x y (x .judged * y .judged) (x .discarded * y .judged) (y .discarded * x .judged)
+    whole = record { some = positive; first = omega arith; second = omega arith }
 
     scale-x : (m a : ℕ) → x .discarded * m ≡ a * x .judged → x .discarded * y .judged * m ≡ a * (x .judged * y .judged)
     scale-x m a e = omega (arith, ap (λ z. z * y .judged) e)

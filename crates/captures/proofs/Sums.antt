@@ -231,7 +231,9 @@ total-one x = by (beyond x) refl
 -- A list with a fraction that is beyond is refused whole.
 pub some-refused : (xs ys : List Fraction) (x : Fraction) → beyond x ≡ true → totalAnswer (xs ++ x ∷ ys) ≡ FractionAnswer.Refused 25
 unfolding amiss someBeyond
-some-refused xs ys x h = total-refused (xs ++ x ∷ ys) (amiss-behind xs (x ∷ ys) (or-first (beyond x || someBeyond ys) _ (or-first (beyond x) (someBeyond ys) h)))
+some-refused xs ys x h =
+    total-refused (xs ++ x ∷ ys)
+    (amiss-behind xs (x ∷ ys) (or-first (beyond x || someBeyond ys) _ (or-first (beyond x) (someBeyond ys) h)))
 
 -- A sum and one more fraction: the answers joined, or the two added.
 add-one-more : (s x : Fraction) → joined (FractionAnswer.Counted s) (fractionAnswer x) ≡ totalAnswer (s ∷ x ∷ [])

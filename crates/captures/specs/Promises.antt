@@ -45,9 +45,15 @@ pub record Tells (n a b : ℕ) : Type 0 where
   pub equal : (n ≡ 2) ↔ (a ≡ b)
   pub greater : (n ≡ 3) ↔ (b < a)
 
--- A COMPARISON: that of the rationals. Over whatever common denominator m both are whole, the one as a / m and the other as b / m, it is that of a and b.
+-- Both fractions are whole over a common denominator m, the one as a / m and the other as b / m.
+pub record Over (x y : Fraction) (m a b : ℕ) : Type 0 where
+  pub some : 0 < m
+  pub first : x .discarded * m ≡ a * x .judged
+  pub second : y .discarded * m ≡ b * y .judged
+
+-- A COMPARISON: that of the rationals. Over whatever common denominator both fractions are whole, it is that of their numerators; and there is such a one.
 pub record Compared (x y : Fraction) (r : OrderAnswer) : Type 0 where
   pub answer : r ≡ compareAnswer x y
   pub number : orderRefused r ≡ compareNumber x y
-  pub exact : compareNumber x y ≡ 0
-      → (m a b : ℕ) → 0 < m → x .discarded * m ≡ a * x .judged → y .discarded * m ≡ b * y .judged → Tells (orderTold r) a b
+  pub exact : compareNumber x y ≡ 0 → (m a b : ℕ) → Over x y m a b → Tells (orderTold r) a b
+  pub common : compareNumber x y ≡ 0 → (m : ℕ) × (a : ℕ) × (b : ℕ) × Over x y m a b
