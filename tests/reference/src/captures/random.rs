@@ -29,7 +29,7 @@ const SHAPES: [Shape; 5] = [
 const STEPS: [u8; 14] = [0, 1, 2, 19, 20, 21, 127, 128, 129, 235, 236, 237, 238, 255];
 
 /// Numbers of packets at the limits, and such as would be allowed if they were cut to 32 bits.
-const NUMBERS: [u64; 22] = [
+pub const NUMBERS: [u64; 22] = [
     0,
     1,
     2,

@@ -4,28 +4,10 @@
 use crate::bench::Bench;
 use crate::session::{Outcome, Session};
 use crate::step::Step;
+use reference::captures::random::NUMBERS;
 use reference::captures::{Fraction, AMISS, EQUAL, GREATER, LESS, MOST_JUDGED, UNJUDGED};
 use reference::random::Random;
 use reference::S;
-
-/// Numbers at the limits and far above.
-const EDGES: [u64; 15] = [
-    0,
-    1,
-    2,
-    MOST_JUDGED - 1,
-    MOST_JUDGED,
-    MOST_JUDGED + 1,
-    (1 << 32) - 1,
-    1 << 32,
-    (1 << 32) + 1,
-    (1 << 32) + 2,
-    (1 << 32) + MOST_JUDGED,
-    1 << 63,
-    (1 << 63) + 1,
-    u64::MAX - 1,
-    u64::MAX,
-];
 
 pub fn fractions(bench: &mut Bench) -> Outcome {
     bench.case("numbers at the edges", |session, _| edges(session))?;
@@ -56,8 +38,8 @@ fn drawn(random: &mut Random) -> Fraction {
 
 /// Every two of them as a fraction: alone as a sum, as a weight, and on both sides of a comparison.
 fn edges(session: &mut Session) -> Outcome {
-    for discarded in EDGES {
-        for judged in EDGES {
+    for discarded in NUMBERS {
+        for judged in NUMBERS {
             let fraction = of((discarded, judged));
             let is_amiss = judged > MOST_JUDGED || discarded > judged;
             session.make(Step::Fractions(vec![discarded], vec![judged]))?;
@@ -66,7 +48,7 @@ fn edges(session: &mut Session) -> Outcome {
             session.make(Step::Compare(fraction, fraction))?;
             let number = if judged == 0 { UNJUDGED } else { AMISS };
             session.make(Step::Answered(if is_amiss || judged == 0 { vec![number, 0] } else { vec![0, EQUAL] }))?;
-            for other in EDGES.map(|edge| of((1, edge))) {
+            for other in NUMBERS.map(|edge| of((1, edge))) {
                 session.make(Step::Compare(fraction, other))?;
                 session.make(Step::Compare(other, fraction))?;
             }
