@@ -78,7 +78,7 @@
  *    (cue_open reads none of them);
  *  - during the call nobody else uses what is not const, and it overlaps no other argument;
  *  - CUE_STACK bytes of stack are left. The stack is no part of what is proved; it is tested: each call on its largest
- *    input, in a thread with just so much.
+ *    input, a log and lists of a million elements, in a thread with just so much.
  * No call keeps a pointer, allocates, prints or locks. Calls at the same time on different trees and spaces are fine.
  *
  * REFUSALS
@@ -345,7 +345,8 @@ CueFraction cue_logs(const uint8_t *bytes, size_t n_bytes,
                      const uint64_t *lengths, size_t n_lengths);
 
 /* The sum of fractions, discarded[i] of judged[i]. There are as many as the longer list has, and a number that the
-   shorter one lacks is 0. No fraction at all has 0 of 0. Refusal 25, for any fraction and for the sums. */
+   shorter one lacks is 0. No fraction at all has 0 of 0. Refusal 25, for any fraction and for the sums. In whatever
+   order the fractions are given, the answer is the same. */
 CueFraction cue_fractions(const uint64_t *discarded, size_t n_discarded,
                           const uint64_t *judged, size_t n_judged);
 

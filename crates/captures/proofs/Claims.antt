@@ -17,12 +17,13 @@ use Rattle.captures.specs.declared.WeightAnswer.{WeightAnswer}
 use Rattle.captures.specs.declared.OrderAnswer.{OrderAnswer}
 use Rattle.captures.specs.Logs.{discards, heardAll, silent, counted, fractionOf, inPieces, limit}
 use Rattle.captures.specs.Fractions.{fraction, beyond, fractionRefusals, fractionAnswer, logAnswer, totalRefusals, totalAnswer, logsAnswer, joined}
-use Rattle.captures.specs.Fractions.{weightRefusals, weightAnswer, compareRefusals, compareAnswer, fractionNumber, fractionTold}
+use Rattle.captures.specs.Fractions.{weightRefusals, weightAnswer, compareRefusals, compareAnswer, fractionRefused, fractionTold}
 use Rattle.captures.specs.Fractions.{weightRefused, weightTold, orderRefused, orderTold}
 use Rattle.captures.specs.Promises.{LogCounted, LogsCounted, Added, Weighed, Compared}
 use Rattle.captures.proofs.Circle.{discards-exactly}
 use Rattle.captures.proofs.Counting.{heard-joined, heard-within, judged-is, pieces-capped, pieces-within}
-use Rattle.captures.proofs.Sums.{beyond-judged, fraction-refused, fraction-counted, total-order, map-order, total-joined, some-refused, capped-answer}
+use Rattle.captures.proofs.Sums.{beyond-judged, fraction-refused, fraction-counted, total-told}
+use Rattle.captures.proofs.Sums.{total-order, map-order, total-joined, some-refused, capped-answer}
 use Rattle.captures.proofs.Exact.{weighed, compared}
 
 -- ---- RULES 14.2: the numbers discarded after the last accepted one are that number and the 19 before it, on the circle of 256.
@@ -35,6 +36,7 @@ circle = discards-exactly
 pub all-judged : (bs : List ℕ) → fractionOf bs .judged ≡ length bs - 1
 all-judged = judged-is
 
+-- No more are discarded than judged.
 pub never-above : (bs : List ℕ) → fractionOf bs .discarded ≤ fractionOf bs .judged
 never-above bs = heard-within silent bs zero-le
 
@@ -93,11 +95,13 @@ log-counted bs = by (beyond (fractionOf bs)) refl
 -- ---- RULES 14.7: sums. In another order, whatever it is, the same fraction or refusal; so for two lists joined in the other order.
 
 pub fractions-any-order : (xs : List Fraction) → Added xs (totalAnswer xs)
-fractions-any-order xs = record { answer = refl; any-order = λ ys p. total-order p }
+fractions-any-order xs = record { answer = refl; number = total-told xs; any-order = λ ys p. total-order p }
 
+-- So for logs.
 pub logs-any-order : (ls : List (List ℕ)) → LogsCounted ls (logsAnswer ls)
-logs-any-order ls = record { answer = refl; any-order = λ ms p. total-order (map-order fractionOf p) }
+logs-any-order ls = record { answer = refl; number = total-told (map fractionOf ls); any-order = λ ms p. total-order (map-order fractionOf p) }
 
+-- And for two lists of logs, joined in either order.
 pub joined-either-way : (ls ms : List (List ℕ)) → logsAnswer (ls ++ ms) ≡ logsAnswer (ms ++ ls)
 joined-either-way ls ms = total-order (map-order fractionOf (List·Permᴰ·append-comm ls ms))
 
@@ -105,13 +109,15 @@ joined-either-way ls ms = total-order (map-order fractionOf (List·Permᴰ·appe
 pub fractions-joined : (xs ys : List Fraction) → totalAnswer (xs ++ ys) ≡ joined (totalAnswer xs) (totalAnswer ys)
 fractions-joined = total-joined
 
+-- So for logs.
 pub logs-joined : (ls ms : List (List ℕ)) → logsAnswer (ls ++ ms) ≡ joined (logsAnswer ls) (logsAnswer ms)
 logs-joined ls ms = ap totalAnswer (map-append fractionOf ls ms) ∙ total-joined (map fractionOf ls) (map fractionOf ms)
 
--- A list with a refused fraction is refused whole, and so is one with a refused log.
+-- A list with a refused fraction is refused whole.
 pub refused-whole : (xs ys : List Fraction) (x : Fraction) → beyond x ≡ true → totalAnswer (xs ++ x ∷ ys) ≡ FractionAnswer.Refused 25
 refused-whole = some-refused
 
+-- So is a list with a refused log.
 pub log-refused-whole : (ls ms : List (List ℕ)) (bs : List ℕ) → limit + 1 < length bs → logsAnswer (ls ++ bs ∷ ms) ≡ FractionAnswer.Refused 25
 log-refused-whole ls ms bs h =
     ap totalAnswer (map-append fractionOf ls (bs ∷ ms))
@@ -148,15 +154,17 @@ pub compare-tries : (x y : Fraction) → numbersTried (compareRefusals x y) ≡ 
 unfolding compareRefusals
 compare-tries x y = refl
 
--- REFUSED, a fraction is 0 of 0, a weight 0 and a comparison 0.
-pub no-fraction : (a : FractionAnswer) → 0 < fractionNumber a → fractionTold a ≡ fraction 0 0
+-- REFUSED, a fraction is 0 of 0.
+pub no-fraction : (a : FractionAnswer) → 0 < fractionRefused a → fractionTold a ≡ fraction 0 0
 no-fraction (FractionAnswer.Counted x) h = absurd (lt-irrefl 0 h)
 no-fraction (FractionAnswer.Refused n) h = refl
 
+-- A weight is 0.
 pub no-weight : (a : WeightAnswer) → 0 < weightRefused a → weightTold a ≡ 0
 no-weight (WeightAnswer.Weight w) h = absurd (lt-irrefl 0 h)
 no-weight (WeightAnswer.Refused n) h = refl
 
+-- A comparison is 0.
 pub no-order : (a : OrderAnswer) → 0 < orderRefused a → orderTold a ≡ 0
 no-order OrderAnswer.Less h = absurd (lt-irrefl 0 h)
 no-order OrderAnswer.Equal h = absurd (lt-irrefl 0 h)

@@ -17,16 +17,18 @@ use Rattle.captures.specs.Logs.{discards, afterDiscarded, afterAccepted,
 
 -- ---- one packet
 
--- The first of its log, one that is discarded, one that is accepted. In code one more is + 1.
+-- The first packet of its log.
 pub hear-first : (l : Log) (new : ℕ) → l .heard ≡ false → hear l new ≡ afterFirst l new
 unfolding hear
 hear-first l new h = rw (h, hear) refl
 
+-- One that is discarded. In code one more is + 1.
 pub hear-discarded : (l : Log) (new : ℕ) → l .heard ≡ true → discards (l .last) new ≡ true
     → hear l new ≡ record { heard = true; last = l .last; discarded = l .discarded + 1; judged = l .judged + 1 }
 unfolding hear
 hear-discarded l new h e = rw (h, e, hear) (simp unary-clauses refl)
 
+-- One that is accepted.
 pub hear-accepted : (l : Log) (new : ℕ) → l .heard ≡ true → discards (l .last) new ≡ false
     → hear l new ≡ record { heard = true; last = new; discarded = l .discarded; judged = l .judged + 1 }
 unfolding hear
@@ -93,11 +95,12 @@ pub heard-next : (l : Log) (bs : List ℕ) (i : ℕ) → i < length bs → heard
 unfolding heardAll
 heard-next l bs i h = ap (heardAll l) (take-suc bs i 0 h) ∙ sym (heard-joined l (take i bs) (getD bs i 0 ∷ []))
 
--- So for a log s that has heard the first i packets; at the end it has heard them all.
+-- So for a log s that has heard the first i packets.
 pub heard-again : (l s : Log) (bs : List ℕ) (i : ℕ) → i < length bs → s ≡ heardAll l (take i bs) → hear s (getD bs i 0) ≡ heardAll l (take (i + 1) bs)
 heard-again l s bs i h e =
     ap (λ x. hear x (getD bs i 0)) e ∙ sym (ap (λ k. heardAll l (take k bs)) (add-one i) ∙ heard-next l bs i h)
 
+-- At the end it has heard them all.
 pub heard-ended : (l s : Log) (bs : List ℕ) (i : ℕ) → length bs ≤ i → s ≡ heardAll l (take i bs) → s ≡ heardAll l bs
 heard-ended l s bs i h e = e ∙ ap (heardAll l) (take-all i bs h)
 
@@ -131,11 +134,12 @@ judged-is (new ∷ bs) = heard-judged (hear silent new) bs refl ∙ omega arith
 
 -- ---- a log that is too long
 
--- One count after the other.
+-- Too many judged: full, whatever is discarded.
 pub full-judged : (l : Log) → limit < l .judged → isFull l ≡ true
 unfolding isFull
 full-judged l h = or-first (ltb limit (l .judged)) (ltb limit (l .discarded)) (lt-ltb limit (l .judged) h)
 
+-- Not so many judged: by what is discarded.
 pub full-discarded : (l : Log) → l .judged ≤ limit → isFull l ≡ ltb limit (l .discarded)
 unfolding isFull
 full-discarded l h = ap (λ b. b || ltb limit (l .discarded)) (le-ltb limit (l .judged) h)
@@ -167,11 +171,12 @@ not-full l h =
     let both = or-split (ltb limit (l .judged)) (ltb limit (l .discarded)) h in
     (ltb-false limit (l .judged) (both .0), ltb-false limit (l .discarded) (both .1))
 
--- A full log is handed on as `full`, any other as it is.
+-- A full log is handed on as `full`.
 pub capped-full : (l : Log) → isFull l ≡ true → capped l ≡ full
 unfolding capped
 capped-full l h = rw (h, capped) refl
 
+-- Any other log is handed on as it is.
 pub capped-open : (l : Log) → isFull l ≡ false → capped l ≡ l
 unfolding capped
 capped-open l h = rw (h, capped) refl
@@ -214,6 +219,7 @@ capped-within l h = by (isFull l) refl
     by true e = rw (capped-full l e) (zero-le)
     by false e = rw (capped-open l e) h
 
+-- So does every piece.
 pub pieces-within : (l : Log) (ps : List (List ℕ)) → l .discarded ≤ l .judged → inPieces l ps .discarded ≤ inPieces l ps .judged
 unfolding inPieces
 pieces-within l [] h = h

@@ -72,10 +72,11 @@ pub weight-bound : (x : Fraction) → 0 < x .judged → x .discarded ≤ x .judg
 unfolding weightOf
 weight-bound x some h = up-smallest (x .discarded * S) (x .judged) S some (omega (arith, h))
 
--- Numbers of an accepted fraction and the products that code makes of them fit a word.
+-- What a weight is divided from fits a word.
 pub weight-fits : (x : Fraction) → beyond x ≡ false → x .discarded * S + (x .judged - 1) < 18446744073709551616
 weight-fits x k = omega (arith, within-is x k)
 
+-- So does either product of a comparison.
 pub product-fits : (x y : Fraction) → beyond x ≡ false → beyond y ≡ false → x .discarded * y .judged < 18446744073709551616
 product-fits x y hx hy =
     let wx = within-is x hx in
@@ -118,7 +119,7 @@ weighed x = by (unjudged x) (beyond x) refl refl
 
 -- ---- comparisons
 
--- A number that is less than another, equal to it, greater.
+-- A number that is less than another is told as 1.
 tells-less : (a b : ℕ) → a < b → Tells 1 a b
 tells-less a b h =
     record {
@@ -127,6 +128,7 @@ tells-less a b h =
       greater = (λ e. omega (arith, e), λ k. omega (arith, h, k));
     }
 
+-- An equal one as 2.
 tells-equal : (a b : ℕ) → a ≡ b → Tells 2 a b
 tells-equal a b h =
     record {
@@ -135,6 +137,7 @@ tells-equal a b h =
       greater = (λ e. omega (arith, e), λ k. omega (arith, h, k));
     }
 
+-- A greater one as 3.
 tells-greater : (a b : ℕ) → b < a → Tells 3 a b
 tells-greater a b h =
     record {
@@ -143,15 +146,17 @@ tells-greater a b h =
       greater = (λ _. h, λ _. refl);
     }
 
--- The order of two numbers.
+-- The first of two numbers is less.
 pub order-less : (p q : ℕ) → p < q → orderOf p q ≡ OrderAnswer.Less
 unfolding orderOf
 order-less p q h = rw (lt-ltb p q h, orderOf) refl
 
+-- Neither is.
 pub order-equal : (p q : ℕ) → q ≤ p → p ≤ q → orderOf p q ≡ OrderAnswer.Equal
 unfolding orderOf
 order-equal p q h k = rw (le-ltb p q h, le-ltb q p k, orderOf) refl
 
+-- The second is.
 pub order-greater : (p q : ℕ) → q < p → orderOf p q ≡ OrderAnswer.Greater
 unfolding orderOf
 order-greater p q h = rw (le-ltb p q (omega (arith, h)), lt-ltb q p h, orderOf) refl

@@ -16,15 +16,15 @@ use Rattle.captures.specs.Logs
 use Rattle.captures.specs.Fractions
 use Rattle.captures.specs.Logs.{logsIn}
 use Rattle.captures.specs.Fractions.{fraction, logAnswer, logsAnswer, totalAnswer, fractionsIn, weightAnswer, compareAnswer}
-use Rattle.captures.specs.Fractions.{fractionNumber, fractionTold, weightRefused, weightTold, orderRefused, orderTold}
+use Rattle.captures.specs.Fractions.{fractionRefused, fractionTold, weightRefused, weightTold, orderRefused, orderTold}
 
 -- What the checker computes with.
 unfoldable of-captures : Unit {0}
 unfolding Refusals.first Sheet.sameNumbers Logs.difference Logs.signed Logs.discards Logs.hear Logs.heardAll Logs.logsIn Fractions.unjudged
     Fractions.beyond Fractions.someBeyond Fractions.fractionBy Fractions.fractionRefusals Fractions.fractionAnswer Fractions.sumOf
-    Fractions.totalRefusals Fractions.totalAnswer Fractions.fractionsIn Fractions.weightOf Fractions.weightRefusals Fractions.weightNumber
-    Fractions.weightBy Fractions.weightAnswer Fractions.orderOf Fractions.compareRefusals Fractions.compareNumber Fractions.compareBy
-    Fractions.compareAnswer
+    Fractions.totalRefusals Fractions.totalNumber Fractions.totalAnswer Fractions.fractionsIn Fractions.weightOf Fractions.weightRefusals
+    Fractions.weightNumber Fractions.weightBy Fractions.weightAnswer Fractions.orderOf Fractions.compareRefusals Fractions.compareNumber
+    Fractions.compareBy Fractions.compareAnswer
 of-captures = tt
 
 -- ---- the form of a figure
@@ -39,7 +39,7 @@ pub data CaptureCall : Type 0 where
 
 -- The numbers that a fraction's answer tells.
 abbrev fractionNumbers : FractionAnswer → List ℕ
-fractionNumbers a = fractionNumber a ∷ fractionTold a .discarded ∷ fractionTold a .judged ∷ []
+fractionNumbers a = fractionRefused a ∷ fractionTold a .discarded ∷ fractionTold a .judged ∷ []
 
 -- Those of a weight's.
 abbrev weightNumbers : WeightAnswer → List ℕ

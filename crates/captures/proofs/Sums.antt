@@ -3,7 +3,7 @@
 use mathlib.Core.Path.{_≡_, refl, sym, ap, ap₂, _∙_}
 use mathlib.Core.Bool.{Bool, true, false, _||_, or-false, or-assoc, or-comm}
 use mathlib.Core.List.{List, [], _∷_, _++_, map, List·Permᴰ, List·Permᴰ·nil, List·Permᴰ·cons, List·Permᴰ·swap, List·Permᴰ·trans, List·Permᴰ·append-comm}
-use Prim.Native.Nat.{ℕ, suc, _+_, _-_, _≤_, _<_, zero-le}
+use Prim.Native.Nat.{ℕ, zero, suc, _+_, _-_, _≤_, _<_, zero-le}
 use native.Mathlib.Nat.{le-trans, lt-of-lt-of-le}
 use native.Mathlib.Omega.{arith}
 use lib.ListN.{length, getD, take, drop, take-append-drop}
@@ -17,7 +17,7 @@ use Rattle.captures.specs.declared.Fraction.{Fraction}
 use Rattle.captures.specs.declared.FractionAnswer.{FractionAnswer}
 use Rattle.captures.specs.Logs.{counted, isFull, full, capped, limit}
 use Rattle.captures.specs.Fractions.{fraction, beyond, someBeyond, fractionBy, fractionRefusals, fractionAnswer, plus, sumOf}
-use Rattle.captures.specs.Fractions.{totalRefusals, totalAnswer, joined}
+use Rattle.captures.specs.Fractions.{totalRefusals, totalNumber, totalAnswer, joined, fractionRefused}
 use Rattle.captures.proofs.Counting.{capped-full, capped-open}
 
 -- ---- 25 for a fraction
@@ -27,17 +27,19 @@ pub record Within (x : Fraction) : Type 0 where
   pub judged : x .judged ≤ limit
   pub discarded : x .discarded ≤ x .judged
 
+-- So it is.
 pub within-is : (x : Fraction) → beyond x ≡ false → Within x
 unfolding beyond
 within-is x h =
     let both = or-split (ltb limit (x .judged)) (ltb (x .judged) (x .discarded)) h in
     record { judged = ltb-false limit (x .judged) (both .0); discarded = ltb-false (x .judged) (x .discarded) (both .1) }
 
--- One number after the other.
+-- Too many judged are beyond whatever is discarded.
 pub beyond-many : (x : Fraction) → limit < x .judged → beyond x ≡ true
 unfolding beyond
 beyond-many x h = or-first (ltb limit (x .judged)) (ltb (x .judged) (x .discarded)) (lt-ltb limit (x .judged) h)
 
+-- Of fewer the discarded packets decide.
 pub beyond-few : (x : Fraction) → x .judged ≤ limit → beyond x ≡ ltb (x .judged) (x .discarded)
 unfolding beyond
 beyond-few x h = ap (λ b. b || ltb (x .judged) (x .discarded)) (le-ltb limit (x .judged) h)
@@ -47,14 +49,21 @@ pub beyond-judged : (x : Fraction) → x .discarded ≤ x .judged → beyond x �
 unfolding beyond
 beyond-judged x h = ap (λ b. ltb limit (x .judged) || b) (le-ltb (x .judged) (x .discarded) h) ∙ or-false (ltb limit (x .judged))
 
--- The answer of a fraction.
+-- The answer of a fraction that is beyond.
 pub fraction-refused : (x : Fraction) → beyond x ≡ true → fractionAnswer x ≡ FractionAnswer.Refused 25
 unfolding fractionAnswer fractionRefusals fractionBy
 fraction-refused x h = ap (λ n. fractionBy n x) (first-here (record { number = 25; applies = beyond x }) [] h)
 
+-- And of one that is not.
 pub fraction-counted : (x : Fraction) → beyond x ≡ false → fractionAnswer x ≡ FractionAnswer.Counted x
 unfolding fractionAnswer fractionRefusals fractionBy
 fraction-counted x h = ap (λ n. fractionBy n x) (first-later (record { number = 25; applies = beyond x }) [] h ∙ first-none)
+
+-- By whatever number, the answer tells it.
+fraction-told : (n : ℕ) (x : Fraction) → fractionRefused (fractionBy n x) ≡ n
+unfolding fractionBy
+fraction-told zero x = refl
+fraction-told (suc n) x = refl
 
 -- ---- 25 for a list
 
@@ -62,13 +71,14 @@ fraction-counted x h = ap (λ n. fractionBy n x) (first-later (record { number =
 unfoldable pub amiss : List Fraction → Bool
 amiss xs = someBeyond xs || beyond (sumOf xs)
 
--- The answer of a sum.
+-- The answer of a sum of which one is.
 pub total-refused : (xs : List Fraction) → amiss xs ≡ true → totalAnswer xs ≡ FractionAnswer.Refused 25
-unfolding totalAnswer totalRefusals fractionBy amiss
+unfolding totalAnswer totalNumber totalRefusals fractionBy amiss
 total-refused xs h = ap (λ n. fractionBy n (sumOf xs)) (first-here (record { number = 25; applies = amiss xs }) [] h)
 
+-- None of them is: the sum.
 pub total-counted : (xs : List Fraction) → amiss xs ≡ false → totalAnswer xs ≡ FractionAnswer.Counted (sumOf xs)
-unfolding totalAnswer totalRefusals fractionBy amiss
+unfolding totalAnswer totalNumber totalRefusals fractionBy amiss
 total-counted xs h = ap (λ n. fractionBy n (sumOf xs)) (first-later (record { number = 25; applies = amiss xs }) [] h ∙ first-none)
 
 -- Two lists that are amiss alike and have the same sum have the same answer.
@@ -78,6 +88,11 @@ total-alike xs ys e s = by (amiss xs) refl
     by : (b : Bool) → amiss xs ≡ b → totalAnswer xs ≡ totalAnswer ys
     by true h = total-refused xs h ∙ sym (total-refused ys (sym e ∙ h))
     by false h = total-counted xs h ∙ ap FractionAnswer.Counted s ∙ sym (total-counted ys (sym e ∙ h))
+
+-- The answer tells the number.
+pub total-told : (xs : List Fraction) → fractionRefused (totalAnswer xs) ≡ totalNumber xs
+unfolding totalAnswer
+total-told xs = fraction-told (totalNumber xs) (sumOf xs)
 
 -- ---- lists joined
 
@@ -151,6 +166,7 @@ sum-order (List·Permᴰ·swap {a} {b} {l = l} e f) =
     plus-swap x y z = ap₂ fraction (omega arith) (omega arith)
 sum-order (List·Permᴰ·trans p q) = sum-order p ∙ sum-order q
 
+-- So what is amiss stays so.
 amiss-order : {xs ys : List Fraction} → List·Permᴰ xs ys → amiss xs ≡ amiss ys
 unfolding amiss
 amiss-order p = ap₂ (λ a x. a || beyond x) (some-order p) (sum-order p)

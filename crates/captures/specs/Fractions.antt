@@ -65,9 +65,13 @@ sumOf (x ∷ xs) = plus x (sumOf xs)
 unfoldable pub totalRefusals : List Fraction → List Refusal
 totalRefusals xs = refusal 25 (someBeyond xs || beyond (sumOf xs)) ∷ []
 
+-- The number of a sum.
+unfoldable pub totalNumber : List Fraction → ℕ
+totalNumber xs = first (totalRefusals xs)
+
 -- The answer of a sum.
 unfoldable pub totalAnswer : List Fraction → FractionAnswer
-totalAnswer xs = fractionBy (first (totalRefusals xs)) (sumOf xs)
+totalAnswer xs = fractionBy (totalNumber xs) (sumOf xs)
 
 -- The answer of several logs of a node.
 abbrev pub logsAnswer : List (List ℕ) → FractionAnswer
@@ -137,9 +141,9 @@ compareAnswer x y = compareBy (compareNumber x y) x y
 -- ---- what each answer tells (RULES 14.10): the number, 0 if accepted; and refused, 0 of 0, weight 0, comparison 0
 
 -- The number of a fraction's answer.
-abbrev pub fractionNumber : FractionAnswer → ℕ
-fractionNumber (FractionAnswer.Counted x) = 0
-fractionNumber (FractionAnswer.Refused n) = n
+abbrev pub fractionRefused : FractionAnswer → ℕ
+fractionRefused (FractionAnswer.Counted x) = 0
+fractionRefused (FractionAnswer.Refused n) = n
 
 -- Its fraction.
 abbrev pub fractionTold : FractionAnswer → Fraction

@@ -10,6 +10,10 @@ use lib.ListN.{take, drop}
 use Rattle.captures.specs.declared.Log.{Log}
 use Rattle.captures.specs.declared.Fraction.{Fraction}
 
+-- The most packets judged in a fraction (RULES 14.6).
+abbrev pub limit : ℕ
+limit = 4000000000
+
 -- The last accepted number subtracted from the new one, on eight bits.
 unfoldable pub difference : ℕ → ℕ → ℕ
 difference last new = (new + 256 - last) % 256
@@ -57,11 +61,7 @@ counted l = record { discarded = l .discarded; judged = l .judged }
 abbrev pub fractionOf : List ℕ → Fraction
 fractionOf bs = counted (heardAll silent bs)
 
--- ---- a log in pieces: counting stops above the limit, since whatever follows the log is refused
-
--- The most packets judged in a fraction.
-abbrev pub limit : ℕ
-limit = 4000000000
+-- ---- a log in pieces: counting stops above the limit, since the log is refused whatever follows
 
 -- A count is above the limit.
 unfoldable pub isFull : Log → Bool

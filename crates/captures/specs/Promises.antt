@@ -1,7 +1,7 @@
 -- What each call promises, for any bytes and any numbers, whether it is refused or not.
 -- Rests on Logs.antt and Fractions.antt; proofs/Claims.antt shows that the answers defined there keep these promises.
 use mathlib.Core.Path.{_≡_}
-use mathlib.Core.List.{List, List·Permᴰ}
+use mathlib.Core.List.{List, map, List·Permᴰ}
 use mathlib.Core.Logic.{_↔_}
 use Prim.Native.Nat.{ℕ, _+_, _-_, _*_, _≤_, _<_}
 use lib.ListN.{length}
@@ -10,25 +10,27 @@ use Rattle.captures.specs.declared.Fraction.{Fraction}
 use Rattle.captures.specs.declared.FractionAnswer.{FractionAnswer}
 use Rattle.captures.specs.declared.WeightAnswer.{WeightAnswer}
 use Rattle.captures.specs.declared.OrderAnswer.{OrderAnswer}
-use Rattle.captures.specs.Logs.{limit}
-use Rattle.captures.specs.Fractions.{logAnswer, logsAnswer, totalAnswer, weightNumber, weightAnswer, compareNumber, compareAnswer}
-use Rattle.captures.specs.Fractions.{fractionNumber, fractionTold, weightRefused, weightTold, orderRefused, orderTold}
+use Rattle.captures.specs.Logs.{fractionOf, limit}
+use Rattle.captures.specs.Fractions.{logAnswer, logsAnswer, totalNumber, totalAnswer, weightNumber, weightAnswer, compareNumber, compareAnswer}
+use Rattle.captures.specs.Fractions.{fractionRefused, fractionTold, weightRefused, weightTold, orderRefused, orderTold}
 
 -- A LOG: it is refused exactly if it is too long, every packet but the first is judged, and no more are discarded.
 pub record LogCounted (bs : List ℕ) (r : FractionAnswer) : Type 0 where
   pub answer : r ≡ logAnswer bs
-  pub too-long : (fractionNumber r ≡ 25) ↔ (limit + 1 < length bs)
-  pub judged : fractionNumber r ≡ 0 → fractionTold r .judged ≡ length bs - 1
+  pub too-long : (fractionRefused r ≡ 25) ↔ (limit + 1 < length bs)
+  pub judged : fractionRefused r ≡ 0 → fractionTold r .judged ≡ length bs - 1
   pub discarded : fractionTold r .discarded ≤ fractionTold r .judged
 
 -- SEVERAL LOGS: in every order the answer is the same.
 pub record LogsCounted (ls : List (List ℕ)) (r : FractionAnswer) : Type 0 where
   pub answer : r ≡ logsAnswer ls
+  pub number : fractionRefused r ≡ totalNumber (map fractionOf ls)
   pub any-order : (ms : List (List ℕ)) → List·Permᴰ ls ms → r ≡ logsAnswer ms
 
 -- A SUM of fractions: likewise.
 pub record Added (xs : List Fraction) (r : FractionAnswer) : Type 0 where
   pub answer : r ≡ totalAnswer xs
+  pub number : fractionRefused r ≡ totalNumber xs
   pub any-order : (ys : List Fraction) → List·Permᴰ xs ys → r ≡ totalAnswer ys
 
 -- A WEIGHT: at most S, and of all whole numbers of billionths that are not below the fraction it is the smallest.

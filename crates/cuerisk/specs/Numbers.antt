@@ -23,7 +23,7 @@ use Rattle.csv.specs.Calls.{importReply}
 use Rattle.captures.specs.declared.FractionAnswer.{FractionAnswer}
 use Rattle.captures.specs.declared.WeightAnswer.{WeightAnswer}
 use Rattle.captures.specs.declared.OrderAnswer.{OrderAnswer}
-use Rattle.captures.specs.Fractions.{fractionNumber, fractionTold, weightRefused, weightTold, orderRefused, orderTold}
+use Rattle.captures.specs.Fractions.{fractionRefused, fractionTold, weightRefused, weightTold, orderRefused, orderTold}
 use Rattle.sheet.specs.Handed.{sized}
 use Rattle.cuerisk.specs.declared.CueAnswer.{CueAnswer}
 use Rattle.cuerisk.specs.declared.CueSpot.{CueSpot}
@@ -118,7 +118,7 @@ flatEntry a =
 
 -- The answer of a log, of several, and of a sum of fractions; refused, 0 of 0.
 abbrev pub flatFraction : FractionAnswer → CueFraction
-flatFraction a = record { number = fractionNumber a; discarded = fractionTold a .discarded; judged = fractionTold a .judged }
+flatFraction a = record { number = fractionRefused a; discarded = fractionTold a .discarded; judged = fractionTold a .judged }
 
 -- The answer of making a weight; refused, 0.
 abbrev pub flatWeight : WeightAnswer → CueWeight

@@ -28,10 +28,11 @@ returns-2 c =
     let s = c .before .before .before .before in
     sym (some-refused (s .args .x ∷ []) [] (s .args .y) (sym (c .before .is-beyond2 .ensures) ∙ c .if2 .taken))
 
--- Two numbers of fractions that are not beyond have a sum that fits.
+-- The discarded packets of two fractions that are not beyond have a sum that fits.
 discarded-fits : (x y : Fraction) → beyond x ≡ false → beyond y ≡ false → x .discarded + y .discarded < 18446744073709551616
 discarded-fits x y hx hy = omega (arith, within-is x hx, within-is y hy)
 
+-- So have the judged ones.
 judged-fits : (x y : Fraction) → beyond x ≡ false → beyond y ≡ false → x .judged + y .judged < 18446744073709551616
 judged-fits x y hx hy = omega (arith, within-is x hx, within-is y hy)
 

@@ -12,10 +12,11 @@ use Rattle.captures.proofs.Counting.{hear-first, hear-discarded, hear-a
 use Rattle.captures.proofs.logs.hear.Statement.{statement}
 use Rattle.captures.proofs.logs.hear.Tie as tie
 
--- One more fits.
+-- One more discarded fits.
 discarded-fits : (l : Log) → isFull l ≡ false → l .discarded + 1 < 18446744073709551616
 discarded-fits l h = omega (arith, not-full l h .1)
 
+-- One more judged fits.
 judged-fits : (l : Log) → isFull l ≡ false → l .judged + 1 < 18446744073709551616
 judged-fits l h = omega (arith, not-full l h .0)
 

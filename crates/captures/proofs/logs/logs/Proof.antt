@@ -46,10 +46,11 @@ shared-slice-read-end-of c = search needs
 end-of-requires : tie.Need-end-of-requires Inv-loop μ-loop
 end-of-requires c κs = c .before .before .loop .inv .within
 
--- A log ends where it begins or later, and within the bytes.
+-- A log ends where it begins or later.
 after : (at n m end : ℕ) → at ≤ m → end ≡ min (at + n) m → at ≤ end
 after at n m end h e = omega (arith, h, e)
 
+-- It ends within the bytes.
 before : (k m end : ℕ) → end ≡ min k m → end ≤ m
 before k m end e = omega (arith, e)
 
