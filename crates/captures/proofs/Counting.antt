@@ -13,7 +13,8 @@ use lib.Dec.{ltb}
 use borrow.Author.Tests.{ltb-true, ltb-false, lt-ltb, le-ltb}
 use Rattle.rules.proofs.Booleans.{or-cases, or-first, or-second, or-split}
 use Rattle.captures.specs.declared.Log.{Log}
-use Rattle.captures.specs.Logs.{discards, afterDiscarded, afterAccepted, afterFirst, hear, heardAll, silent, isFull, full, capped, inPieces, limit}
+use Rattle.captures.specs.Logs.{discards, afterDiscarded, afterAccepted, afterFirst, hear, heardAll, silent}
+use Rattle.captures.specs.Logs.{limit, packets, isFull, full, capped, inPieces}
 
 -- ---- one packet
 
@@ -224,3 +225,38 @@ pub pieces-within : (l : Log) (ps : List (List ℕ)) → l .discarded ≤ l .jud
 unfolding inPieces
 pieces-within l [] h = h
 pieces-within l (p ∷ ps) h = pieces-within (capped (heardAll l p)) ps (capped-within (heardAll l p) (heard-within l p h))
+
+-- ---- how many packets were heard
+
+-- With each packet one more.
+hear-packets : (l : Log) (new : ℕ) → packets (hear l new) ≡ suc (packets l)
+hear-packets l new =
+    hear-by (λ x. packets x ≡ suc (packets l)) l new (λ f. rw f refl) (λ h _. rw h refl) (λ h _. rw h refl)
+
+-- With a list as many as it has.
+heard-packets : (l : Log) (bs : List ℕ) → packets (heardAll l bs) ≡ packets l + length bs
+unfolding heardAll
+heard-packets l [] = omega arith
+heard-packets l (new ∷ bs) = heard-packets (hear l new) bs ∙ ap (λ k. k + length bs) (hear-packets l new) ∙ omega arith
+
+-- A log that is not full has heard at most one packet more than are judged.
+pub few-packets : (l : Log) → isFull l ≡ false → packets l ≤ limit + 1
+few-packets l h = by (l .heard) refl
+  where
+    few : l .judged ≤ limit
+    few = not-full l h .0
+
+    by : (b : Bool) → l .heard ≡ b → packets l ≤ limit + 1
+    by true e = rw e (omega (arith, few))
+    by false e = rw e (omega (arith, few))
+
+-- EVERY PIECE with a packet in it brings a log that is not full on: no log is read for ever.
+pub piece-grows : (l : Log) (bs : List ℕ) → isFull l ≡ false → 0 < length bs → packets l < packets (capped (heardAll l bs))
+piece-grows l bs h some = by (isFull (heardAll l bs)) refl
+  where
+    few : packets l ≤ limit + 1
+    few = few-packets l h
+
+    by : (b : Bool) → isFull (heardAll l bs) ≡ b → packets l < packets (capped (heardAll l bs))
+    by true e = rw (capped-full (heardAll l bs) e) (omega (arith, few))
+    by false e = rw (capped-open (heardAll l bs) e) (rw (heard-packets l bs) (omega (arith, some)))

@@ -53,6 +53,10 @@ heardAll l (new ∷ bs) = heardAll (hear l new) bs
 abbrev pub silent : Log
 silent = record { heard = false; last = 0; discarded = 0; judged = 0 }
 
+-- The packets heard so far: those judged and the first.
+abbrev pub packets : Log → ℕ
+packets l = elim (l .heard) as (λ b. ℕ) [ true ↦ suc (l .judged) | false ↦ l .judged ]
+
 -- The fraction counted so far.
 abbrev pub counted : Log → Fraction
 counted l = record { discarded = l .discarded; judged = l .judged }

@@ -1,6 +1,7 @@
 //! The program that makes a weight of logs: each argument names a file of sequence bytes, and together they are the logs of one node.
 //! Prints the packets discarded, those judged and the weight, or the line of a refusal. Rests on `captures`, whose contracts say what they are; a
 //! file is read in pieces, so that it may be of any length.
+ghost use Rattle.cue_weight.specs.Reading.{GoesOn};
 use captures::Fraction;
 use captures::FractionAnswer;
 use captures::Log;
@@ -12,14 +13,14 @@ use captures::logs::counted;
 use captures::logs::hear_all;
 use captures::logs::is_full;
 
-/// What one read of a file gives: the log with one more piece of it, its end, or no bytes for want of permission, of a disk or the like.
-enum Piece {
+/// What one read of a file comes to: the log after one more piece, the end of the file, or a read that failed.
+pub enum Piece {
     More(Log),
     End,
     Failed,
 }
 
-/// What a file gives: its log, or nothing.
+/// What a file comes to: its log, or nothing, which standard error tells.
 enum Heard {
     Whole(Log),
     Unread,
@@ -48,25 +49,26 @@ fn tell(x: Fraction) {
 }
 
 /// Reads one piece.
-fn read_piece(fd: i32, log: Log) -> Piece {
+fn read_piece(fd: i32, log: Log) -> Piece
+    ensures { λ r. ⌜ GoesOn log r ⌝ }
+{
     let mut buf = io::large_buffer();
     let got = libc::read(fd, &mut buf);
     if got < 0 {
         return Piece::Failed;
     }
-    if got == 0 {
+    let n = io::count(got, &buf);
+    if n == 0 {
         return Piece::End;
     }
-    let n = io::count(got, &buf);
     Piece::More(hear_all(log, &buf[..n]))
 }
 
-/// Reads a file to its end, or to where its log is too long whatever follows. Every piece has a byte or more, so that a log is too long before the
-/// turns are used up. A read that fails is told on standard error.
+/// Reads a file to its end, or to where its log is too long whatever follows; so it ends even where the file does not. A read that fails is told
+/// on standard error.
 fn read_log(fd: i32, path: &[u8]) -> Heard {
     let mut log = SILENT;
-    let mut turns: u64 = 4000000002;
-    while 0 < turns {
+    while !is_full(log) {
         match read_piece(fd, log) {
             Piece::More(l) => {
                 log = l;
@@ -79,10 +81,6 @@ fn read_log(fd: i32, path: &[u8]) -> Heard {
                 return Heard::Unread;
             }
         }
-        if is_full(log) {
-            return Heard::Whole(log);
-        }
-        turns -= 1;
     }
     Heard::Whole(log)
 }
