@@ -1,6 +1,6 @@
 -- WHERE TO LOOK FIRST: what is shown of weights from captures, each claim under the clauses of docs/RULES.md that it settles.
 -- Every claim is about the definitions in specs/; the contracts of the code say that its results equal those definitions.
-use mathlib.Core.Path.{_≡_, refl, sym, ap, _∙_}
+use mathlib.Core.Path.{_≡_, refl, sym, ap, ap₂, _∙_}
 use mathlib.Core.Bool.{Bool, true, false}
 use mathlib.Core.List.{List, [], _∷_, _++_, map, flatten, map-append, List·Permᴰ·append-comm}
 use mathlib.Core.Logic.{_↔_}
@@ -23,7 +23,7 @@ use Rattle.captures.specs.Promises.{LogCounted, LogsCounted, Added, Weig
 use Rattle.captures.proofs.Circle.{discards-exactly}
 use Rattle.captures.proofs.Counting.{heard-joined, heard-within, judged-is, pieces-capped, pieces-within}
 use Rattle.captures.proofs.Sums.{beyond-judged, fraction-refused, fraction-counted, total-told}
-use Rattle.captures.proofs.Sums.{total-order, map-order, total-joined, some-refused, capped-answer}
+use Rattle.captures.proofs.Sums.{total-order, map-order, total-joined, some-refused, capped-answer, capped-added, add-one-more, total-one}
 use Rattle.captures.proofs.Exact.{weighed, compared}
 
 -- ---- RULES 14.2: the numbers discarded after the last accepted one are that number and the 19 before it, on the circle of 256.
@@ -112,6 +112,19 @@ fractions-joined = total-joined
 -- So for logs.
 pub logs-joined : (ls ms : List (List ℕ)) → logsAnswer (ls ++ ms) ≡ joined (logsAnswer ls) (logsAnswer ms)
 logs-joined ls ms = ap totalAnswer (map-append fractionOf ls ms) ∙ total-joined (map fractionOf ls) (map fractionOf ms)
+
+-- ONE LOG MORE, read in pieces: added to the sum of the logs before it, it gives the answer of the list with it. So a program may read its files one
+-- by one, each piece by piece.
+pub log-by-log : (ls ps : List (List ℕ)) (s : Fraction) → logsAnswer ls ≡ FractionAnswer.Counted s
+    → totalAnswer (s ∷ counted (inPieces silent ps) ∷ []) ≡ logsAnswer (ls ++ flatten ps ∷ [])
+log-by-log ls ps s e =
+    let log : List ℕ = flatten ps in
+    sym (capped-added s (inPieces silent ps) (pieces-within silent ps zero-le))
+    ∙ ap (λ l. totalAnswer (s ∷ counted l ∷ [])) (pieces-capped silent ps)
+    ∙ capped-added s (heardAll silent log) (never-above log)
+    ∙ sym (add-one-more s (fractionOf log))
+    ∙ ap₂ joined (sym e) (sym (total-one (fractionOf log)))
+    ∙ sym (logs-joined ls (log ∷ []))
 
 -- A list with a refused fraction is refused whole.
 pub refused-whole : (xs ys : List Fraction) (x : Fraction) → beyond x ≡ true → totalAnswer (xs ++ x ∷ ys) ≡ FractionAnswer.Refused 25

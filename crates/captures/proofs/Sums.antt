@@ -252,7 +252,7 @@ some-refused xs ys x h =
     (amiss-behind xs (x ∷ ys) (or-first (beyond x || someBeyond ys) _ (or-first (beyond x) (someBeyond ys) h)))
 
 -- A sum and one more fraction: the answers joined, or the two added.
-add-one-more : (s x : Fraction) → joined (FractionAnswer.Counted s) (fractionAnswer x) ≡ totalAnswer (s ∷ x ∷ [])
+pub add-one-more : (s x : Fraction) → joined (FractionAnswer.Counted s) (fractionAnswer x) ≡ totalAnswer (s ∷ x ∷ [])
 unfolding joined
 add-one-more s x = by (beyond x) refl
   where
