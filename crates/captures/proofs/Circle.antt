@@ -19,7 +19,7 @@ pub signed-low : (d : ℕ) → d < 128 → signed d ≡ pos d
 unfolding signed
 signed-low d h = rw (lt-ltb d 128 h, signed) refl
 
--- 256 less is one less than the number that is 255 − d below 0.
+-- 256 less than d is 256 − d below 0; `negsuc n` stands for −(n + 1).
 pub less-256 : (d : ℕ) → d < 256 → pos d -ℤ pos 256 ≡ negsuc (255 - d)
 less-256 d h = rw (lt-ltb d 256 h) (ap negsuc (one-less d))
   where
@@ -69,12 +69,12 @@ discards-behind last new h =
 unfoldable pub behind : ℕ → ℕ → ℕ
 behind last new = (last + 256 - new) % 256
 
--- The same number is not behind at all.
+-- The same number is less than 20 behind.
 same-behind : (last new : ℕ) → last < 256 → new < 256 → difference last new ≤ 0 → behind last new < 20
 unfolding difference behind
 same-behind last new l n h = omega arith
 
--- One that is up to 127 ahead is at least 129 behind.
+-- One that is up to 127 ahead is 20 or more behind.
 ahead-behind : (last new : ℕ) → last < 256 → new < 256 → 0 < difference last new → difference last new < 128 → 20 ≤ behind last new
 unfolding difference behind
 ahead-behind last new l n some h = omega arith

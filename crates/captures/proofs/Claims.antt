@@ -149,7 +149,7 @@ weight-smallest = weighed
 pub order-exact : (x y : Fraction) → Compared x y (compareAnswer x y)
 order-exact = compared
 
--- ---- RULES 14.10: the refusals of each call, in their order.
+-- ---- RULES 8.3 and 14.10: the refusals of each call in their order, and what a refused call tells.
 
 pub log-tries : (x : Fraction) → numbersTried (fractionRefusals x) ≡ 25 ∷ []
 unfolding fractionRefusals

@@ -239,7 +239,7 @@ unfolding heardAll
 heard-packets l [] = omega arith
 heard-packets l (new ∷ bs) = heard-packets (hear l new) bs ∙ ap (λ k. k + length bs) (hear-packets l new) ∙ omega arith
 
--- A log that is not full has heard at most one packet more than are judged.
+-- A log that is not full has heard at most one packet more than the limit.
 pub few-packets : (l : Log) → isFull l ≡ false → packets l ≤ limit + 1
 few-packets l h = by (l .heard) refl
   where

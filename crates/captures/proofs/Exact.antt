@@ -151,12 +151,12 @@ pub order-less : (p q : ℕ) → p < q → orderOf p q ≡ OrderAnswer.Less
 unfolding orderOf
 order-less p q h = rw (lt-ltb p q h, orderOf) refl
 
--- Neither is.
+-- Neither is less.
 pub order-equal : (p q : ℕ) → q ≤ p → p ≤ q → orderOf p q ≡ OrderAnswer.Equal
 unfolding orderOf
 order-equal p q h k = rw (le-ltb p q h, le-ltb q p k, orderOf) refl
 
--- The second is.
+-- The second is less.
 pub order-greater : (p q : ℕ) → q < p → orderOf p q ≡ OrderAnswer.Greater
 unfolding orderOf
 order-greater p q h = rw (le-ltb p q (omega (arith, h)), lt-ltb q p h, orderOf) refl

@@ -1,1 +1,1 @@
--- What the functions' proofs rest on.
+-- No file of its own: each function's proof stands in its own directory and rests on `captures`, Counting, and on the contracts that it cites.

@@ -57,31 +57,14 @@ enum-known-k c = c .match .keys2
 returns : tie.Need-returns Inv-loop μ-loop
 returns c =
     let a = c .before .before .before in
-    let t = a .before .before .before in
+    let n = a .before in
+    let t = n .before .before in
     let l = t .before in
     let s = l .before .before .before .before in
-    let ds = s .args .discarded .now in
-    let js = s .args .judged .now in
-    let all = fractionsIn ds js in
-    subst (Added all)
-    (front-refused all (l .loop .i + 1) _
-    (one-turn
-    ds
-    js
-    _
-    (l .loop .i)
-    _
-    _
-    (l .loop .sum)
-    _
-    (l .before .larger .ensures)
-    (t .loop-test .taken)
-    (a .before .before .number-at .ensures)
-    (a .before .number-at2 .ensures)
-    (l .loop .inv .1)
-    (a .add .ensures)
-    ∙ c .before .k .given .1))
-    (fractions-any-order all)
+    let all = fractionsIn (s .args .discarded .now) (s .args .judged .now) in
+    let sum = one-turn _ _ _ (l .loop .i) _ _ _ _ (l .before .larger .ensures) (t .loop-test .taken) (n .before .number-at .ensures)
+    (n .number-at2 .ensures) (l .loop .inv .1) (a .add .ensures) in
+    subst (Added all) (front-refused all (l .loop .i + 1) _ (sum ∙ c .before .k .given .1)) (fractions-any-order all)
 
 add-i : tie.Need-add-i Inv-loop μ-loop
 add-i c = search needs
@@ -92,27 +75,12 @@ loop-less c = search needs
 loop-again : tie.Need-loop-again Inv-loop μ-loop
 loop-again c =
     let a = c .before .before .before in
-    let t = a .before .before .before in
+    let n = a .before in
+    let t = n .before .before in
     let l = t .before in
-    let s = l .before .before .before .before in (
-      omega (arith, t .loop-test .taken),
-      one-turn
-          (s .args .discarded .now)
-          (s .args .judged .now)
-          _
-          (l .loop .i)
-          _
-          _
-          (l .loop .sum)
-          _
-          (l .before .larger .ensures)
-          (t .loop-test .taken)
-          (a .before .before .number-at .ensures)
-          (a .before .number-at2 .ensures)
-          (l .loop .inv .1)
-          (a .add .ensures)
-          ∙ c .before .s .given .1,
-    )
+    let sum = one-turn _ _ _ (l .loop .i) _ _ _ _ (l .before .larger .ensures) (t .loop-test .taken) (n .before .number-at .ensures)
+    (n .number-at2 .ensures) (l .loop .inv .1) (a .add .ensures) in
+    (omega (arith, t .loop-test .taken), sum ∙ c .before .s .given .1)
 
 returns-2 : tie.Need-returns-2 Inv-loop μ-loop
 returns-2 c =

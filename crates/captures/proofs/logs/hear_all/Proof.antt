@@ -26,14 +26,7 @@ is-full-requires c κs = search needs
 returns : tie.Need-returns Inv-loop μ-loop
 returns c =
     let l = c .before .before .before in
-    let s = l .before .before in
-    full-early
-    (s .args .log)
-    (l .loop .so-far)
-    (s .args .piece .now)
-    (l .loop .i)
-    (l .loop .inv .1)
-    (sym (c .before .is-full .ensures) ∙ c .if1 .taken)
+    full-early _ _ _ (l .loop .i) (l .loop .inv .1) (sym (c .before .is-full .ensures) ∙ c .if1 .taken)
 
 shared-slice-read-hear : tie.Need-shared-slice-read-hear Inv-loop μ-loop
 shared-slice-read-hear c = search needs
@@ -62,14 +55,7 @@ is-full-requires-2 c κs = search needs
 returns-2 : tie.Need-returns-2 Inv-loop μ-loop
 returns-2 c =
     let l = c .before .before .before in
-    let s = l .before .before in
-    full-early
-    (s .args .log)
-    (l .loop .so-far)
-    (s .args .piece .now)
-    (l .loop .i)
-    (l .loop .inv .1)
-    (sym (c .before .is-full2 .ensures) ∙ c .if2 .taken)
+    full-early _ _ _ (l .loop .i) (l .loop .inv .1) (sym (c .before .is-full2 .ensures) ∙ c .if2 .taken)
 
 returns-3 : tie.Need-returns-3 Inv-loop μ-loop
 returns-3 c =

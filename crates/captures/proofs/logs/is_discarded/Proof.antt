@@ -21,30 +21,14 @@ returns : tie.Need-returns
 returns c =
     let w = c .before .before in
     sym (ap (λ b. b && ltZ (negsuc 19) (toZ w8 (ofZ w8 (c .before .signed .result)))) (c .if1 .taken))
-    ∙ discards-bits
-    (w .before .args .last)
-    (w .before .args .new)
-    (w .wrapping-sub-u8 .result)
-    (c .before .signed .result)
-    (w .before .fits .last .fits)
-    (w .wrapping-sub-u8 .ok)
-    (w .wrapping-sub-u8 .ensures)
-    (c .before .signed .ensures)
+    ∙ discards-bits _ _ _ _ (w .before .fits .last .fits) (w .wrapping-sub-u8 .ok) (w .wrapping-sub-u8 .ensures) (c .before .signed .ensures)
 
 returns-2 : tie.Need-returns-2
 returns-2 c =
     let w = c .before .before in
     c .if1 .left
     ∙ sym (ap (λ b. b && ltZ (negsuc 19) (toZ w8 (ofZ w8 (c .before .signed .result)))) (c .if1 .left))
-    ∙ discards-bits
-    (w .before .args .last)
-    (w .before .args .new)
-    (w .wrapping-sub-u8 .result)
-    (c .before .signed .result)
-    (w .before .fits .last .fits)
-    (w .wrapping-sub-u8 .ok)
-    (w .wrapping-sub-u8 .ensures)
-    (c .before .signed .ensures)
+    ∙ discards-bits _ _ _ _ (w .before .fits .last .fits) (w .wrapping-sub-u8 .ok) (w .wrapping-sub-u8 .ensures) (c .before .signed .ensures)
 
 pub is-discarded-spec : {M : Type 1} → statement M
 is-discarded-spec = tie.close (tie.spec wrapping-sub-u8-requires signed-requires returns returns-2)
