@@ -4,6 +4,7 @@
 use Rattle.rules.specs.Table
 use Rattle.rules.specs.Leaf
 use Rattle.rules.specs.Group
+use Rattle.rules.specs.Common
 use Rattle.rules.specs.Tree
 use Rattle.rules.specs.Run
 use Rattle.rules.specs.Refusals
@@ -16,9 +17,10 @@ unfoldable pub of-ways : Unit {0}
 unfolding Table.ways Table.rows Table.absentRows Leaf.any
 of-ways = tt
 
--- A leaf: what remains, what stays of that, groups, and whether it is open.
+-- A leaf: what remains, what stays of that, groups, the common part, and whether it is open.
 unfoldable pub of-leaves : Unit {0}
 unfolding of-ways Leaf.remaining Leaf.sift Leaf.redundant Leaf.minimal Leaf.isOpen Group.nonempty Group.fallApart
+    Common.meetFrom Common.meet Common.shared Common.lowest Common.spare Leaf.dropAll
 of-leaves = tt
 
 -- Trees: refinements, and the interval at the root.
@@ -41,10 +43,16 @@ of-refusals = tt
 
 -- Calls: their numbers and answers.
 unfoldable pub of-calls : Unit {0}
-unfolding of-runs of-refusals Calls.placeOf Calls.leafNamed Calls.noLeaf Calls.ofLeaf Calls.leafRefusals Calls.handRefusals Calls.runRefusals
+unfolding of-runs of-refusals Calls.stepTo Calls.placeOf Calls.leafNamed Calls.noLeaf Calls.ofLeaf Calls.leafRefusals Calls.handRefusals Calls.runRefusals
     Calls.handNumber Calls.runNumber Calls.handMakes Calls.runMakes Calls.figures Calls.answerBy Calls.runAnswerBy
     Calls.openAnswer Calls.handAnswer Calls.runAnswer Calls.outcome
 of-calls = tt
+
+-- Lists of calls, and what stands at a place then.
+unfoldable pub of-lists : Unit {0}
+unfolding of-calls Calls.callNumber Calls.wouldMake Calls.makesBy Calls.makes Calls.notedFrom Calls.outcomesFrom
+    Tree.childSet Tree.childFixed Tree.childOut Tree.descend Tree.subtree
+of-lists = tt
 
 -- A sheet's bytes.
 unfoldable pub of-bytes : Unit {0}

@@ -1,26 +1,31 @@
 -- WHERE TO LOOK FIRST: what is shown of the rules, each claim under the clauses of docs/RULES.md that it settles.
 -- Every claim here is about the definitions in specs/; the contracts of the code say that its results equal those definitions.
-use mathlib.Core.Path.{_≡_, sym, ap, _∙_, subst}
-use mathlib.Core.Bool.{true, false}
+use mathlib.Core.Path.{_≡_, refl, sym, ap, _∙_, subst}
+use mathlib.Core.Bool.{true, false, not, _&&_}
 use mathlib.Core.List.{List, [], _∷_, _++_}
 use mathlib.Core.Option.{Option, none, some}
 use mathlib.Core.Logic.{_↔_}
 use Prim.Native.Nat.{ℕ, suc, _+_, _-_, _*_, _≤_, _<_}
 use native.Mathlib.Omega.{arith}
 use lib.ListN.{length, take}
-use Rattle.rules.specs.Table.{Way, Table, ways, Encloses}
-use Rattle.rules.specs.Leaf.{ofSet, remaining, Lean}
-use Rattle.rules.specs.Tree.{Side, Place, DTree, inners, nodes, Refinement, refine, tree, leafAt, onPath, kindAt}
+use lib.Dec.{eqb}
+use Rattle.rules.specs.Rounding.{Dir, over}
+use Rattle.rules.specs.Table.{bit, Way, Table, ways, Assignment, happens, Encloses}
+use Rattle.rules.specs.Leaf.{dropAll, isOpen, Lean}
+use Rattle.rules.specs.Common.{shared, lowest}
+use Rattle.rules.specs.Tree.{Side, left, right, Place, DTree, possible, child, combine, inners, nodes, Refinement, refine, tree, leafAt, onPath, kindAt}
 use Rattle.rules.specs.Tree.{Subtree, subtree, root, intervalAt, Interval, interval, acceptable, series, low, high}
 use Rattle.rules.specs.Run.{next, picks, verdict, ran}
-use Rattle.rules.specs.Refusals.{Accepted}
+use Rattle.rules.specs.Refusals.{namesBoth, Accepted}
 use Rattle.rules.specs.declared.Kind.{Kind}
+use Rattle.rules.specs.declared.Kind.the-variants.{IndependentAnd}
 use Rattle.rules.specs.declared.Aim.{Aim}
 use Rattle.rules.specs.declared.Limits.{Limits}
 use Rattle.rules.specs.declared.Verdict.the-variants.{Met}
 use Rattle.rules.specs.Calls.{handNumber, runNumber, runAnswer, Call, callNumber, noted}
 use Rattle.rules.specs.Sheet.{Cue, Sheet, Lists, tableOf, Within, AllBelow, encode, listsIn, decode, readNumber, writeNumber, written}
-use Rattle.rules.proofs.KindLaws.{Handed}
+use Rattle.rules.proofs.Common.{InOneSense, shared-exactly, commonPart, left-common, both-happen}
+use Rattle.rules.proofs.KindLaws.{remains, Handed}
 use Rattle.rules.proofs.Places.{refined-kind, refined-leaves, refined-inners, nodes-inners, subtree-has, elsewhere}
 use Rattle.rules.proofs.Members.{In}
 use Rattle.rules.proofs.Series.{Same, acceptable-leaf, places-differ}
@@ -46,11 +51,10 @@ use Rattle.rules.proofs.Sheets.{encode-decode, within-decoded, longest,
 pub record AtPlace (t : Table) (p : Place) (x : Subtree) : Type 0 where
   -- Its interval encloses the exact sum over its remaining ways, low ≤ high, and high is at most S.
   pub interval-certain : CertainAt (t .weights) x
-  -- RULES 3.5: its ways are what stays of those of its set that no fixed fault contradicts, without the fixed faults.
+  -- RULES 3.5, 4.16: its ways are what stays of those of its set that no fixed fault contradicts, without the fixed faults and those left out.
   pub ways-remaining : Handed (ways t) (x .node)
   -- RULES 3.7: it also encloses the exact sum of all that remained there, left out or not.
-  pub over-all : Encloses (t .weights) (remaining (x .node .present) (x .node .absent) (ofSet (x .node .set) (ways t)))
-      (interval (t .weights) x .low) (interval (t .weights) x .high)
+  pub over-all : Encloses (t .weights) (remains (ways t) (x .node) (x .node .set)) (interval (t .weights) x .low) (interval (t .weights) x .high)
   -- RULES 3.4: of what a place has, nothing can be left out.
   pub nothing-new : Lean (x .node .ways)
   -- They stand in number order.
@@ -64,14 +68,45 @@ unfolding subtree
 at-place t ok ns h p x e =
     record {
       interval-certain = enclosure t ok ns h p x e;
-      ways-remaining = handed-down t ns h p x e;
+      ways-remaining = handed-down t ok ns h p x e;
       over-all =
-          before-leaving-out (t .weights) (remaining (x .node .present) (x .node .absent) (ofSet (x .node .set) (ways t))) _ _
+          before-leaving-out (t .weights) (remains (ways t) (x .node) (x .node .set)) _ _
           (subst (λ (vs : List Way). Encloses (t .weights) vs (interval (t .weights) x .low) (interval (t .weights) x .high))
-          (handed-down t ns h p x e) (enclosure t ok ns h p x e .encloses));
-      nothing-new = handed-lean t ns h p x e;
+          (handed-down t ok ns h p x e) (enclosure t ok ns h p x e .encloses));
+      nothing-new = handed-lean t ok ns h p x e;
       in-order = handed-rising t ns h p x e;
       level = levels t ok ns h p (subtree-has p (root t) (tree ns) x e);
+    }
+
+-- ---- RULES 4.15, 4.16: the common part, and what taking it out does. All claims on trees here are about the three kinds at once.
+
+-- What is taken out of ways that name no fault in both senses, the lowest numbered first.
+pub record TakenOut (v : Way) (vs : List Way) : Type 0 where
+  -- The common part has exactly the faults that all ways name in the same sense.
+  pub common : (i : ℕ) → (bit i (shared (v ∷ vs)) ≡ true) ↔ InOneSense i (v ∷ vs)
+  -- It can be taken out exactly if it is not empty.
+  pub offered : possible IndependentAnd (v ∷ vs) ≡ not (eqb (shared (v ∷ vs)) 0)
+  -- The left child is one way, the common part; the right child has the ways without those faults.
+  pub left-one : child IndependentAnd left (v ∷ vs) ≡ commonPart (v .number) (v ∷ vs) ∷ []
+  pub right-rest : child IndependentAnd right (v ∷ vs) ≡ dropAll (shared (v ∷ vs)) (v ∷ vs)
+  -- The left child is closed.
+  pub left-closed : (ws : List ℕ) → isOpen ws (child IndependentAnd left (v ∷ vs)) ≡ false
+  -- The ways happen where both children do.
+  pub both : (a : Assignment) → happens (v ∷ vs) a ≡ happens (child IndependentAnd left (v ∷ vs)) a && happens (child IndependentAnd right (v ∷ vs)) a
+  -- An end is the product of the children's, rounded outwards.
+  pub product : (d : Dir) (ws : List ℕ) (x y : ℕ) → combine IndependentAnd d ws x y ≡ over d (x * y)
+
+pub taken-out : (v : Way) (vs : List Way) → namesBoth (v ∷ vs) ≡ false → TakenOut v vs
+unfolding possible child combine lowest dropAll isOpen
+taken-out v vs c =
+    record {
+      common = λ i. shared-exactly i v vs;
+      offered = refl;
+      left-one = left-common v vs c;
+      right-rest = refl;
+      left-closed = λ ws. refl;
+      both = both-happen (v ∷ vs) c;
+      product = λ d ws x y. refl;
     }
 
 -- RULES 4.10: a tree has at most 511 nodes.

@@ -1,62 +1,30 @@
 -- ENCLOSURE: the interval at every place of every tree that a series of acceptable refinements grows encloses the exact sum of that place.
 -- By induction over the tree, from the leaf's bound and the laws of each kind (KindLaws.antt).
 use mathlib.Core.Path.{_≡_, refl, sym, ap₂, _∙_, subst}
-use mathlib.Core.Bool.{Bool, true, false, not, _&&_, _||_, true≢false}
+use mathlib.Core.Bool.{true, false, true≢false}
 use mathlib.Core.List.{List, [], _∷_}
 use mathlib.Core.Option.{some, Option·some-injective, Option·none-ne-some}
 use Prim.Native.Nat.{ℕ, _*_, _^_, _≤_, min}
 use native.Mathlib.Nat.{le-trans, le-of-mul-le-mul-right}
 use native.Mathlib.Omega.{arith}
 use lib.ListN.{length}
-use lib.Dec.{eqb, leb}
-use lib.Bits.{bitAnd}
-use borrow.Author.Tests.{eqb-true, leb-false, lt-leb}
+use borrow.Author.Tests.{eqb-true}
 use Rattle.rules.specs.Rounding.{S, Dir, down, up, Le}
-use Rattle.rules.specs.Table.{bit, Way, Table, ways, faults, Assignment, fitsAll, satisfies, happens, exact, Encloses}
-use Rattle.rules.specs.Leaf.{any, without, minimal, isEmpty, leafEnd}
-use Rattle.rules.specs.Tree.{rootWays, Side, left, right, Place, DTree, leaf, inner, child, end, low, high, Refinement}
+use Rattle.rules.specs.Table.{Way, Table, ways, faults, Assignment, fitsAll, satisfies, happens, exact, Encloses}
+use Rattle.rules.specs.Leaf.{any, minimal, isEmpty, leafEnd}
+use Rattle.rules.specs.Tree.{rootWays, left, right, Place, DTree, leaf, inner, child, end, low, high, Refinement}
 use Rattle.rules.specs.Tree.{tree, Node, Subtree, childNode, descend, subtree, root, interval, series}
 use Rattle.rules.specs.Refusals.{namesBeyond, namesBoth, Accepted}
-use Rattle.rules.specs.declared.Kind.{Kind}
-use Rattle.rules.proofs.Booleans.{and-left, or-left, or-right, or-neither, or-first, or-second, or-cases}
-use Rattle.rules.proofs.Bits.{bit-without, or-zero, apart-bit, apart-test}
+use Rattle.rules.proofs.Booleans.{or-first, or-second, or-cases}
+use Rattle.rules.proofs.Bits.{or-zero}
 use Rattle.rules.proofs.Sum.{mass, Weights, total, mass-never, mass-weigh, mass-cong, pow-S-pos}
 use Rattle.rules.proofs.Rounding.{overlap-bound}
 use Rattle.rules.proofs.LeafEnds.{leaf-bound, leaf-le}
-use Rattle.rules.proofs.KindLaws.{laws, Stable}
+use Rattle.rules.proofs.KindLaws.{laws}
+use Rattle.rules.proofs.Settled.{child-inside, child-one-sense}
 use Rattle.rules.proofs.Series.{Sound, series-sound}
 use Rattle.rules.proofs.Accepted.{root-inside, root-one-sense, weights-fit}
 use Rattle.rules.proofs.Minimal.{minimal-exact}
-
--- ---- 12 and 13 hold at every place
-
--- Dropping faults brings no fault beyond the table's.
-beyond-stable : (n : ℕ) → Stable (λ v. leb (2 ^ n) (v .present) || leb (2 ^ n) (v .absent))
-beyond-stable n m v h =
-    or-neither _ _ (less (v .present) (or-left (leb (2 ^ n) (v .present)) _ h)) (less (v .absent) (or-right (leb (2 ^ n) (v .present)) _ h))
-  where
-    less : (w : ℕ) → leb (2 ^ n) w ≡ false → leb (2 ^ n) (without m w) ≡ false
-    less w e = lt-leb (2 ^ n) (without m w) (omega (arith, leb-false (2 ^ n) w e))
-
--- Nor one in both senses.
-both-stable : Stable (λ v. not (eqb (bitAnd (v .present) (v .absent)) 0))
-both-stable m v h =
-    apart-test (without m (v .present)) (without m (v .absent))
-    (λ i b.
-    let present : bit i (v .present) ≡ true = and-left (bit i (v .present)) (not (bit i m)) (sym (bit-without i m (v .present)) ∙ b) in
-    bit-without i m (v .absent) ∙ gone (bit i (v .absent)) (not (bit i m)) (apart-bit (v .present) (v .absent) i h present))
-  where
-    gone : (x y : Bool) → x ≡ false → x && y ≡ false
-    gone true y e = absurd (true≢false e)
-    gone false y e = refl
-
-pub child-inside : (k : Kind) (n : ℕ) (b : Side) (vs : List Way) → namesBeyond n vs ≡ false → namesBeyond n (child k b vs) ≡ false
-unfolding namesBeyond
-child-inside k n b vs h = laws k .keeps _ (beyond-stable n) b vs h
-
-pub child-one-sense : (k : Kind) (b : Side) (vs : List Way) → namesBoth vs ≡ false → namesBoth (child k b vs) ≡ false
-unfolding namesBoth
-child-one-sense k b vs h = laws k .keeps _ both-stable b vs h
 
 -- ---- one end, over all trees
 
@@ -67,7 +35,7 @@ unfolding end Sound
 end-bound d ws k vs f c leaf o = leaf-bound d ws k vs c
 end-bound d ws k vs f c (inner j l r) o =
     overlap-bound d (leafEnd d ws vs) _ (S ^ length ws) (S * mass ws (happens vs)) (leaf-bound d ws k vs c)
-    (laws j .bound d ws k vs f (o .1) (end d ws (child j left vs) l) (end d ws (child j right vs) r)
+    (laws j .bound d ws k vs f c (o .1) (end d ws (child j left vs) l) (end d ws (child j right vs) r)
     (end-bound d ws k (child j left vs) (child-inside j (length ws) left vs f) (child-one-sense j left vs c) l (o .2))
     (end-bound d ws k (child j right vs) (child-inside j (length ws) right vs f) (child-one-sense j right vs c) r (o .3)))
 

@@ -15,27 +15,7 @@ use Rattle.rules.proofs.Bits.{bit-zero, bit-and, bit-or, bit-without, b
 use Rattle.rules.proofs.Remaining.{meets-pow}
 use Rattle.rules.proofs.Members.{In}
 use Rattle.rules.proofs.Groups.{Subword, none-passes}
-use Rattle.rules.proofs.Minimal.{subsumes-inside, inside-subsumes, outdone, lean-none}
-
--- ---- words, bit by bit
-
-module _ (m : ℕ) where
-  -- A word of which bits are dropped has no bit besides.
-  less : (w : ℕ) → Subword (without m w) w
-  less w i h = and-left (bit i w) (not (bit i m)) (sym (bit-without i m w) ∙ h)
-
-  -- The bits that one word lost, the other may lose too.
-  drop-both : (x y : ℕ) → Subword (without m x) y → Subword (without m x) (without m y)
-  drop-both x y k i h =
-      bit-without i m y ∙ and-both (bit i y) (not (bit i m)) (k i h) (and-right (bit i x) (not (bit i m)) (sym (bit-without i m x) ∙ h))
-
-  -- And back, where of what is dropped the second has what the first has.
-  undrop : (x y : ℕ) → ((i : ℕ) → bit i m ≡ true → bit i x ≡ true → bit i y ≡ true) → Subword (without m x) (without m y) → Subword x y
-  undrop x y c k i h = by (bit i m) refl
-    where
-      by : (b : Bool) → bit i m ≡ b → bit i y ≡ true
-      by true e = c i e h
-      by false e = less y i (k i (bit-without i m x ∙ and-both (bit i x) (not (bit i m)) h (ap not e)))
+use Rattle.rules.proofs.Minimal.{less, drop-both, undrop, subsumes-inside, inside-subsumes, outdone, lean-none}
 
 -- ---- one fault fixed
 

@@ -9,7 +9,7 @@ use native.Mathlib.Decide.{ℕ-discrete}
 use native.Mathlib.Omega.{arith}
 use lib.ListN.{length}
 use lib.Dec.{leb}
-use borrow.Author.Tests.{not-true}
+use borrow.Author.Tests.{leb-true, not-true}
 use Rattle.rules.specs.Table.{bit, Way, Table, faults}
 use Rattle.rules.specs.Leaf.{any, isEmpty, isOpen}
 use Rattle.rules.specs.Group.{nonempty}
@@ -19,11 +19,11 @@ use Rattle.rules.specs.Refusals.{namesBeyond, Accepted}
 use Rattle.rules.specs.declared.Kind.{Kind}
 use Rattle.rules.proofs.Booleans.{and-left, and-right}
 use Rattle.rules.proofs.Remaining.{unnamed-stays}
-use Rattle.rules.proofs.KindLaws.{laws, some-occurs}
-use Rattle.rules.proofs.Enclosure.{child-inside}
+use Rattle.rules.proofs.KindLaws.{laws, Settled, some-occurs}
+use Rattle.rules.proofs.Settled.{child-settled, root-settled}
 use Rattle.rules.proofs.Places.{nodes-inners}
 use Rattle.rules.proofs.Series.{Sound, series-sound, acceptable-found, series-room}
-use Rattle.rules.proofs.Accepted.{root-inside, few-faults}
+use Rattle.rules.proofs.Accepted.{few-faults}
 
 -- ---- how many of the faults below n occur
 
@@ -80,6 +80,10 @@ unfolding isOpen nonempty
 open-some ws [] h = absurd (true≢false (sym h))
 open-some ws (v ∷ vs) h = refl
 
+open-two : (ws : List ℕ) (vs : List Way) → isOpen ws vs ≡ true → 2 ≤ length vs
+unfolding isOpen
+open-two ws vs h = leb-true 2 (length vs) (and-left (leb 2 (length vs)) _ h)
+
 -- Some fault occurs in an open leaf.
 pub open-occurs : (n : ℕ) (ws : List ℕ) (vs : List Way) → namesBeyond n vs ≡ false → isOpen ws vs ≡ true → (g : ℕ) × (g < n) × (occurs g vs ≡ true)
 open-occurs n ws vs h o = some-occurs n vs h (open-full ws vs o) (open-some ws vs o)
@@ -89,43 +93,44 @@ child-fewer : (k : Kind) (b : Side) (vs : List Way) → Fewer (child k b vs) vs
 unfolding occurs
 child-fewer k b vs g e = laws k .keeps (λ v. bit g (faults v)) (λ m v. unnamed-stays g m v) b vs e
 
--- A REFINEMENT REMOVES A FAULT FROM BOTH SIDES: fewer faults occur in either child.
-pub child-less : (k : Kind) (n : ℕ) (b : Side) (ws : List ℕ) (vs : List Way) → namesBeyond n vs ≡ false → isOpen ws vs ≡ true → possible k vs ≡ true
+-- A REFINEMENT REMOVES A FAULT FROM BOTH SIDES: fewer faults occur in either child. For the common part this rests on what stays (RULES 3.4): of the
+-- ways {0} and {0, 1}, were both to stay, the right child would have an empty way and the left child lose no fault but 1.
+pub child-less : (k : Kind) (n : ℕ) (b : Side) (ws : List ℕ) (vs : List Way) → Settled n vs → isOpen ws vs ≡ true → possible k vs ≡ true
     → span n (child k b vs) < span n vs
 child-less k n b ws vs h o p =
-    let r = laws k .removes n b vs h (open-full ws vs o) (open-some ws vs o) p in
+    let r = laws k .removes n b vs h (open-full ws vs o) (open-two ws vs o) p in
     span-lt n (child k b vs) vs (r .0) (child-fewer k b vs) (r .1) (r .2) (r .3)
 
 -- ---- the depth of a place
 
-depth : (n : ℕ) (ws : List ℕ) (p : Place) (vs : List Way) (s : DTree) → namesBeyond n vs ≡ false → Sound ws vs s → hasAt p s ≡ true → length p ≤ span n vs
+depth : (n : ℕ) (ws : List ℕ) (p : Place) (vs : List Way) (s : DTree) → Settled n vs → Sound ws vs s → hasAt p s ≡ true → length p ≤ span n vs
 unfolding hasAt Sound
 depth n ws [] vs s f o h = omega arith
 depth n ws (b ∷ p) vs leaf f o h = absurd (true≢false (sym h))
 depth n ws (left ∷ p) vs (inner k l r) f o h =
-    omega (arith, depth n ws p (child k left vs) l (child-inside k n left vs f) (o .2) h, child-less k n left ws vs f (o .0) (o .1))
+    omega (arith, depth n ws p (child k left vs) l (child-settled k n left vs f) (o .2) h, child-less k n left ws vs f (o .0) (o .1))
 depth n ws (right ∷ p) vs (inner k l r) f o h =
-    omega (arith, depth n ws p (child k right vs) r (child-inside k n right vs f) (o .3) h, child-less k n right ws vs f (o .0) (o .1))
+    omega (arith, depth n ws p (child k right vs) r (child-settled k n right vs f) (o .3) h, child-less k n right ws vs f (o .0) (o .1))
 
 -- NO PLACE IS DEEPER than the number of faults, so none is deeper than 64.
 pub levels : (t : Table) → Accepted t → (ns : List Refinement) → series t ns ≡ true → (p : Place) → hasAt p (tree ns) ≡ true → length p ≤ 64
 levels t ok ns h p e =
     let n : ℕ = length (t .weights) in
-    omega (arith, depth n (t .weights) p (rootWays t) (tree ns) (root-inside t ok) (series-sound t ns h) e, span-most n (rootWays t), few-faults t ok)
+    omega (arith, depth n (t .weights) p (rootWays t) (tree ns) (root-settled t ok) (series-sound t ns h) e, span-most n (rootWays t), few-faults t ok)
 
-depth-open : (n : ℕ) (ws : List ℕ) (p : Place) (vs : List Way) (s : DTree) (us : List Way) → namesBeyond n vs ≡ false → Sound ws vs s
+depth-open : (n : ℕ) (ws : List ℕ) (p : Place) (vs : List Way) (s : DTree) (us : List Way) → Settled n vs → Sound ws vs s
     → leafWays p vs s ≡ some us → isOpen ws us ≡ true → length p < span n vs
 unfolding leafWays Sound occurs any
 depth-open n ws [] vs leaf us f o e q =
     let z = Option·some-injective vs us e in
-    let r = open-occurs n ws vs f (subst (λ (x : List Way). isOpen ws x ≡ true) (sym z) q) in
+    let r = open-occurs n ws vs (f .inside) (subst (λ (x : List Way). isOpen ws x ≡ true) (sym z) q) in
     omega (arith, span-lt n [] vs (r .0) (λ g h. refl) (r .1) (r .2) refl)
 depth-open n ws [] vs (inner k l r) us f o e q = absurd (Option·none-ne-some _ e)
 depth-open n ws (b ∷ p) vs leaf us f o e q = absurd (Option·none-ne-some _ e)
 depth-open n ws (left ∷ p) vs (inner k l r) us f o e q =
-    omega (arith, depth-open n ws p (child k left vs) l us (child-inside k n left vs f) (o .2) e q, child-less k n left ws vs f (o .0) (o .1))
+    omega (arith, depth-open n ws p (child k left vs) l us (child-settled k n left vs f) (o .2) e q, child-less k n left ws vs f (o .0) (o .1))
 depth-open n ws (right ∷ p) vs (inner k l r) us f o e q =
-    omega (arith, depth-open n ws p (child k right vs) r us (child-inside k n right vs f) (o .3) e q, child-less k n right ws vs f (o .0) (o .1))
+    omega (arith, depth-open n ws p (child k right vs) r us (child-settled k n right vs f) (o .3) e q, child-less k n right ws vs f (o .0) (o .1))
 
 -- An acceptable refinement is made above level 64: the length of a place never decides.
 pub refined-above : (t : Table) → Accepted t → (ns : List Refinement) → series t ns ≡ true → (n : Refinement) → acceptable t (tree ns) n ≡ true
@@ -135,7 +140,7 @@ refined-above t ok ns h n a =
     let c : ℕ = length (t .weights) in
     omega (
       arith,
-      depth-open c (t .weights) (n .place) (rootWays t) (tree ns) (f .found) (root-inside t ok) (series-sound t ns h) (f .there) (f .opened),
+      depth-open c (t .weights) (n .place) (rootWays t) (tree ns) (f .found) (root-settled t ok) (series-sound t ns h) (f .there) (f .opened),
       span-most c (rootWays t),
       few-faults t ok,
     )

@@ -13,13 +13,15 @@ pub mod Sets
 pub mod Groups
 pub mod Minimal
 pub mod FixedLean
+pub mod Common
 pub mod Kept
 pub mod LeafEnds
 pub mod KindLaws
 pub mod Places
 pub mod Series
-pub mod HandedDown
 pub mod Accepted
+pub mod Settled
+pub mod HandedDown
 pub mod Enclosure
 pub mod Narrowing
 pub mod Levels

@@ -3,13 +3,13 @@
 use mathlib.Core.Path.{_≡_, refl, sym, ap, _∙_, subst}
 use mathlib.Core.Bool.{Bool, true, false, not, _&&_, _||_, true≢false}
 use mathlib.Core.Logic.{_↔_}
-use mathlib.Core.List.{List, [], _∷_, List·Memᴰ·head, List·Memᴰ·tail}
+use mathlib.Core.List.{List, [], _∷_, List·Memᴰ·head, List·Memᴰ·tail, List·Memᴰ·not-nil}
 use Prim.Native.Nat.{ℕ, zero, suc, _+_, _≤_, _<_}
 use native.Mathlib.Decide.{decLt}
 use native.Mathlib.Omega.{arith}
 use lib.Dec.{eqb, ltb}
 use lib.Bits.{and-le-r}
-use borrow.Author.Tests.{eqb-true, eq-eqb, ltb-true, not-true}
+use borrow.Author.Tests.{eqb-true, eq-eqb, ltb-true, le-ltb, not-true}
 use Rattle.rules.specs.Table.{bit, Way, Assignment, satisfies, happens, exact}
 use Rattle.rules.specs.Leaf.{any, without, sift, subsumes, outdoes, redundant, minimal, Lean}
 use Rattle.rules.proofs.Booleans.{and-left, and-right, and-both, is-true, same-test}
@@ -40,6 +40,24 @@ within-none m w h = eq-eqb (without m w) 0 (bits-zero (without m w) (λ i. bit-w
 -- A word within another is no larger as a number.
 within-le : (m w : ℕ) → Subword w m → w ≤ m
 within-le m w h = omega (arith, eqb-true (without m w) 0 (within-none m w h), and-le-r w m)
+
+module _ (m : ℕ) where
+  -- A word of which bits are dropped has no bit besides.
+  pub less : (w : ℕ) → Subword (without m w) w
+  less w i h = and-left (bit i w) (not (bit i m)) (sym (bit-without i m w) ∙ h)
+
+  -- The bits that one word lost, the other may lose too.
+  pub drop-both : (x y : ℕ) → Subword (without m x) y → Subword (without m x) (without m y)
+  drop-both x y k i h =
+      bit-without i m y ∙ and-both (bit i y) (not (bit i m)) (k i h) (and-right (bit i x) (not (bit i m)) (sym (bit-without i m x) ∙ h))
+
+  -- And back, where of what is dropped the second has what the first has.
+  pub undrop : (x y : ℕ) → ((i : ℕ) → bit i m ≡ true → bit i x ≡ true → bit i y ≡ true) → Subword (without m x) (without m y) → Subword x y
+  undrop x y c k i h = by (bit i m) refl
+    where
+      by : (b : Bool) → bit i m ≡ b → bit i y ≡ true
+      by true e = c i e h
+      by false e = less y i (k i (bit-without i m x ∙ and-both (bit i x) (not (bit i m)) h (ap not e)))
 
 -- ---- subsuming, fault by fault
 
@@ -172,7 +190,7 @@ pub sift-any : (h g : Way → Bool) (vs : List Way) → any h vs ≡ false → a
 sift-any h g vs e = each-fails h (sift g vs) (λ v i. none-passes h vs v e (in-sift g vs v i .0))
 
 -- A part by a test that all pass is the whole.
-sift-whole : (g : Way → Bool) (vs : List Way) → ((v : Way) → In v vs → g v ≡ true) → sift g vs ≡ vs
+pub sift-whole : (g : Way → Bool) (vs : List Way) → ((v : Way) → In v vs → g v ≡ true) → sift g vs ≡ vs
 unfolding sift
 sift-whole g [] h = refl
 sift-whole g (v ∷ vs) h = rw (h v (List·Memᴰ·head refl), sift) (ap (λ (r : List Way). v ∷ r) (sift-whole g vs (λ u i. h u (List·Memᴰ·tail i))))
@@ -240,6 +258,18 @@ lean-none vs e v i = not-true (redundant vs v) (in-sift (λ u. not (redundant vs
 -- A part of a lean list is lean.
 pub sift-lean : (g : Way → Bool) (vs : List Way) → Lean vs → Lean (sift g vs)
 sift-lean g vs e = part-lean g vs (λ v i. lean-none vs e v (in-sift g vs v i .0))
+
+-- One way by itself is lean.
+pub one-lean : (v : Way) → Lean (v ∷ [])
+unfolding minimal redundant
+one-lean v = sift-whole _ (v ∷ []) (λ u i. ap not (each-fails (λ w. outdoes w u) (v ∷ []) (λ w j. alone w u (one w j) (one u i))))
+  where
+    one : (u : Way) → In u (v ∷ []) → u ≡ v
+    one u (List·Memᴰ·head e) = e
+    one u (List·Memᴰ·tail k) = absurd (List·Memᴰ·not-nil k)
+
+    alone : (w u : Way) → w ≡ v → u ≡ v → outdoes w u ≡ false
+    alone w u e f = rw (e, f, subsumes-self v v refl refl) (le-ltb (v .number) (v .number) (omega arith))
 
 -- Leaving out again changes nothing.
 pub minimal-twice : (vs : List Way) → Lean (minimal vs)

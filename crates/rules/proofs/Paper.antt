@@ -1,19 +1,21 @@
 -- The cases on paper (RULES 11): P1 to P9 as one list with one claim about the list, the runs that RULES 11.6 names, A1 to A10 on ways that
--- say nothing new (RULES 3.4), C1 to C11 on the allowance as a distance (RULES 5.7, 5.16), and the whole sheet of RULES 11.7 with its lines.
+-- say nothing new (RULES 3.4), C1 to C11 on the allowance as a distance (RULES 5.7, 5.16), E1 to E8 on the common part (RULES 4.15, 4.16), and the
+-- whole sheet of RULES 11.7 with its lines.
 -- Each list of cases stands above the claim that settles it.
 -- The checker computes all of them from the definitions. Rests on Computing.antt, which names those.
 use mathlib.Core.Path.{_≡_, refl}
 use mathlib.Core.Bool.{Bool, true, false, _&&_, Bool·beq}
 use mathlib.Core.List.{List, [], _∷_}
+use mathlib.Core.Option.{Option, none, some}
 use Prim.Native.Nat.{ℕ}
 use lib.ListN.{length}
 use lib.Dec.{eqb}
 use Rattle.rules.specs.Rounding.{S}
 use Rattle.rules.specs.Table.{Way, Table, table}
 use Rattle.rules.specs.Leaf.{isOpen}
-use Rattle.rules.specs.Tree.{rootWays, left, leaf, low, high, Refinement, tree, series}
+use Rattle.rules.specs.Tree.{rootWays, left, right, Place, DTree, leaf, low, high, Refinement, tree, Subtree, subtree, series}
 use Rattle.rules.specs.Refusals.{tableNumber}
-use Rattle.rules.specs.Calls.{Call, byHand, byRun, Outcome, handed, ran, openAnswer, runAnswer, outcome}
+use Rattle.rules.specs.Calls.{Call, byHand, byRun, Outcome, handed, ran, openAnswer, runAnswer, outcome, noted, outcomes}
 use Rattle.rules.specs.Sheet.{Sheet, encode}
 use Rattle.rules.specs.Text.{bytes, text}
 use Rattle.rules.specs.declared.Limits.{Limits}
@@ -22,8 +24,8 @@ use Rattle.rules.specs.declared.RunAnswer.{RunAnswer}
 use Rattle.rules.specs.declared.Verdict.{Verdict}
 use Rattle.rules.specs.declared.Verdict.the-variants.{Met, Done, Spent}
 use Rattle.rules.specs.declared.Kind.{Kind}
-use Rattle.rules.specs.declared.Kind.the-variants.{IndependentOr, Shannon}
-use Rattle.rules.proofs.Computing.{of-trees, of-refusals, of-calls, of-bytes, of-text}
+use Rattle.rules.specs.declared.Kind.the-variants.{IndependentOr, IndependentAnd, Shannon}
+use Rattle.rules.proofs.Computing.{of-trees, of-refusals, of-calls, of-lists, of-bytes, of-text}
 
 -- ---- P1 to P9
 
@@ -227,6 +229,116 @@ distances =
 pub distances-on-paper : AllEqual distances
 unfolding of-calls
 distances-on-paper = (refl, (refl, (refl, (refl, (refl, (refl, (refl, (refl, (refl, (refl, (refl, tt)))))))))))
+
+-- ---- the common part taken out: E1 to E8 (RULES 11.12)
+
+-- What a node holds: its ways, and the words of the faults fixed present, fixed absent and left out.
+record Held : Type 0 where
+  ways : List Way
+  present : ℕ
+  absent : ℕ
+  out : ℕ
+
+-- What is stated of a table, of calls on its opened tree, and of some places then: what the opening answers, what each call hands back, what each
+-- place holds.
+record Worked : Type 0 where
+  opening : Answer
+  back : List Outcome
+  then : List (Option Held)
+
+abbrev heldBy : Option Subtree → Option Held
+heldBy none = none
+heldBy (some x) = some (record { ways = x .node .ways; present = x .node .present; absent = x .node .absent; out = x .node .out })
+
+abbrev heldAt : Table → DTree → List Place → List (Option Held)
+heldAt t s [] = []
+heldAt t s (p ∷ ps) = heldBy (subtree t p s) ∷ heldAt t s ps
+
+-- By the definitions.
+abbrev worked : Table → List Call → List Place → Worked
+worked t cs ps = record { opening = openAnswer t; back = outcomes t cs; then = heldAt t (tree (noted t cs)) ps }
+
+-- By the figures, where no place is asked for.
+abbrev answers : ℕ → ℕ → List Outcome → Worked
+answers l h os = record { opening = at l h 0; back = os; then = [] }
+
+-- The common part taken out at the root.
+abbrev takeOut : Call
+takeOut = byHandAtRoot IndependentAnd
+
+abbrev refusedBy : ℕ → Outcome
+refusedBy n = handed (Answer.Refused n)
+
+abbrev way : ℕ → ℕ → Way
+way i present = record { number = i; present = present; absent = 0 }
+
+abbrev quarter : ℕ
+quarter = 250000000
+
+abbrev half : ℕ
+half = 500000000
+
+abbrev fifth : ℕ
+fifth = 200000000
+
+abbrev third : ℕ
+third = 333333333
+
+-- Each table with calls and places, and what is stated of them.
+abbrev commons : List (Worked × Worked)
+commons =
+    -- E1: two faults in common. The left child is way 0 without fault 2, the right child has both ways without faults 0 and 1.
+    (
+      worked (table (half ∷ half ∷ half ∷ half ∷ []) (7 ∷ 11 ∷ []) (0 ∷ 0 ∷ [])) (takeOut ∷ []) ((left ∷ []) ∷ (right ∷ []) ∷ []),
+      record {
+        opening = at 125000000 quarter 0;
+        back = handed (at 187500000 quarter 1) ∷ [];
+        then =
+            some (record { ways = way 0 3 ∷ []; present = 0; absent = 0; out = 4 })
+            ∷ some (record { ways = way 0 4 ∷ way 1 8 ∷ []; present = 0; absent = 0; out = 3 })
+            ∷ [];
+      },
+    )
+    -- E2: both faults are taken out at once; one at a time takes three refinements.
+    ∷ (
+      worked (table (fifth ∷ quarter ∷ half ∷ []) (7 ∷ 6 ∷ []) (0 ∷ 1 ∷ [])) (run ∷ []) [],
+      answers 25000000 125000000 (ran (ended Met 125000000 125000000 2 125000000) ∷ []),
+    )
+    -- E3: the common part comes before a fault, which would take one refinement.
+    ∷ (worked (table (half ∷ half ∷ []) (3 ∷ 2 ∷ []) (0 ∷ 1 ∷ [])) (run ∷ []) [], answers quarter half (ran (ended Met half half 2 half) ∷ []))
+    -- E4: faults that all ways name absent are common too.
+    ∷ (worked (table (fifth ∷ half ∷ []) (0 ∷ 1 ∷ []) (3 ∷ 2 ∷ [])) (run ∷ []) [], answers 400000000 half (ran (ended Met half half 2 half) ∷ []))
+    -- E5: a fault named in both senses is not.
+    ∷ (worked (table (fifth ∷ fifth ∷ []) (0 ∷ 2 ∷ []) (2 ∷ 0 ∷ [])) (run ∷ []) [], answers 800000000 S (ran (ended Met S S 1 S) ∷ []))
+    -- E6: the product is rounded down at the low end and up at the high end.
+    ∷ (
+      worked (table (third ∷ fifth ∷ half ∷ []) (4 ∷ 1 ∷ []) (2 ∷ 2 ∷ [])) (run ∷ []) [],
+      answers 400000000 666666667 (ran (ended Done 533333332 533333334 2 533333333) ∷ []),
+    )
+    -- E7: the left child is closed; in the right child the common fault does not occur, and nothing is common.
+    ∷ (
+      worked p4 (takeOut ∷ byHand (0 ∷ []) (Shannon 0) ∷ byHand (1 ∷ []) (Shannon 0) ∷ byHand (1 ∷ []) IndependentAnd ∷ []) [],
+      answers quarter 350000000 (handed (at 300000000 350000000 1) ∷ refusedBy 18 ∷ refusedBy 20 ∷ refusedBy 20 ∷ []),
+    )
+    -- E8: once fault 1 is fixed below, fault 4 stays left out.
+    ∷ (
+      worked (table (half ∷ half ∷ half ∷ half ∷ half ∷ []) (19 ∷ 22 ∷ 28 ∷ []) (0 ∷ 0 ∷ 0 ∷ [])) (takeOut ∷ byHand (1 ∷ []) (Shannon 1) ∷ [])
+          ((right ∷ left ∷ []) ∷ (right ∷ right ∷ []) ∷ []),
+      record {
+        opening = at 125000000 375000000 0;
+        back = handed (at 218750000 375000000 1) ∷ handed (at quarter 312500000 1) ∷ [];
+        then =
+            some (record { ways = way 0 1 ∷ way 1 4 ∷ []; present = 2; absent = 0; out = 16 })
+            ∷ some (record { ways = way 2 12 ∷ []; present = 0; absent = 2; out = 16 })
+            ∷ [];
+      },
+    )
+    ∷ []
+
+-- E1 TO E8 HOLD.
+pub commons-on-paper : AllEqual commons
+unfolding of-lists
+commons-on-paper = (refl, (refl, (refl, (refl, (refl, (refl, (refl, (refl, tt))))))))
 
 -- ---- the whole sheet
 

@@ -1,5 +1,5 @@
 -- The remaining ways: fixing faults one after the other is fixing them all at once, and what remains after fixing a fault happens
--- exactly where the ways happen with that fault so set. Rests on Bits.antt.
+-- exactly where the ways happen with that fault so set; and what leaving faults out does to them. Rests on Bits.antt.
 use mathlib.Core.Path.{_≡_, refl, sym, ap, ap₂, _∙_}
 use mathlib.Core.Bool.{Bool, true, false, not, _&&_, _||_, true≢false}
 use mathlib.Core.List.{List, [], _∷_}
@@ -7,10 +7,10 @@ use Prim.Native.Nat.{ℕ, zero, suc, _/_, _^_, _<_}
 use native.Mathlib.Omega.{arith}
 use lib.ListN.{length, set}
 use lib.Dec.{eqb, eqb·zero-suc}
-use lib.Bits.{bitAnd, bitOr, and-zero-r, or-zero-l, or-zero-r}
+use lib.Bits.{bitAnd, bitOr, and-zero-r, or-comm, or-zero-l, or-zero-r}
 use borrow.Author.Tests.{eqb-true, eq-eqb}
 use Rattle.rules.specs.Table.{odd, bit, Way, faults, Assignment, fits, fitsAll, satisfies, happens}
-use Rattle.rules.specs.Leaf.{any, contradicted, without, dropped, remaining}
+use Rattle.rules.specs.Leaf.{any, contradicted, without, dropped, remaining, dropAll}
 use Rattle.rules.specs.Tree.{occurs}
 use Rattle.rules.proofs.Booleans.{and-false, and-true, or-neither, is-true, any-head, any-tail, any-cons}
 use Rattle.rules.proofs.Bits.{bit-and, bit-or, bit-without, bit-pow, bit-nonzero, bits-zero, bits-ext, or-zero, without-half, apart-bit}
@@ -278,14 +278,59 @@ fix-again P A P′ A′ h (v ∷ us) = rw (contradicted-join P A P′ A′ v, re
         rw (contradicted-dropped m P′ A′ v h ∙ e, remaining)
         (ap₂ (λ (x : Way) (y : List Way). x ∷ y) (dropped-twice m (bitOr P′ A′) v ∙ ap (λ (k : ℕ). dropped k v) (or-regroup P A P′ A′)) ih)
 
+-- A way with no fault dropped.
+drop-nothing : (v : Way) → dropped 0 v ≡ v
+drop-nothing v = λ i. record { number = v .number; present = without-zero (v .present) i; absent = without-zero (v .absent) i }
+
 -- Nothing fixed: all ways remain as they are.
 pub fix-none : (us : List Way) → remaining 0 0 us ≡ us
 unfolding remaining
 fix-none [] = refl
-fix-none (v ∷ us) = rw (free, remaining) (ap₂ (λ (x : Way) (y : List Way). x ∷ y) same (fix-none us))
+fix-none (v ∷ us) = rw (free, remaining) (ap₂ (λ (x : Way) (y : List Way). x ∷ y) (drop-nothing v) (fix-none us))
   where
     free : contradicted 0 0 v ≡ false
     free = ap (λ (k : ℕ). not (eqb k 0)) (ap₂ bitOr (and-zero-r (v .present)) (and-zero-r (v .absent)))
 
-    same : dropped 0 v ≡ v
-    same = λ i. record { number = v .number; present = without-zero (v .present) i; absent = without-zero (v .absent) i }
+-- ---- faults left out
+
+-- A test that no way passes, and that dropping faults does not bring about, none passes with faults left out.
+pub drop-any : (h : Way → Bool) → ((m : ℕ) (v : Way) → h v ≡ false → h (dropped m v) ≡ false) → (m : ℕ) (vs : List Way) → any h vs ≡ false
+    → any h (dropAll m vs) ≡ false
+unfolding dropAll any
+drop-any h f m [] e = refl
+drop-any h f m (v ∷ vs) e = any-cons h (dropped m v) (dropAll m vs) (f m v (any-head h v vs e)) (drop-any h f m vs (any-tail h v vs e))
+
+-- A fault that is left out does not occur.
+pub drop-gone : (f m : ℕ) (vs : List Way) → bit f m ≡ true → occurs f (dropAll m vs) ≡ false
+unfolding dropAll occurs any
+drop-gone f m [] b = refl
+drop-gone f m (v ∷ vs) b =
+    or-neither _ _ (dropped-faults f m v ∙ ap (λ (x : Bool). bit f (faults v) && not x) b ∙ and-false (bit f (faults v))) (drop-gone f m vs b)
+
+-- Nothing left out.
+pub drop-none : (vs : List Way) → dropAll 0 vs ≡ vs
+unfolding dropAll
+drop-none [] = refl
+drop-none (v ∷ vs) = ap₂ (λ (x : Way) (y : List Way). x ∷ y) (drop-nothing v) (drop-none vs)
+
+-- Faults left out after others are left out together.
+pub drop-twice : (m m′ : ℕ) (vs : List Way) → dropAll m′ (dropAll m vs) ≡ dropAll (bitOr m m′) vs
+unfolding dropAll
+drop-twice m m′ [] = refl
+drop-twice m m′ (v ∷ vs) = ap₂ (λ (x : Way) (y : List Way). x ∷ y) (dropped-twice m m′ v) (drop-twice m m′ vs)
+
+-- Leaving faults out and fixing others may change places.
+pub drop-fixed : (O P A : ℕ) → not (eqb (bitAnd O (bitOr P A)) 0) ≡ false → (us : List Way) → remaining P A (dropAll O us) ≡ dropAll O (remaining P A us)
+unfolding remaining dropAll
+drop-fixed O P A h [] = refl
+drop-fixed O P A h (v ∷ us) = rw (contradicted-dropped O P A v h, remaining) (by (contradicted P A v) (drop-fixed O P A h us))
+  where
+    swapped : dropped (bitOr P A) (dropped O v) ≡ dropped O (dropped (bitOr P A) v)
+    swapped = dropped-twice O (bitOr P A) v ∙ ap (λ (k : ℕ). dropped k v) (or-comm O (bitOr P A)) ∙ sym (dropped-twice (bitOr P A) O v)
+
+    by : (b : Bool) → remaining P A (dropAll O us) ≡ dropAll O (remaining P A us)
+        → _≡_ {A = List Way}
+        (elim b as (λ b. List Way) [ true ↦ remaining P A (dropAll O us) | false ↦ dropped (bitOr P A) (dropped O v) ∷ remaining P A (dropAll O us) ])
+        (dropAll O (elim b as (λ b. List Way) [ true ↦ remaining P A us | false ↦ dropped (bitOr P A) v ∷ remaining P A us ]))
+    by true ih = ih
+    by false ih = ap₂ (λ (x : Way) (y : List Way). x ∷ y) swapped ih

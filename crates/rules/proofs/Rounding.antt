@@ -1,5 +1,5 @@
 -- Rounding: each rounded number bounds the exact one on its side, and none moves outwards when what it is made of moves inwards.
--- Every fact is stated once for both directions; leaf, independent-or and Shannon nodes all use these. Rests on specs/ alone.
+-- Every fact is stated once for both directions; leaves and all kinds of inner nodes use these. Rests on specs/ alone.
 use mathlib.Core.Path.{_≡_, ap}
 use Prim.Native.Nat.{ℕ, _+_, _-_, _*_, _≤_, _<_, min, max}
 use native.Mathlib.Nat.{mul-le-mul, mul-le-mul-left, mul-le-mul-right, mul-sub, sub-le-sub-left, le-of-mul-le-mul-right}
@@ -40,8 +40,9 @@ unflip : (d : Dir) (a b : ℕ) → Le (flip (flip d)) a b → Le d a b
 unflip down a b h = h
 unflip up a b h = h
 
--- A rounded product of bounds on two independent parts bounds their joint part.
-product-bound : (e : Dir) (X Y N M₁ M₂ M : ℕ) → 0 < N → M * N ≡ M₁ * M₂ → Le e (X * N) (S * M₁) → Le e (Y * N) (S * M₂) → Le e (over e (X * Y) * N) (S * M)
+-- THE COMMON PART: a rounded product of bounds on two independent parts bounds their joint part.
+pub product-bound : (e : Dir) (X Y N M₁ M₂ M : ℕ) → 0 < N → M * N ≡ M₁ * M₂ → Le e (X * N) (S * M₁) → Le e (Y * N) (S * M₂)
+    → Le e (over e (X * Y) * N) (S * M)
 product-bound down X Y N M₁ M₂ M pos e p q =
     let k : X * Y * N * N ≤ S * (S * M) * N = omega (arith, mul-le-mul p q, e) in
     let c : X * Y * N ≤ S * (S * M) = le-of-mul-le-mul-right k pos in
@@ -87,7 +88,7 @@ pub overlap-left : (d : Dir) (x y : ℕ) → Le d x (overlap d x y)
 overlap-left down x y = omega arith
 overlap-left up x y = omega arith
 
--- The overlap, independence and a fault: none is looser when what it is made of is not.
+-- The overlap, independence, the common part and a fault: none is looser when what it is made of is not.
 pub overlap-mono : (d : Dir) (x x′ y y′ : ℕ) → Le d x x′ → Le d y y′ → Le d (overlap d x y) (overlap d x′ y′)
 overlap-mono down x x′ y y′ p q = omega arith
 overlap-mono up x x′ y y′ p q = omega arith
@@ -97,6 +98,10 @@ either-mono down x x′ y y′ p q =
     omega (arith, over-mono up ((S - x) * (S - y)) ((S - x′) * (S - y′)) (mul-le-mul (sub-le-sub-left p S) (sub-le-sub-left q S)))
 either-mono up x x′ y y′ p q =
     omega (arith, over-mono down ((S - x) * (S - y)) ((S - x′) * (S - y′)) (mul-le-mul (sub-le-sub-left p S) (sub-le-sub-left q S)))
+
+pub product-mono : (d : Dir) (x x′ y y′ : ℕ) → Le d x x′ → Le d y y′ → Le d (over d (x * y)) (over d (x′ * y′))
+product-mono down x x′ y y′ p q = over-mono down (x * y) (x′ * y′) (mul-le-mul p q)
+product-mono up x x′ y y′ p q = over-mono up (x * y) (x′ * y′) (mul-le-mul p q)
 
 pub mean-mono : (d : Dir) (w x x′ y y′ : ℕ) → Le d x x′ → Le d y y′ → Le d (mean d w x y) (mean d w x′ y′)
 mean-mono down w x x′ y y′ p q = over-mono down _ _ (omega (arith, mul-le-mul-left w p, mul-le-mul-left (S - w) q))

@@ -1,7 +1,7 @@
 -- Runs: what a run makes is a series of acceptable refinements, two runs in a row are one run, and what each verdict says.
 -- Rests on Widest.antt for the leaf, on Levels.antt for the fault, on Series.antt for counting.
 use mathlib.Core.Path.{_≡_, refl, sym, ap, _∙_, subst}
-use mathlib.Core.Bool.{Bool, true, false, true≢false}
+use mathlib.Core.Bool.{Bool, true, false, not, true≢false}
 use mathlib.Core.List.{List, [], _∷_, _++_}
 use mathlib.Core.Option.{Option, none, some, Option·some-injective, Option·none-ne-some}
 use mathlib.Core.Logic.{_↔_}
@@ -9,21 +9,23 @@ use Prim.Native.Nat.{ℕ, zero, suc, _+_, _≤_, _<_}
 use native.Mathlib.Nat.{suc-add, zero-add}
 use native.Mathlib.Omega.{arith}
 use lib.ListN.{length, length-append}
+use lib.Dec.{eqb}
 use borrow.Author.Tests.{ltb-true, ltb-false, lt-ltb}
 use Rattle.rules.specs.Table.{Way, Table}
 use Rattle.rules.specs.Leaf.{isOpen}
 use Rattle.rules.specs.Group.{fallApart}
+use Rattle.rules.specs.Common.{shared}
 use Rattle.rules.specs.Tree.{rootWays, left, right, Place, DTree, leaf, inner, possible, child, low, high}
 use Rattle.rules.specs.Tree.{inners, Refinement, refine, grow, leafWays, roomy, acceptable, seriesFrom}
 use Rattle.rules.specs.Run.{Candidate, widest, mostNamed, choice, next, narrow, Turn, stop, go, turn, picks, verdict, ran}
 use Rattle.rules.specs.Refusals.{namesBeyond, Accepted}
 use Rattle.rules.specs.declared.Kind.{Kind}
-use Rattle.rules.specs.declared.Kind.the-variants.{IndependentOr, Shannon}
+use Rattle.rules.specs.declared.Kind.the-variants.{IndependentOr, IndependentAnd, Shannon}
 use Rattle.rules.specs.declared.Aim.{Aim}
 use Rattle.rules.specs.declared.Verdict.{Verdict}
 use Rattle.rules.specs.declared.Verdict.the-variants.{Met, Done, Full, Spent}
 use Rattle.rules.proofs.Booleans.{and-both}
-use Rattle.rules.proofs.Enclosure.{child-inside}
+use Rattle.rules.proofs.Settled.{child-inside}
 use Rattle.rules.proofs.Levels.{open-occurs}
 use Rattle.rules.proofs.Series.{grow-append, grown-inners}
 use Rattle.rules.proofs.Widest.{NoneOpen, Law, nothing, the, widest-law, widest-none, named-occurs, occurs-named, most-named}
@@ -34,11 +36,17 @@ use Rattle.rules.proofs.Accepted.{root-inside}
 -- The chosen kind is possible at an open leaf.
 choice-possible : (ws : List ℕ) (vs : List Way) → namesBeyond (length ws) vs ≡ false → isOpen ws vs ≡ true → possible (choice ws vs) vs ≡ true
 unfolding choice possible
-choice-possible ws vs h o = by (fallApart vs) refl
+choice-possible ws vs h o = by (fallApart vs) refl (not (eqb (shared vs) 0)) refl
   where
-    by : (b : Bool) → fallApart vs ≡ b → possible (elim b as (λ b. Kind) [ true ↦ IndependentOr | false ↦ Shannon (mostNamed (length ws) vs) ]) vs ≡ true
-    by true e = e
-    by false e =
+    by : (b : Bool) → fallApart vs ≡ b → (c : Bool) → not (eqb (shared vs) 0) ≡ c
+        → possible
+        (elim b as (λ b. Kind)
+        [ true ↦ IndependentOr | false ↦ elim c as (λ b. Kind) [ true ↦ IndependentAnd | false ↦ Shannon (mostNamed (length ws) vs) ] ])
+        vs
+        ≡ true
+    by true e c d = e
+    by false e true d = d
+    by false e false d =
         let r = open-occurs (length ws) ws vs h o in
         named-occurs _ vs (omega (arith, occurs-named (r .0) vs (r .2), most-named (length ws) (r .0) vs (r .1)))
 

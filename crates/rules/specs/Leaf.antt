@@ -48,6 +48,11 @@ remaining present absent (v ∷ vs) =
     elim (contradicted present absent v) as (λ b. List Way)
     [ true ↦ remaining present absent vs | false ↦ dropped (bitOr present absent) v ∷ remaining present absent vs ]
 
+-- Ways with some faults left out of each (RULES 4.15).
+unfoldable pub dropAll : ℕ → List Way → List Way
+dropAll m [] = []
+dropAll m (v ∷ vs) = dropped m v ∷ dropAll m vs
+
 -- ---- ways that say nothing new (RULES 3.3, 3.4): they are left out at every leaf, once faults are fixed
 
 -- The ways of a list that pass a test.

@@ -4,6 +4,7 @@ pub mod Rounding
 pub mod Table
 pub mod Leaf
 pub mod Group
+pub mod Common
 pub mod Tree
 pub mod Run
 pub mod Refusals

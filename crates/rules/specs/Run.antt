@@ -1,17 +1,18 @@
 -- A run: when it stops, which leaf it takes, what it does there and the figure that it hands back (RULES 5.6 to 5.10, 5.16).
 -- The allowance is a distance: how far the exact chance may be from that figure, above or below.
-use mathlib.Core.Bool.{Bool, true, false}
+use mathlib.Core.Bool.{Bool, true, false, not}
 use mathlib.Core.List.{List, [], _∷_}
 use mathlib.Core.Option.{Option, none, some}
 use Prim.Native.Nat.{ℕ, zero, suc, _+_, _-_, _*_, _/_}
 use lib.ListN.{length}
-use lib.Dec.{ltb, leb}
+use lib.Dec.{eqb, ltb, leb}
 use Rattle.rules.specs.Table.{bit, Way, Table, faults}
 use Rattle.rules.specs.Leaf.{leafWidth, isOpen}
 use Rattle.rules.specs.Group.{fallApart}
+use Rattle.rules.specs.Common.{shared}
 use Rattle.rules.specs.Tree.{Side, left, right, Place, DTree, leaf, inner, child, rootWays, low, high, roomy, Refinement, refine, grow}
 use Rattle.rules.specs.declared.Kind.{Kind}
-use Rattle.rules.specs.declared.Kind.the-variants.{IndependentOr, Shannon}
+use Rattle.rules.specs.declared.Kind.the-variants.{IndependentOr, IndependentAnd, Shannon}
 use Rattle.rules.specs.declared.Limits.{Limits}
 use Rattle.rules.specs.declared.Aim.{Aim}
 use Rattle.rules.specs.declared.Verdict.{Verdict}
@@ -56,9 +57,14 @@ mostNamed (suc n) vs =
     let f = mostNamed n vs in
     elim (ltb (named f vs) (named n vs)) as (λ b. ℕ) [ true ↦ n | false ↦ f ]
 
--- What is done there (RULES 5.9): by independence where the ways fall apart, else by the fault that most of them name.
+-- What is done there (RULES 5.9): by independence where the ways fall apart, else by the common part where there is one, else by the fault that most
+-- of them name.
 unfoldable pub choice : List ℕ → List Way → Kind
-choice ws vs = elim (fallApart vs) as (λ b. Kind) [ true ↦ IndependentOr | false ↦ Shannon (mostNamed (length ws) vs) ]
+choice ws vs =
+    elim (fallApart vs) as (λ b. Kind) [
+      | true ↦ IndependentOr
+      | false ↦ elim (not (eqb (shared vs) 0)) as (λ b. Kind) [ true ↦ IndependentAnd | false ↦ Shannon (mostNamed (length ws) vs) ]
+    ]
 
 -- The refinement that the rule picks next, if a leaf is open.
 unfoldable pub next : Table → DTree → Option Refinement

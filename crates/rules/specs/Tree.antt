@@ -1,18 +1,19 @@
 -- The decomposition tree: its refinements, the interval at each place, and which refinements are acceptable (RULES 4).
 -- A d-tree, but for two differences (RULES 12.2): every combination is rounded, and an inner node keeps the overlap with its own leaf interval.
-use mathlib.Core.Bool.{Bool, true, false, _&&_}
+use mathlib.Core.Bool.{Bool, true, false, not, _&&_}
 use mathlib.Core.List.{List, [], _∷_}
 use mathlib.Core.Option.{Option, none, some}
 use Prim.Native.Nat.{ℕ, suc, _+_, _-_, _*_, _^_, min, max}
 use lib.ListN.{getD}
-use lib.Dec.{ltb}
+use lib.Dec.{eqb, ltb}
 use lib.Bits.{bitOr}
 use Rattle.rules.specs.Rounding.{S, Dir, down, up, over}
 use Rattle.rules.specs.Table.{bit, Way, Table, ways, faults}
-use Rattle.rules.specs.Leaf.{any, remaining, minimal, either, leafEnd, isOpen}
+use Rattle.rules.specs.Leaf.{any, remaining, dropAll, minimal, either, leafEnd, isOpen}
 use Rattle.rules.specs.Group.{group, others, fallApart}
+use Rattle.rules.specs.Common.{shared, lowest, spare}
 use Rattle.rules.specs.declared.Kind.{Kind}
-use Rattle.rules.specs.declared.Kind.the-variants.{IndependentOr, Shannon}
+use Rattle.rules.specs.declared.Kind.the-variants.{IndependentOr, IndependentAnd, Shannon}
 
 -- The left or the right child of an inner node.
 pub data Side : Type 0 where
@@ -33,16 +34,19 @@ pub data DTree : Type 0 where
 unfoldable pub occurs : ℕ → List Way → Bool
 occurs f vs = any (λ v. bit f (faults v)) vs
 
--- The refinement can be made at a leaf with these ways: they fall apart, or the fault occurs in them.
+-- The refinement can be made at a leaf with these ways: they fall apart, they have a common part, or the fault occurs in them.
 unfoldable pub possible : Kind → List Way → Bool
 possible IndependentOr vs = fallApart vs
+possible IndependentAnd vs = not (eqb (shared vs) 0)
 possible (Shannon f) vs = occurs f vs
 
--- The ways of a child: the first group and the other ways, where all stay that stayed before; or what stays of those that remain with the fault
--- fixed present, and with it fixed absent.
+-- The ways of a child: the first group and the other ways; the common part, which is what is left of the lowest numbered way, and the ways without
+-- it: where all stay that stayed before; or what stays of those that remain with the fault fixed present, and with it fixed absent.
 unfoldable pub child : Kind → Side → List Way → List Way
 child IndependentOr left vs = group vs
 child IndependentOr right vs = others vs
+child IndependentAnd left vs = dropAll (spare vs) (lowest vs)
+child IndependentAnd right vs = dropAll (shared vs) vs
 child (Shannon f) left vs = minimal (remaining (2 ^ f) 0 vs)
 child (Shannon f) right vs = minimal (remaining 0 (2 ^ f) vs)
 
@@ -53,6 +57,7 @@ mean d w x y = over d (w * x + (S - w) * y)
 -- The end that a node has from those of its children (RULES 4.6).
 unfoldable pub combine : Kind → Dir → List ℕ → ℕ → ℕ → ℕ
 combine IndependentOr d ws x y = either d x y
+combine IndependentAnd d ws x y = over d (x * y)
 combine (Shannon f) d ws x y = mean d (getD ws f 0) x y
 
 -- ---- the interval
@@ -159,25 +164,36 @@ leafWays (b ∷ p) vs leaf = none
 leafWays (left ∷ p) vs (inner k l r) = leafWays p (child k left vs) l
 leafWays (right ∷ p) vs (inner k l r) = leafWays p (child k right vs) r
 
--- A node by itself: its set of ways, the words of the faults fixed present and absent, and its remaining ways.
+-- A node by itself: its set of ways, the words of the faults fixed present, fixed absent and left out, and its remaining ways.
 pub record Node : Type 0 where
   pub set : List Way
   pub present : ℕ
   pub absent : ℕ
+  pub out : ℕ
   pub ways : List Way
 
--- A child's set: its group or the other ways; under a fault, what stays at its parent, so that a way left out there does not come back.
+-- A child's set, which counts by its numbers: its own ways; under a fault, what stays at its parent, so that a way left out there does not come back.
 unfoldable pub childSet : Kind → Side → List Way → List Way → List Way
 childSet IndependentOr b us vs = child IndependentOr b vs
+childSet IndependentAnd b us vs = child IndependentAnd b vs
 childSet (Shannon f) b us vs = vs
 
 -- The word of the faults fixed present (left) or absent (right), in a child: under a fault the left child fixes it present, the right absent.
 unfoldable pub childFixed : Side → Kind → Side → ℕ → ℕ
 childFixed a IndependentOr b m = m
+childFixed a IndependentAnd b m = m
 childFixed left (Shannon f) left m = bitOr m (2 ^ f)
 childFixed left (Shannon f) right m = m
 childFixed right (Shannon f) left m = m
 childFixed right (Shannon f) right m = bitOr m (2 ^ f)
+
+-- The word of the faults left out, in a child: where the common part is taken out, the left child leaves out what its one way names besides, the
+-- right child the common part.
+unfoldable pub childOut : Kind → Side → ℕ → List Way → ℕ
+childOut IndependentOr b o vs = o
+childOut IndependentAnd left o vs = bitOr o (spare vs)
+childOut IndependentAnd right o vs = bitOr o (shared vs)
+childOut (Shannon f) b o vs = o
 
 -- A child of a node of kind k.
 abbrev pub childNode : Kind → Side → Node → Node
@@ -186,6 +202,7 @@ childNode k b x =
       set = childSet k b (x .set) (x .ways);
       present = childFixed left k b (x .present);
       absent = childFixed right k b (x .absent);
+      out = childOut k b (x .out) (x .ways);
       ways = child k b (x .ways);
     }
 
@@ -201,9 +218,9 @@ descend (b ∷ p) x leaf = none
 descend (left ∷ p) x (inner k l r) = descend p (childNode k left x) l
 descend (right ∷ p) x (inner k l r) = descend p (childNode k right x) r
 
--- The root: its set is all ways, and nothing is fixed.
+-- The root: its set is all ways, nothing is fixed and nothing left out.
 abbrev pub root : Table → Node
-root t = record { set = ways t; present = 0; absent = 0; ways = rootWays t }
+root t = record { set = ways t; present = 0; absent = 0; out = 0; ways = rootWays t }
 
 -- What stands at a place of a table's tree.
 unfoldable pub subtree : Table → Place → DTree → Option Subtree

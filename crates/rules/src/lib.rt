@@ -12,9 +12,11 @@ pub struct Way {
 }
 
 /// What a refinement does at a leaf, and so the kind of the inner node that it makes (RULES 4.1).
-/// `IndependentOr` is by independence (RULES 4.3); `Shannon` is by a fault (RULES 4.4): the Shannon expansion on that fault.
+/// `IndependentOr` is by independence (RULES 4.3); `IndependentAnd` takes the common part out (RULES 4.16); `Shannon` is by a fault (RULES 4.4):
+/// the Shannon expansion on that fault.
 pub enum Kind {
     IndependentOr,
+    IndependentAnd,
     Shannon(u64),
 }
 
