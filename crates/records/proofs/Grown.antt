@@ -181,7 +181,8 @@ module _ (t : Table) (ns : List Refinement) (whole : series t ns ≡ true) (n : 
   fresh-is : (b : Side) → freshRecord t (childNode (n .kind) b (spotOf t (recordAt t ns p))) at-p ≡ recordAt t ms (p ++ (b ∷ []))
   unfolding recordAt subtree subtreeOr leftCode
   fresh-is b =
-      (λ i. freshRecord t (childNode (n .kind) b (record { set = []; present = told i .node .present; absent = told i .node .absent; ways = ways-told i }))
+      (λ i. freshRecord t (childNode (n .kind) b
+      (record { set = []; present = told i .node .present; absent = told i .node .absent; out = told i .node .out; ways = ways-told i }))
       at-p)
       ∙ sym (λ i. recordFrom t (undone i) (subtreeOr (stands i)) (up-link i) (down-link i))
     where

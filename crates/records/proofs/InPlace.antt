@@ -11,7 +11,7 @@ use lib.Seq.{getD-append-add}
 use Rattle.rules.specs.Table.{Table}
 use Rattle.rules.specs.Tree.{Place, Refinement, tree, kindAt, series}
 use Rattle.rules.specs.declared.Kind.{Kind}
-use Rattle.rules.specs.declared.Kind.the-variants.{IndependentOr, Shannon}
+use Rattle.rules.specs.declared.Kind.the-variants.{IndependentOr, IndependentAnd, Shannon}
 use Rattle.rules.proofs.Series.{series-inners, series-room}
 use Rattle.records.specs.Records.{treeRecords, blank, places, position, above, kindCode, faultCode, kindOf, recordAt, recordsOf}
 use Rattle.records.specs.declared.Node.{Node}
@@ -71,6 +71,7 @@ kind-at t ns q k d = by k (recordAt t ns q) (ap kindCode d) (ap faultCode d)
   where
     by : (k : Kind) (x : Node) → x .kind ≡ kindCode (some k) → x .fault ≡ faultCode (some k) → kindOf x ≡ k
     by IndependentOr x c f = rw c
+    by IndependentAnd x c f = rw c
     by (Shannon g) x c f = rw (c, f)
 
 -- A record's parent link.

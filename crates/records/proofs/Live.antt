@@ -12,8 +12,9 @@ use lib.Dec.{eqb}
 use Rattle.rules.specs.Rounding.{down, up}
 use Rattle.rules.specs.Table.{Table, ways}
 use Rattle.rules.specs.declared.Way.{Way}
-use Rattle.rules.specs.Leaf.{hasNumber, remaining, sift, minimal, Lean, leafWidth, isOpen}
+use Rattle.rules.specs.Leaf.{hasNumber, remaining, dropAll, sift, minimal, Lean, leafWidth, isOpen}
 use Rattle.rules.specs.Tree.{rootWays, Place, DTree, end, Refinement, tree, kindAt, leafWays, Subtree, descend, root, subtree, series}
+use Rattle.rules.specs.Refusals.{Accepted}
 use Rattle.rules.specs.declared.Kind.{Kind}
 use Rattle.rules.proofs.HandedDown.{handed-lean}
 use Rattle.rules.proofs.Sets.{select-none}
@@ -59,8 +60,8 @@ holds t ns h p i = by (has-subtree p (root t) (tree ns) (held-has t ns h p i)) (
 
 -- A blank record has no ways.
 blank-ways : (t : Table) → recordWays t blank ≡ []
-unfolding recordWays lowWord highWord hasNumber remaining
-blank-ways t = ap (remaining 0 0) (select-none (inWords 0 0) (λ i. words-number [] i) (ways t))
+unfolding recordWays lowWord highWord hasNumber remaining dropAll
+blank-ways t = ap (λ (vs : List Way). dropAll 0 (remaining 0 0 vs)) (select-none (inWords 0 0) (λ i. words-number [] i) (ways t))
 
 -- None at all are lean.
 lean-none : Lean []
@@ -68,9 +69,9 @@ unfolding minimal sift
 lean-none = refl
 
 -- In every record of a series, in use or blank.
-lean-record : (t : Table) (ns : List Refinement) → series t ns ≡ true → (j : ℕ) → Lean (recordWays t (recordIn (recordsOf t ns) j))
+lean-record : (t : Table) → Accepted t → (ns : List Refinement) → series t ns ≡ true → (j : ℕ) → Lean (recordWays t (recordIn (recordsOf t ns) j))
 unfolding subtree
-lean-record t ns h j = by (decLt j (length (places ns)))
+lean-record t ok ns h j = by (decLt j (length (places ns)))
   where
     of-ways : (us : List Way) → recordWays t (recordIn (recordsOf t ns) j) ≡ us → Lean us → Lean (recordWays t (recordIn (recordsOf t ns) j))
     of-ways us e l = subst Lean (sym e) l
@@ -79,10 +80,10 @@ lean-record t ns h j = by (decLt j (length (places ns)))
     by (yes l) =
         let p : Place = getD (places ns) j [] in
         let x = has-subtree p (root t) (tree ns) (held-has t ns h p (held-at (places ns) j l)) in
-        of-ways (x .0 .node .ways) (ap (recordWays t) (record-of t ns j l) ∙ record-ways t ns h p (x .0) (x .1)) (handed-lean t ns h p (x .0) (x .1))
+        of-ways (x .0 .node .ways) (ap (recordWays t) (record-of t ns j l) ∙ record-ways t ns h p (x .0) (x .1)) (handed-lean t ok ns h p (x .0) (x .1))
     by (no l) = of-ways [] (ap (recordWays t) (record-rest t ns j (omega arith)) ∙ blank-ways t) lean-none
 
 -- IN EVERY RECORD OF A GOOD TREE.
-pub lean-at : (t : Table) (x : Tree) → Good t x → (j : ℕ) → Lean (recordWays t (recordIn (x .nodes) j))
+pub lean-at : (t : Table) → Accepted t → (x : Tree) → Good t x → (j : ℕ) → Lean (recordWays t (recordIn (x .nodes) j))
 unfolding layout
-lean-at t x g j = subst (λ (y : Tree). Lean (recordWays t (recordIn (y .nodes) j))) (sym (g .is)) (lean-record t (g .made) (g .accepted) j)
+lean-at t ok x g j = subst (λ (y : Tree). Lean (recordWays t (recordIn (y .nodes) j))) (sym (g .is)) (lean-record t ok (g .made) (g .accepted) j)

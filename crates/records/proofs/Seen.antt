@@ -11,7 +11,7 @@ use Rattle.rules.specs.Table.{Table}
 use Rattle.rules.specs.Tree.{Side, left, right, Place, inners, Refinement, tree, kindAt}
 use Rattle.rules.specs.Tree.{Subtree, descend, subtree, root, Interval, interval, intervalAt, series}
 use Rattle.rules.specs.declared.Kind.{Kind}
-use Rattle.rules.specs.declared.Kind.the-variants.{IndependentOr, Shannon}
+use Rattle.rules.specs.declared.Kind.the-variants.{IndependentOr, IndependentAnd, Shannon}
 use Rattle.rules.proofs.Places.{subtree-has, subtree-child, nothing-stands, nothing-below}
 use Rattle.rules.proofs.Members.{In}
 use Rattle.rules.proofs.Series.{only-done, series-inners}
@@ -27,6 +27,7 @@ done-back : (o : Option Kind) (x : Node) → x .kind ≡ kindCode o → x .fault
 unfolding didThere kindCode faultCode kindOf
 done-back none x e f = rw e
 done-back (some IndependentOr) x e f = rw e
+done-back (some IndependentAnd) x e f = rw e
 done-back (some (Shannon g)) x e f = rw (e, f)
 
 -- ---- one step of the walk

@@ -30,9 +30,10 @@ same-node x y h0 =
     let h7 = and-right (eqb (x .waysb) (y .waysb)) _ h6 in
     let h8 = and-right (eqb (x .present) (y .present)) _ h7 in
     let h9 = and-right (eqb (x .absent) (y .absent)) _ h8 in
-    let h10 = and-right (eqb (x .low) (y .low)) _ h9 in
-    let h11 = and-right (eqb (x .high) (y .high)) _ h10 in
-    let h12 = and-right (eqb (x .ownlow) (y .ownlow)) _ h11 in
+    let h10 = and-right (eqb (x .out) (y .out)) _ h9 in
+    let h11 = and-right (eqb (x .low) (y .low)) _ h10 in
+    let h12 = and-right (eqb (x .high) (y .high)) _ h11 in
+    let h13 = and-right (eqb (x .ownlow) (y .ownlow)) _ h12 in
     λ i. record {
       kind = eqb-true (x .kind) (y .kind) (and-left _ _ h0) i;
       fault = eqb-true (x .fault) (y .fault) (and-left _ _ h1) i;
@@ -43,10 +44,11 @@ same-node x y h0 =
       waysb = eqb-true (x .waysb) (y .waysb) (and-left _ _ h6) i;
       present = eqb-true (x .present) (y .present) (and-left _ _ h7) i;
       absent = eqb-true (x .absent) (y .absent) (and-left _ _ h8) i;
-      low = eqb-true (x .low) (y .low) (and-left _ _ h9) i;
-      high = eqb-true (x .high) (y .high) (and-left _ _ h10) i;
-      ownlow = eqb-true (x .ownlow) (y .ownlow) (and-left _ _ h11) i;
-      ownhigh = eqb-true (x .ownhigh) (y .ownhigh) h12 i;
+      out = eqb-true (x .out) (y .out) (and-left _ _ h9) i;
+      low = eqb-true (x .low) (y .low) (and-left _ _ h10) i;
+      high = eqb-true (x .high) (y .high) (and-left _ _ h11) i;
+      ownlow = eqb-true (x .ownlow) (y .ownlow) (and-left _ _ h12) i;
+      ownhigh = eqb-true (x .ownhigh) (y .ownhigh) h13 i;
     }
 
 eqb-self : (n : ℕ) → eqb n n ≡ true
@@ -66,6 +68,7 @@ node-self x =
       eqb-self (x .waysb),
       eqb-self (x .present),
       eqb-self (x .absent),
+      eqb-self (x .out),
       eqb-self (x .low),
       eqb-self (x .high),
       eqb-self (x .ownlow),

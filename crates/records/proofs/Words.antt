@@ -1,4 +1,4 @@
--- A record's two words are the set of its ways' numbers, and with its fixed faults they give its remaining ways back.
+-- A record's two words are the set of its ways' numbers, and with its fixed faults and those left out they give its remaining ways back.
 -- Rests on the rules' HandedDown.antt, which says that a node's own numbers may stand for its set, and on Bits.antt.
 use mathlib.Core.Path.{_≡_, refl, sym, ap, ap₂, _∙_}
 use mathlib.Core.Bool.{Bool, true, false, _||_}
@@ -12,7 +12,7 @@ use lib.Bits.{bitOr, or-lt}
 use borrow.Author.Tests.{ltb-true, ltb-false, eqb-true, eq-eqb, ne-eqb}
 use Rattle.rules.specs.Table.{bit, Table, ways}
 use Rattle.rules.specs.declared.Way.{Way}
-use Rattle.rules.specs.Leaf.{select, hasNumber, remaining}
+use Rattle.rules.specs.Leaf.{select, hasNumber, remaining, dropAll}
 use Rattle.rules.specs.Tree.{Place, Refinement, tree, Subtree, subtree, series}
 use Rattle.rules.specs.Tree.{Node as Spot}
 use Rattle.rules.proofs.Booleans.{same-test}
@@ -69,7 +69,7 @@ pub record-ways : (t : Table) (ns : List Refinement) → series t ns ≡ true �
 unfolding recordWays recordAt subtreeOr
 record-ways t ns h p x e =
     ap (λ (o : Option Subtree). told (subtreeOr o .node)) e
-    ∙ ap (remaining (x .node .present) (x .node .absent))
+    ∙ ap (λ (vs : List Way). dropAll (x .node .out) (remaining (x .node .present) (x .node .absent) vs))
     (select-same 0 (ways t) (inWords (lowWord us) (highWord us)) (hasNumber us) (ways-rising t) (λ j l. words-number us j))
     ∙ handed-own t ns h p x e
   where
@@ -77,7 +77,7 @@ record-ways t ns h p x e =
     us = x .node .ways
 
     told : Spot → List Way
-    told y = remaining (y .present) (y .absent) (select (inWords (lowWord (y .ways)) (highWord (y .ways))) (ways t))
+    told y = dropAll (y .out) (remaining (y .present) (y .absent) (select (inWords (lowWord (y .ways)) (highWord (y .ways))) (ways t)))
 
 -- ---- the low word fits 64 bits
 

@@ -30,6 +30,7 @@ changed x code f mark l lo hi =
       waysb = x .waysb;
       present = x .present;
       absent = x .absent;
+      out = x .out;
       low = lo;
       high = hi;
       ownlow = x .ownlow;
@@ -69,7 +70,7 @@ freshRecord t x up-link = recordFrom t none (record { node = x; below = leaf }) 
 
 -- What a record tells of its place. The set is the record's own ways.
 abbrev pub spotOf : Table → Node → Spot
-spotOf t x = record { set = recordWays t x; present = x .present; absent = x .absent; ways = recordWays t x }
+spotOf t x = record { set = recordWays t x; present = x .present; absent = x .absent; out = x .out; ways = recordWays t x }
 
 -- The record at j refined, and its two leaves in the next two records.
 unfoldable pub refinedAt : Table → List Node → ℕ → ℕ → Kind → List Node

@@ -11,10 +11,10 @@ use lib.Bits.{bitOr}
 use Rattle.rules.specs.Rounding.{down, up}
 use Rattle.rules.specs.Table.{bit, Table, ways}
 use Rattle.rules.specs.declared.Way.{Way}
-use Rattle.rules.specs.Leaf.{select, remaining, leafLow, leafHigh, isOpen}
+use Rattle.rules.specs.Leaf.{select, remaining, dropAll, leafLow, leafHigh, isOpen}
 use Rattle.rules.specs.Tree.{Side, left, right, Place, leaf, end, Refinement, tree, kindAt, Subtree, subtree, Interval, series}
 use Rattle.rules.specs.declared.Kind.{Kind}
-use Rattle.rules.specs.declared.Kind.the-variants.{IndependentOr, Shannon}
+use Rattle.rules.specs.declared.Kind.the-variants.{IndependentOr, IndependentAnd, Shannon}
 use Rattle.records.specs.declared.Node.{Node}
 use Rattle.records.specs.declared.Tree.{Tree}
 
@@ -24,7 +24,7 @@ treeRecords = 511
 
 -- The fields of a record.
 abbrev pub recordFields : ℕ
-recordFields = 13
+recordFields = 14
 
 -- A record that is not in use.
 abbrev pub blank : Node
@@ -39,6 +39,7 @@ blank =
       waysb = 0;
       present = 0;
       absent = 0;
+      out = 0;
       low = 0;
       high = 0;
       ownlow = 0;
@@ -83,16 +84,18 @@ above (b ∷ c ∷ p) = b ∷ above (c ∷ p)
 
 -- ---- the codes of a record
 
--- Leaf, independent-or, Shannon.
+-- Leaf, independent-or, independent-and, Shannon.
 unfoldable pub kindCode : Option Kind → ℕ
 kindCode none = 1
 kindCode (some IndependentOr) = 2
+kindCode (some IndependentAnd) = 4
 kindCode (some (Shannon f)) = 3
 
 -- The fault of a Shannon node.
 unfoldable pub faultCode : Option Kind → ℕ
 faultCode none = 0
 faultCode (some IndependentOr) = 0
+faultCode (some IndependentAnd) = 0
 faultCode (some (Shannon f)) = f
 
 -- 1 for an open leaf.
@@ -123,9 +126,9 @@ highWord (v ∷ vs) = elim (ltb (v .number) 64) as (λ b. ℕ) [ true ↦ highWo
 unfoldable pub inWords : ℕ → ℕ → ℕ → Bool
 inWords a b i = elim (ltb i 64) as (λ x. Bool) [ true ↦ bit i a | false ↦ bit (i - 64) b ]
 
--- The ways of a record: what remains, with its fixed faults, of the table's ways in its set.
+-- The ways of a record: what remains of the table's ways in its set, with its fixed faults, and without the faults left out.
 unfoldable pub recordWays : Table → Node → List Way
-recordWays t x = remaining (x .present) (x .absent) (select (inWords (x .waysa) (x .waysb)) (ways t))
+recordWays t x = dropAll (x .out) (remaining (x .present) (x .absent) (select (inWords (x .waysa) (x .waysb)) (ways t)))
 
 -- ---- the records of a series
 
@@ -142,6 +145,7 @@ recordFrom t o x up-link down-link =
       waysb = highWord (x .node .ways);
       present = x .node .present;
       absent = x .node .absent;
+      out = x .node .out;
       low = end down (t .weights) (x .node .ways) (x .below);
       high = end up (t .weights) (x .node .ways) (x .below);
       ownlow = leafLow (t .weights) (x .node .ways);
@@ -150,7 +154,7 @@ recordFrom t o x up-link down-link =
 
 -- What stands at a place, or an empty leaf where the tree has no such place.
 unfoldable pub subtreeOr : Option Subtree → Subtree
-subtreeOr none = record { node = record { set = []; present = 0; absent = 0; ways = [] }; below = leaf }
+subtreeOr none = record { node = record { set = []; present = 0; absent = 0; out = 0; ways = [] }; below = leaf }
 subtreeOr (some x) = x
 
 -- The record of a place.
@@ -174,7 +178,11 @@ noNodes = record { nodes = replicate treeRecords blank; used = 0 }
 
 -- What a record says was done.
 unfoldable pub kindOf : Node → Kind
-kindOf x = elim (eqb (x .kind) 2) as (λ b. Kind) [ true ↦ IndependentOr | false ↦ Shannon (x .fault) ]
+kindOf x =
+    elim (eqb (x .kind) 2) as (λ b. Kind) [
+      | true ↦ IndependentOr
+      | false ↦ elim (eqb (x .kind) 4) as (λ b. Kind) [ true ↦ IndependentAnd | false ↦ Shannon (x .fault) ]
+    ]
 
 -- k refinements: each from the parent of the next left child, whose place is known by then.
 unfoldable pub historyFrom : ℕ → List Place → List Node → List Node → List Refinement
@@ -206,9 +214,10 @@ sameNode x y =
     && (eqb (x .waysb) (y .waysb)
     && (eqb (x .present) (y .present)
     && (eqb (x .absent) (y .absent)
+    && (eqb (x .out) (y .out)
     && (eqb (x .low) (y .low)
     && (eqb (x .high) (y .high)
-    && (eqb (x .ownlow) (y .ownlow) && eqb (x .ownhigh) (y .ownhigh))))))))))))
+    && (eqb (x .ownlow) (y .ownlow) && eqb (x .ownhigh) (y .ownhigh)))))))))))))
 
 unfoldable pub sameNodes : List Node → List Node → Bool
 sameNodes [] [] = true

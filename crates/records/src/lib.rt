@@ -5,12 +5,12 @@
 pub const RECORDS: usize = 511;
 
 /// The fields of a record; in contracts `recordFields`.
-pub const FIELDS: usize = 13;
+pub const FIELDS: usize = 14;
 
-/// One node. `kind` is 0 blank, 1 leaf, 2 independent-or, 3 Shannon on `fault`; `live` is 1 for an open leaf.
+/// One node. `kind` is 0 blank, 1 leaf, 2 independent-or, 3 Shannon on `fault`, 4 independent-and; `live` is 1 for an open leaf.
 /// `left` is the record of the left child, the right one follows it; `waysa` and `waysb` are the numbers of the node's
-/// remaining ways (0 to 63, 64 to 127); `present` and `absent` are the fixed faults; `ownlow` and `ownhigh` are the interval as
-/// a leaf, `low` and `high` the interval that the node has.
+/// remaining ways (0 to 63, 64 to 127); `present` and `absent` are the fixed faults, `out` those left out; `ownlow` and
+/// `ownhigh` are the interval as a leaf, `low` and `high` the interval that the node has.
 #[repr(C)]
 pub struct Node {
     pub kind: u64,
@@ -22,6 +22,7 @@ pub struct Node {
     pub waysb: u64,
     pub present: u64,
     pub absent: u64,
+    pub out: u64,
     pub low: u64,
     pub high: u64,
     pub ownlow: u64,
