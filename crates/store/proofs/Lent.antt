@@ -17,7 +17,7 @@ use Rattle.store.specs.Lent.{countWord, treeWords, firstWord, nodeAt, no
 -- A record's fields after its first, in the order of its words.
 abbrev pub others : Node → List ℕ
 others n =
-    n .fault ∷ n .live ∷ n .parent ∷ n .left ∷ n .waysa ∷ n .waysb ∷ n .present ∷ n .absent ∷ n .low ∷ n .high ∷ n .ownlow ∷ n .ownhigh ∷ []
+    n .fault ∷ n .live ∷ n .parent ∷ n .left ∷ n .waysa ∷ n .waysb ∷ n .present ∷ n .absent ∷ n .out ∷ n .low ∷ n .high ∷ n .ownlow ∷ n .ownhigh ∷ []
 
 -- All of them.
 abbrev pub fields : Node → List ℕ
@@ -70,10 +70,11 @@ same-record us ws i j f =
       waysb = f 6 (omega arith) z;
       present = f 7 (omega arith) z;
       absent = f 8 (omega arith) z;
-      low = f 9 (omega arith) z;
-      high = f 10 (omega arith) z;
-      ownlow = f 11 (omega arith) z;
-      ownhigh = f 12 (omega arith) z;
+      out = f 9 (omega arith) z;
+      low = f 10 (omega arith) z;
+      high = f 11 (omega arith) z;
+      ownlow = f 12 (omega arith) z;
+      ownhigh = f 13 (omega arith) z;
     }
 
 -- ---- the count and no nodes

@@ -32,10 +32,11 @@ nodeAt ws j =
       waysb = getD ws (firstWord j + 6) 0;
       present = getD ws (firstWord j + 7) 0;
       absent = getD ws (firstWord j + 8) 0;
-      low = getD ws (firstWord j + 9) 0;
-      high = getD ws (firstWord j + 10) 0;
-      ownlow = getD ws (firstWord j + 11) 0;
-      ownhigh = getD ws (firstWord j + 12) 0;
+      out = getD ws (firstWord j + 9) 0;
+      low = getD ws (firstWord j + 10) 0;
+      high = getD ws (firstWord j + 11) 0;
+      ownlow = getD ws (firstWord j + 12) 0;
+      ownhigh = getD ws (firstWord j + 13) 0;
     }
 
 -- k records from record j on.

@@ -40,10 +40,11 @@ pub fn record_at(tree: &Words, j: usize) -> Node
         waysb: tree[i + 6],
         present: tree[i + 7],
         absent: tree[i + 8],
-        low: tree[i + 9],
-        high: tree[i + 10],
-        ownlow: tree[i + 11],
-        ownhigh: tree[i + 12],
+        out: tree[i + 9],
+        low: tree[i + 10],
+        high: tree[i + 11],
+        ownlow: tree[i + 12],
+        ownhigh: tree[i + 13],
     }
 }
 
@@ -63,10 +64,11 @@ pub fn put_record(tree: &mut Words, j: usize, n: Node)
     tree[i + 6] = n.waysb;
     tree[i + 7] = n.present;
     tree[i + 8] = n.absent;
-    tree[i + 9] = n.low;
-    tree[i + 10] = n.high;
-    tree[i + 11] = n.ownlow;
-    tree[i + 12] = n.ownhigh;
+    tree[i + 9] = n.out;
+    tree[i + 10] = n.low;
+    tree[i + 11] = n.high;
+    tree[i + 12] = n.ownlow;
+    tree[i + 13] = n.ownhigh;
 }
 
 /// How many records are in use.

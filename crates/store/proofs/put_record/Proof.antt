@@ -126,6 +126,15 @@ mul-tree-13 c = search needs
 element-write-tree-13 : tie.Need-element-write-tree-13
 element-write-tree-13 c = search needs
 
+add-tree-13 : tie.Need-add-tree-13
+add-tree-13 c = search needs
+
+mul-tree-14 : tie.Need-mul-tree-14
+mul-tree-14 c = search needs
+
+element-write-tree-14 : tie.Need-element-write-tree-14
+element-write-tree-14 c = search needs
+
 returns : tie.Need-returns
 unfolding stores
 returns c =
@@ -176,4 +185,7 @@ put-record-spec =
     add-tree-12
     mul-tree-13
     element-write-tree-13
+    add-tree-13
+    mul-tree-14
+    element-write-tree-14
     returns)

@@ -123,6 +123,15 @@ mul-t66 c = search needs
 element-copy-out-t69 : tie.Need-element-copy-out-t69
 element-copy-out-t69 c = search needs
 
+add-t70 : tie.Need-add-t70
+add-t70 c = search needs
+
+mul-t71 : tie.Need-mul-t71
+mul-t71 c = search needs
+
+element-copy-out-t74 : tie.Need-element-copy-out-t74
+element-copy-out-t74 c = search needs
+
 returns : tie.Need-returns
 returns c = sym (record-is _ _ (search needs))
 
@@ -169,4 +178,7 @@ record-at-spec =
     add-t65
     mul-t66
     element-copy-out-t69
+    add-t70
+    mul-t71
+    element-copy-out-t74
     returns)
