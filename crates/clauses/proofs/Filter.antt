@@ -10,15 +10,17 @@ use lib.Bits.{bitOr}
 use lib.Dec.{eqb}
 use borrow.Author.Tests.{eqb-true, eq-eqb}
 use Rattle.rules.specs.declared.Way.{Way}
-use Rattle.rules.specs.Table.{rows}
-use Rattle.rules.specs.Leaf.{select, contradicted, dropped, remaining}
+use Rattle.rules.specs.Table.{bit, rows}
+use Rattle.rules.specs.Leaf.{select, contradicted, dropped, remaining, dropAll}
 use Rattle.rules.specs.Group.{touches, part}
-use Rattle.rules.proofs.Booleans.{and-left, and-false, or-first}
-use Rattle.rules.proofs.Remaining.{dropped-twice, or-regroup}
+use Rattle.rules.proofs.Booleans.{and-left, and-false, or-first, or-second}
+use Rattle.rules.proofs.Bits.{bit-or, bits-ext, or-assoc}
+use Rattle.rules.proofs.Remaining.{dropped-twice}
 use Rattle.records.specs.Records.{inWords}
 use Rattle.clauses.specs.declared.Clauses.{Clauses}
+use Rattle.clauses.specs.declared.Gone.{Gone}
 use Rattle.clauses.specs.declared.Taken.{Taken}
-use Rattle.clauses.specs.Leaves.{fixedOf, row, wayAt, waysOf, noneLeft, InTable, Takes, Keeps}
+use Rattle.clauses.specs.Leaves.{goneWord, fixMore, outMore, leaveOut, row, wayAt, waysOf, noneLeft, InTable, Takes, Keeps}
 use Rattle.clauses.proofs.Pairs.{in-none}
 use Rattle.clauses.proofs.Selected.{each-row, passing, select-passing}
 
@@ -66,14 +68,14 @@ module _ (ps qs : List ℕ) (f : Way → Bool) (c : Clauses) where
   abbrev passes : ℕ → Bool
   passes i = f (wayAt ps qs c i)
 
-  -- Where numbers are those of the leaf whose ways pass, their ways are the leaf's ways that pass, with what else is fixed dropped (h).
-  pub kept-ways : InTable ps qs c → (kept : Clauses) (M : ℕ) → fixedOf kept ≡ M → Keeps ps qs f c kept → (h : Way → Way)
-      → ((v : Way) → h (dropped (fixedOf c) v) ≡ dropped M v) → (waysOf ps qs kept ≡ passing f h (waysOf ps qs c)) × InTable ps qs kept
+  -- Where numbers are those of the leaf whose ways pass, their ways are the leaf's ways that pass, with what else is gone dropped (h).
+  pub kept-ways : InTable ps qs c → (kept : Clauses) (g : Gone) → kept .gone ≡ g → Keeps ps qs f c kept → (h : Way → Way)
+      → ((v : Way) → h (dropped (goneWord (c .gone)) v) ≡ dropped (goneWord g) v) → (waysOf ps qs kept ≡ passing f h (waysOf ps qs c)) × InTable ps qs kept
   unfolding waysOf
-  kept-ways w kept M e all h more = (
-    ap (λ (m : ℕ). map (dropped m) (select (inWords (kept .waysa) (kept .waysb)) (rows 0 ps qs))) e
-        ∙ select-passing (inWords (kept .waysa) (kept .waysb)) (inWords (c .waysa) (c .waysb)) f h (fixedOf c) M more (rows 0 ps qs)
-        (each-row (λ v. inWords (kept .waysa) (kept .waysb) (v .number) ≡ inWords (c .waysa) (c .waysb) (v .number) && f (dropped (fixedOf c) v))
+  kept-ways w kept g e all h more = (
+    ap (λ (x : Gone). map (dropped (goneWord x)) (select (inWords (kept .waysa) (kept .waysb)) (rows 0 ps qs))) e
+        ∙ select-passing (inWords (kept .waysa) (kept .waysb)) (inWords (c .waysa) (c .waysb)) f h (goneWord (c .gone)) (goneWord g) more (rows 0 ps qs)
+        (each-row (λ v. inWords (kept .waysa) (kept .waysb) (v .number) ≡ inWords (c .waysa) (c .waysb) (v .number) && f (dropped (goneWord (c .gone)) v))
         0 ps qs (w .paired)
         (λ i k b e. let l : i ≡ k = omega arith in rw l (all k))),
     record {
@@ -83,26 +85,21 @@ module _ (ps qs : List ℕ) (f : Way → Bool) (c : Clauses) where
     },
   )
 
-  -- In the midst of the loop: the kept numbers, and those left that pass, are those of the leaf that pass. The fixed faults stay.
+  -- In the midst of the loop: the kept numbers, and those left that pass, are those of the leaf that pass. The faults that are gone stay so.
   pub record Sifting (kept₀ kept left : Clauses) : Type 0 where
     pub numbers : (i : ℕ) → inWords (kept .waysa) (kept .waysb) i || (inWords (left .waysa) (left .waysb) i && passes i)
         ≡ inWords (c .waysa) (c .waysb) i && passes i
-    pub kept-present : kept .fixedpresent ≡ kept₀ .fixedpresent
-    pub kept-absent : kept .fixedabsent ≡ kept₀ .fixedabsent
-    pub left-present : left .fixedpresent ≡ c .fixedpresent
-    pub left-absent : left .fixedabsent ≡ c .fixedabsent
+    pub kept-gone : kept .gone ≡ kept₀ .gone
+    pub left-gone : left .gone ≡ c .gone
     pub within : InTable ps qs left
 
   -- At first nothing is kept.
-  pub begun : (P A : ℕ) → InTable ps qs c
-      → Sifting (record { waysa = 0; waysb = 0; fixedpresent = P; fixedabsent = A }) (record { waysa = 0; waysb = 0; fixedpresent = P; fixedabsent = A }) c
-  begun P A w =
+  pub begun : (g : Gone) → InTable ps qs c → Sifting (record { waysa = 0; waysb = 0; gone = g }) (record { waysa = 0; waysb = 0; gone = g }) c
+  begun g w =
       record {
         numbers = λ i. ap (λ (b : Bool). b || (inWords (c .waysa) (c .waysb) i && passes i)) (in-none 0 0 refl i);
-        kept-present = refl;
-        kept-absent = refl;
-        left-present = refl;
-        left-absent = refl;
+        kept-gone = refl;
+        left-gone = refl;
         within = w;
       }
 
@@ -110,21 +107,18 @@ module _ (ps qs : List ℕ) (f : Way → Bool) (c : Clauses) where
     -- One turn: the first way left is kept just if it passes (b).
     pub turn : (t : Taken) → Takes ps qs left t → (b : Bool) → f (t .way) ≡ b → (k : Clauses)
         → ((i : ℕ) → inWords (k .waysa) (k .waysb) i ≡ (b && eqb i (t .way .number)) || inWords (kept .waysa) (kept .waysb) i)
-        → k .fixedpresent ≡ kept .fixedpresent → k .fixedabsent ≡ kept .fixedabsent → Sifting kept₀ k (t .others)
-    turn t h b e k n p a =
+        → k .gone ≡ kept .gone → Sifting kept₀ k (t .others)
+    turn t h b e k n g =
         record {
           numbers = at;
-          kept-present = p ∙ s .kept-present;
-          kept-absent = a ∙ s .kept-absent;
-          left-present = h .same-present ∙ s .left-present;
-          left-absent = h .same-absent ∙ s .left-absent;
+          kept-gone = g ∙ s .kept-gone;
+          left-gone = h .same-gone ∙ s .left-gone;
           within = h .within;
         }
       where
         it : passes (t .way .number) ≡ b
         it =
-            ap (λ (m : ℕ). f (dropped m (row ps qs (t .way .number)))) (sym (ap₂ bitOr (s .left-present) (s .left-absent)))
-            ∙ sym (ap f (h .way-is)) ∙ e
+            ap (λ (x : Gone). f (dropped (goneWord x) (row ps qs (t .way .number)))) (sym (s .left-gone)) ∙ sym (ap f (h .way-is)) ∙ e
 
         at : (i : ℕ) → inWords (k .waysa) (k .waysb) i || (inWords (t .others .waysa) (t .others .waysb) i && passes i)
             ≡ inWords (c .waysa) (c .waysb) i && passes i
@@ -147,14 +141,45 @@ module _ (ps qs : List ℕ) (f : Way → Bool) (c : Clauses) where
           or-none true = refl
           or-none false = refl
 
-      -- So the kept ways are the leaf's ways that pass, with what else is fixed dropped (h).
-      pub ended : (h : Way → Way) → ((v : Way) → h (dropped (fixedOf c) v) ≡ dropped (fixedOf kept₀) v)
+      -- So the kept ways are the leaf's ways that pass, with what else is gone dropped (h).
+      pub ended : (h : Way → Way) → ((v : Way) → h (dropped (goneWord (c .gone)) v) ≡ dropped (goneWord (kept₀ .gone)) v)
           → (waysOf ps qs kept ≡ passing f h (waysOf ps qs c)) × InTable ps qs kept
-      ended h more = kept-ways w kept (fixedOf kept₀) (ap₂ bitOr (s .kept-present) (s .kept-absent)) all-kept h more
+      ended h more = kept-ways w kept (kept₀ .gone) (s .kept-gone) all-kept h more
 
--- ---- the words that are fixed
+-- ---- the faults that are gone
+
+-- Five words joined, those of one sense together.
+regroup : (P A O p q : ℕ) → bitOr (bitOr (bitOr P A) O) (bitOr p q) ≡ bitOr (bitOr (bitOr P p) (bitOr A q)) O
+regroup P A O p q = bits-ext _ _ (λ i. simp (bit-or) (swap (bit i P) (bit i A) (bit i O) (bit i p) (bit i q)))
+  where
+    swap : (P A O p q : Bool) → ((P || A) || O) || (p || q) ≡ ((P || p) || (A || q)) || O
+    swap true A O p q = refl
+    swap false true O true q = refl
+    swap false true O false q = refl
+    swap false false O true q = or-second O true refl
+    swap false false true false true = refl
+    swap false false true false false = refl
+    swap false false false false true = refl
+    swap false false false false false = refl
 
 -- Faults fixed besides those of the leaf are dropped with them.
-pub fixed-more : (c : Clauses) (p q : ℕ) (v : Way)
-    → dropped (bitOr p q) (dropped (fixedOf c) v) ≡ dropped (bitOr (bitOr (c .fixedpresent) p) (bitOr (c .fixedabsent) q)) v
-fixed-more c p q v = dropped-twice (fixedOf c) (bitOr p q) v ∙ ap (λ (m : ℕ). dropped m v) (or-regroup (c .fixedpresent) (c .fixedabsent) p q)
+pub fixed-more : (g : Gone) (p q : ℕ) (v : Way) → dropped (bitOr p q) (dropped (goneWord g) v) ≡ dropped (goneWord (fixMore g p q)) v
+fixed-more g p q v = dropped-twice (goneWord g) (bitOr p q) v ∙ ap (λ (m : ℕ). dropped m v) (regroup (g .present) (g .absent) (g .out) p q)
+
+-- So are faults left out besides.
+out-more : (g : Gone) (m : ℕ) (v : Way) → dropped m (dropped (goneWord g) v) ≡ dropped (goneWord (outMore g m)) v
+out-more g m v = dropped-twice (goneWord g) m v ∙ ap (λ (k : ℕ). dropped k v) (or-assoc (bitOr (g .present) (g .absent)) (g .out) m)
+
+module _ (ps qs : List ℕ) (c : Clauses) (m : ℕ) where
+  -- LEAVING FAULTS OUT leaves them out of each way.
+  pub out-ways : waysOf ps qs (leaveOut c m) ≡ dropAll m (waysOf ps qs c)
+  unfolding waysOf dropAll
+  out-ways = each (select (inWords (c .waysa) (c .waysb)) (rows 0 ps qs))
+    where
+      each : (vs : List Way) → map (dropped (goneWord (outMore (c .gone) m))) vs ≡ dropAll m (map (dropped (goneWord (c .gone))) vs)
+      each [] = refl
+      each (v ∷ vs) = ap₂ (λ (x : Way) (y : List Way). x ∷ y) (sym (out-more (c .gone) m v)) (each vs)
+
+  -- The numbers are the same.
+  pub out-within : InTable ps qs c → InTable ps qs (leaveOut c m)
+  out-within w = record { short = w .short; paired = w .paired; inside = w .inside }

@@ -19,16 +19,17 @@ use Rattle.rules.proofs.FixedLean.{redundant-fixed, unnamed-free}
 use Rattle.records.specs.Records.{inWords}
 use Rattle.clauses.specs.declared.ByFault.{ByFault}
 use Rattle.clauses.specs.declared.Clauses.{Clauses}
+use Rattle.clauses.specs.declared.Gone.{Gone}
 use Rattle.clauses.specs.declared.Taken.{Taken}
-use Rattle.clauses.specs.Leaves.{OneFault, row, wayAt, waysOf, noneLeft, InTable, Takes, Keeps, Covers, Divided}
+use Rattle.clauses.specs.Leaves.{OneFault, goneWord, fixMore, row, wayAt, waysOf, noneLeft, InTable, Takes, Keeps, Covers, Divided}
 use Rattle.clauses.proofs.Pairs.{in-none, both-numbers}
 use Rattle.clauses.proofs.Selected.{passing}
 use Rattle.clauses.proofs.Filter.{kept-ways, fixed-more}
 use Rattle.clauses.proofs.Loops.{forward, ended}
 
--- Words fixed alike give the same way.
-same-way : (ps qs : List ℕ) (a b : Clauses) → a .fixedpresent ≡ b .fixedpresent → a .fixedabsent ≡ b .fixedabsent → (i : ℕ) → wayAt ps qs a i ≡ wayAt ps qs b i
-same-way ps qs a b e f i = ap (λ (m : ℕ). dropped m (row ps qs i)) (ap₂ bitOr e f)
+-- Where the same faults are gone, the ways are the same.
+same-way : (ps qs : List ℕ) (a b : Clauses) → a .gone ≡ b .gone → (i : ℕ) → wayAt ps qs a i ≡ wayAt ps qs b i
+same-way ps qs a b e i = ap (λ (g : Gone). dropped (goneWord g) (row ps qs i)) e
 
 -- ---- a way that each of the others subsumes
 
@@ -55,13 +56,12 @@ module _ (ps qs : List ℕ) (c : Clauses) where
   -- In the midst of the loop: each way is still left, or subsumes what was joined so far.
   pub record Covering (r : Way) (left : Clauses) : Type 0 where
     pub covers : (i : ℕ) → inWords (c .waysa) (c .waysb) i ≡ true → inWords (left .waysa) (left .waysb) i || subsumes (wayAt ps qs c i) r ≡ true
-    pub left-present : left .fixedpresent ≡ c .fixedpresent
-    pub left-absent : left .fixedabsent ≡ c .fixedabsent
+    pub left-gone : left .gone ≡ c .gone
     pub within : InTable ps qs left
 
   -- At first all are left.
   pub none-joined : (r : Way) → InTable ps qs c → Covering r c
-  none-joined r w = record { covers = λ i h. or-first _ _ h; left-present = refl; left-absent = refl; within = w }
+  none-joined r w = record { covers = λ i h. or-first _ _ h; left-gone = refl; within = w }
 
   module _ (r : Way) (left : Clauses) (s : Covering r left) where
     -- One turn: the first way left is joined.
@@ -70,13 +70,12 @@ module _ (ps qs : List ℕ) (c : Clauses) where
         record {
           covers = λ i k. by i (eqb i (t .way .number)) refl (inWords (t .others .waysa) (t .others .waysb) i) (subsumes (wayAt ps qs c i) r) refl
               (ap (λ (b : Bool). b || subsumes (wayAt ps qs c i) r) (sym (h .numbers i)) ∙ s .covers i k);
-          left-present = h .same-present ∙ s .left-present;
-          left-absent = h .same-absent ∙ s .left-absent;
+          left-gone = h .same-gone ∙ s .left-gone;
           within = h .within;
         }
       where
         it : wayAt ps qs c (t .way .number) ≡ t .way
-        it = sym (h .way-is ∙ same-way ps qs left c (s .left-present) (s .left-absent) (t .way .number))
+        it = sym (h .way-is ∙ same-way ps qs left c (s .left-gone) (t .way .number))
 
         by : (i : ℕ) (e : Bool) → eqb i (t .way .number) ≡ e → (o b : Bool) → subsumes (wayAt ps qs c i) r ≡ b → (e || o) || b ≡ true
             → o || subsumes (wayAt ps qs c i) (joined r (t .way)) ≡ true
@@ -105,23 +104,20 @@ less-within ps qs c n o w h =
 
 -- The parts of a leaf, as the code makes them.
 pub divides : (ps qs : List ℕ) (c : Clauses) (m : ℕ) (n o : Clauses) (r : Way) → InTable ps qs c → InTable ps qs n
-    → waysOf ps qs n ≡ part true m (waysOf ps qs c) → n .fixedpresent ≡ c .fixedpresent
-    → n .fixedabsent ≡ c .fixedabsent → Keeps ps qs (λ v. Bool·beq true (touches m v)) c n
+    → waysOf ps qs n ≡ part true m (waysOf ps qs c) → n .gone ≡ c .gone → Keeps ps qs (λ v. Bool·beq true (touches m v)) c n
     → ((i : ℕ) → inWords (o .waysa) (o .waysb) i ≡ inWords (c .waysa) (c .waysb) i && not (inWords (n .waysa) (n .waysb) i))
-    → o .fixedpresent ≡ c .fixedpresent → o .fixedabsent ≡ c .fixedabsent → Covers ps qs o r → Divided ps qs c m (record { named = n; others = o; cover = r })
-divides ps qs c m n o r w u e x y k l p q v =
+    → o .gone ≡ c .gone → Covers ps qs o r → Divided ps qs c m (record { named = n; others = o; cover = r })
+divides ps qs c m n o r w u e x k l p v =
     record {
       whole = w;
       named-within = u;
       named-ways = e;
       named-numbers = named;
-      named-present = x;
-      named-absent = y;
+      named-gone = x;
       others-within = less-within ps qs c n o w l;
       others-numbers = λ i. l i ∙ ap (λ (b : Bool). inWords (c .waysa) (c .waysb) i && not b) (named i)
           ∙ off (inWords (c .waysa) (c .waysb) i) (touches m (wayAt ps qs c i));
-      others-present = p;
-      others-absent = q;
+      others-gone = p;
       covered = v;
     }
   where
@@ -185,15 +181,14 @@ module _ (ps qs : List ℕ) (others shorter : Clauses) where
     pub numbers : (i : ℕ)
         → inWords (kept .waysa) (kept .waysb) i && not (some-subsume left i) ≡ inWords (others .waysa) (others .waysb) i && not (some-subsume shorter i)
     pub inside : (i : ℕ) → inWords (kept .waysa) (kept .waysb) i ≡ true → inWords (others .waysa) (others .waysb) i ≡ true
-    pub kept-present : kept .fixedpresent ≡ others .fixedpresent
-    pub kept-absent : kept .fixedabsent ≡ others .fixedabsent
+    pub kept-gone : kept .gone ≡ others .gone
     pub kept-within : InTable ps qs kept
     pub left-within : InTable ps qs left
 
   -- At first nothing is left out.
   pub none-left-out : InTable ps qs others → InTable ps qs shorter → Leaving others shorter
   none-left-out v w =
-      record { numbers = λ i. refl; inside = λ i h. h; kept-present = refl; kept-absent = refl; kept-within = v; left-within = w }
+      record { numbers = λ i. refl; inside = λ i h. h; kept-gone = refl; kept-within = v; left-within = w }
 
   module _ (kept left : Clauses) (s : Leaving kept left) (t : Taken) (h : Takes ps qs left t) where
     -- Before a turn, with the first way left apart.
@@ -208,8 +203,7 @@ module _ (ps qs : List ℕ) (others shorter : Clauses) where
         record {
           numbers = λ i. by i (inWords (kept .waysa) (kept .waysb) i) refl (some-subsume (t .others) i) ∙ before i;
           inside = s .inside;
-          kept-present = s .kept-present;
-          kept-absent = s .kept-absent;
+          kept-gone = s .kept-gone;
           kept-within = s .kept-within;
           left-within = h .within;
         }
@@ -225,15 +219,14 @@ module _ (ps qs : List ℕ) (others shorter : Clauses) where
     -- It leaves out what it subsumes.
     pub leaves : (out k : Clauses) → Keeps ps qs (λ v. subsumes (t .way) v) kept out
         → ((i : ℕ) → inWords (k .waysa) (k .waysb) i ≡ inWords (kept .waysa) (kept .waysb) i && not (inWords (out .waysa) (out .waysb) i))
-        → k .fixedpresent ≡ kept .fixedpresent → k .fixedabsent ≡ kept .fixedabsent → Leaving k (t .others)
-    leaves out k o l x y =
+        → k .gone ≡ kept .gone → Leaving k (t .others)
+    leaves out k o l x =
         record {
           numbers = λ i. ap (λ (b : Bool). b && not (some-subsume (t .others) i))
               (l i ∙ ap (λ (b : Bool). inWords (kept .waysa) (kept .waysb) i && not b) (subsumed i))
               ∙ by (inWords (kept .waysa) (kept .waysb) i) (subsumes (t .way) (wayAt ps qs others i)) (some-subsume (t .others) i) ∙ before i;
           inside = λ i e. s .inside i (and-left (inWords (kept .waysa) (kept .waysb) i) _ (sym (l i) ∙ e));
-          kept-present = x ∙ s .kept-present;
-          kept-absent = y ∙ s .kept-absent;
+          kept-gone = x ∙ s .kept-gone;
           kept-within = less-within ps qs kept out k (s .kept-within) l;
           left-within = h .within;
         }
@@ -241,7 +234,7 @@ module _ (ps qs : List ℕ) (others shorter : Clauses) where
         subsumed : (i : ℕ) → inWords (out .waysa) (out .waysb) i ≡ inWords (kept .waysa) (kept .waysb) i && subsumes (t .way) (wayAt ps qs others i)
         subsumed i =
             o i ∙ ap (λ (w : Way). inWords (kept .waysa) (kept .waysb) i && subsumes (t .way) w)
-            (same-way ps qs kept others (s .kept-present) (s .kept-absent) i)
+            (same-way ps qs kept others (s .kept-gone) i)
 
         by : (x b a : Bool) → (x && not (x && b)) && not a ≡ x && not (b || a)
         by true true a = refl
@@ -265,30 +258,24 @@ module _ (ps qs : List ℕ) (others shorter : Clauses) where
 -- Those that lost the fault and those of the others that are kept: what stays of the leaf's ways with the fault fixed.
 module _ (ps qs : List ℕ) (c : Clauses) (p q : ℕ) (d : ByFault) (divided : Divided ps qs c (bitOr p q) d) (one : OneFault p q) (lean : Lean (waysOf ps qs c))
     (shorter : Clauses) (ways-are : waysOf ps qs shorter ≡ remaining p q (waysOf ps qs (d .named)))
-    (present-is : shorter .fixedpresent ≡ bitOr (d .named .fixedpresent) p)
-    (absent-is : shorter .fixedabsent ≡ bitOr (d .named .fixedabsent) q) (lost : Keeps ps qs (λ v. not (contradicted p q v)) (d .named) shorter)
+    (gone-is : shorter .gone ≡ fixMore (d .named .gone) p q) (lost : Keeps ps qs (λ v. not (contradicted p q v)) (d .named) shorter)
     (kept : Clauses) (rest : Keeps ps qs (λ v. not (any (λ u. subsumes u v) (waysOf ps qs shorter))) (d .others) kept) where
   -- Both together.
   abbrev both : Clauses
   both = record {
     waysa = bitOr (shorter .waysa) (kept .waysa);
     waysb = bitOr (shorter .waysb) (kept .waysb);
-    fixedpresent = shorter .fixedpresent;
-    fixedabsent = shorter .fixedabsent;
+    gone = shorter .gone;
   }
 
-  pub left-out : (waysOf ps qs both ≡ minimal (remaining p q (waysOf ps qs c))) × InTable ps qs both
-      × (shorter .fixedpresent ≡ bitOr (c .fixedpresent) p) × (shorter .fixedabsent ≡ bitOr (c .fixedabsent) q)
+  pub left-out : (waysOf ps qs both ≡ minimal (remaining p q (waysOf ps qs c))) × InTable ps qs both × (shorter .gone ≡ fixMore (c .gone) p q)
   left-out =
-      let e = kept-ways ps qs (stays p q (waysOf ps qs shorter)) c (divided .whole) both _ (ap₂ bitOr present-c absent-c) numbers
-      (dropped (bitOr p q)) (fixed-more c p q) in
-      (e .0 ∙ staying-is p q one (waysOf ps qs c) lean (waysOf ps qs shorter) (ways-are ∙ ap (remaining p q) (divided .named-ways)), e .1, present-c, absent-c)
+      let e = kept-ways ps qs (stays p q (waysOf ps qs shorter)) c (divided .whole) both _ gone-c numbers
+      (dropped (bitOr p q)) (fixed-more (c .gone) p q) in
+      (e .0 ∙ staying-is p q one (waysOf ps qs c) lean (waysOf ps qs shorter) (ways-are ∙ ap (remaining p q) (divided .named-ways)), e .1, gone-c)
     where
-      present-c : shorter .fixedpresent ≡ bitOr (c .fixedpresent) p
-      present-c = present-is ∙ ap (λ (x : ℕ). bitOr x p) (divided .named-present)
-
-      absent-c : shorter .fixedabsent ≡ bitOr (c .fixedabsent) q
-      absent-c = absent-is ∙ ap (λ (x : ℕ). bitOr x q) (divided .named-absent)
+      gone-c : shorter .gone ≡ fixMore (c .gone) p q
+      gone-c = gone-is ∙ ap (λ (g : Gone). fixMore g p q) (divided .named-gone)
 
       by : (x t k a : Bool) → ((x && t) && k) || ((x && not t) && a) ≡ x && (elim t as (λ b. Bool) [ true ↦ k | false ↦ a ])
       by true true true a = refl
@@ -302,9 +289,9 @@ module _ (ps qs : List ℕ) (c : Clauses) (p q : ℕ) (d : ByFault) (divided : D
           ∙ ap₂ (λ (x y : Bool). x || y)
           (lost i
           ∙ ap₂ (λ (x : Bool) (w : Way). x && not (contradicted p q w)) (divided .named-numbers i)
-          (same-way ps qs (d .named) c (divided .named-present) (divided .named-absent) i))
+          (same-way ps qs (d .named) c (divided .named-gone) i))
           (rest i
           ∙ ap₂ (λ (x : Bool) (w : Way). x && not (any (λ u. subsumes u w) (waysOf ps qs shorter))) (divided .others-numbers i)
-          (same-way ps qs (d .others) c (divided .others-present) (divided .others-absent) i))
+          (same-way ps qs (d .others) c (divided .others-gone) i))
           ∙ by (inWords (c .waysa) (c .waysb) i) (touches (bitOr p q) (wayAt ps qs c i)) (not (contradicted p q (wayAt ps qs c i)))
           (not (any (λ u. subsumes u (wayAt ps qs c i)) (waysOf ps qs shorter)))

@@ -16,7 +16,7 @@ use Rattle.records.specs.Records.{lowWord, highWord, inWords}
 use Rattle.records.proofs.Words.{words-number, low-fits}
 use Rattle.clauses.specs.declared.Clauses.{Clauses}
 use Rattle.clauses.specs.declared.Taken.{Taken}
-use Rattle.clauses.specs.Leaves.{fixedOf, waysOf, noneLeft, InTable, Takes}
+use Rattle.clauses.specs.Leaves.{goneWord, waysOf, noneLeft, InTable, Takes}
 use Rattle.clauses.proofs.Pairs.{in-none, same-low, same-high}
 use Rattle.clauses.proofs.Selected.{rows-number, select-number, dropped-number, select-few}
 
@@ -35,13 +35,13 @@ module _ (ps qs : List ℕ) (c : Clauses) where
   -- With no number there is no way.
   pub none-left : noneLeft c ≡ true → waysOf ps qs c ≡ []
   unfolding waysOf
-  none-left h = ap (map (dropped (fixedOf c))) (select-none chosen (in-none (c .waysa) (c .waysb) (eqb-true _ 0 h)) (rows 0 ps qs))
+  none-left h = ap (map (dropped (goneWord (c .gone)))) (select-none chosen (in-none (c .waysa) (c .waysb) (eqb-true _ 0 h)) (rows 0 ps qs))
 
   -- There are at most 128 ways.
   pub few : InTable ps qs c → length (waysOf ps qs c) ≤ 128
   unfolding waysOf
   few w =
-      omega (arith, length-map (select chosen (rows 0 ps qs)) (dropped (fixedOf c)), select-few chosen 0 ps qs (w .paired), w .short)
+      omega (arith, length-map (select chosen (rows 0 ps qs)) (dropped (goneWord (c .gone))), select-few chosen 0 ps qs (w .paired), w .short)
 
   -- A turn leaves one way fewer.
   pub fewer : (t : Taken) → Takes ps qs c t → length (waysOf ps qs (t .others)) < length (waysOf ps qs c)
@@ -62,7 +62,7 @@ module _ (ps qs : List ℕ) (c : Clauses) where
   same-numbers : InTable ps qs c → (i : ℕ) → inWords (lowWord (waysOf ps qs c)) (highWord (waysOf ps qs c)) i ≡ chosen i
   unfolding waysOf
   same-numbers w i =
-      words-number (waysOf ps qs c) i ∙ dropped-number (fixedOf c) (select chosen (rows 0 ps qs)) i
+      words-number (waysOf ps qs c) i ∙ dropped-number (goneWord (c .gone)) (select chosen (rows 0 ps qs)) i
       ∙ select-number chosen (rows 0 ps qs) i ∙ by (chosen i) refl
     where
       by : (b : Bool) → chosen i ≡ b → hasNumber (rows 0 ps qs) i && b ≡ b

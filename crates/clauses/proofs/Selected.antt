@@ -15,7 +15,7 @@ use Rattle.rules.specs.Table.{rows, absentRows}
 use Rattle.rules.specs.Leaf.{select, hasNumber, without, dropped}
 use Rattle.rules.proofs.Booleans.{and-true, and-false, and-right, or-first, or-second}
 use Rattle.records.specs.Records.{inWords}
-use Rattle.clauses.specs.Leaves.{row, waysOf, InTable}
+use Rattle.clauses.specs.Leaves.{noneGone, row, waysOf, InTable}
 use Rattle.clauses.proofs.First.{First, is-one, none-before, same-beyond}
 
 -- ---- the numbers of ways
@@ -142,7 +142,7 @@ module _ (K C : ℕ → Bool) (f : Way → Bool) (h : Way → Way) (m M : ℕ) (
       by k true false d e ih = rw (e, d) ih
       by k false b d e ih = rw e ih
 
--- ---- the ways of words, with no fault fixed
+-- ---- the ways of words, with no fault gone
 
 -- With no fault to drop, the ways are as they were.
 dropped-none : (vs : List Way) → map (dropped 0) vs ≡ vs
@@ -163,8 +163,8 @@ module _ (ps qs : List ℕ) (short : length ps ≤ 128) (paired : length qs ≡ 
 
   -- Words cut to the numbers of the table select as the words that were cut.
   pub cut-selects : (P : ℕ → Bool) (x y : ℕ) → ((j : ℕ) → inWords x y j ≡ P j && ltb j (length ps))
-      → (waysOf ps qs (record { waysa = x; waysb = y; fixedpresent = 0; fixedabsent = 0 }) ≡ select P (rows 0 ps qs))
-      × InTable ps qs (record { waysa = x; waysb = y; fixedpresent = 0; fixedabsent = 0 })
+      → (waysOf ps qs (record { waysa = x; waysb = y; gone = noneGone }) ≡ select P (rows 0 ps qs))
+      × InTable ps qs (record { waysa = x; waysb = y; gone = noneGone })
   unfolding waysOf
   cut-selects P x y cut = (
     dropped-none (select (inWords x y) (rows 0 ps qs)) ∙ rows-same (inWords x y) P same,

@@ -14,11 +14,28 @@ use Rattle.rules.specs.declared.Way.{Way}
 use Rattle.records.specs.Records.{inWords}
 use Rattle.clauses.specs.declared.ByFault.{ByFault}
 use Rattle.clauses.specs.declared.Clauses.{Clauses}
+use Rattle.clauses.specs.declared.Gone.{Gone}
 use Rattle.clauses.specs.declared.Taken.{Taken}
 
--- The faults that are fixed, in either sense.
-abbrev pub fixedOf : Clauses → ℕ
-fixedOf c = bitOr (c .fixedpresent) (c .fixedabsent)
+-- All the faults that are gone, as one word.
+abbrev pub goneWord : Gone → ℕ
+goneWord g = bitOr (bitOr (g .present) (g .absent)) (g .out)
+
+-- None is.
+abbrev pub noneGone : Gone
+noneGone = record { present = 0; absent = 0; out = 0 }
+
+-- More faults fixed, present and absent.
+abbrev pub fixMore : Gone → ℕ → ℕ → Gone
+fixMore g p q = record { present = bitOr (g .present) p; absent = bitOr (g .absent) q; out = g .out }
+
+-- More faults left out.
+abbrev pub outMore : Gone → ℕ → Gone
+outMore g m = record { present = g .present; absent = g .absent; out = bitOr (g .out) m }
+
+-- A leaf's ways with more faults left out.
+abbrev pub leaveOut : Clauses → ℕ → Clauses
+leaveOut c m = record { waysa = c .waysa; waysb = c .waysb; gone = outMore (c .gone) m }
 
 -- Two words fix one fault.
 abbrev pub OneFault : ℕ → ℕ → Type 0
@@ -28,13 +45,13 @@ OneFault p q = (f : ℕ) × (bitOr p q ≡ 2 ^ f)
 abbrev pub row : List ℕ → List ℕ → ℕ → Way
 row ps qs i = record { number = i; present = getD ps i 0; absent = getD qs i 0 }
 
--- The same as a leaf has it, without the fixed faults.
+-- The same as a leaf has it, without the faults that are gone.
 abbrev pub wayAt : List ℕ → List ℕ → Clauses → ℕ → Way
-wayAt ps qs c i = dropped (fixedOf c) (row ps qs i)
+wayAt ps qs c i = dropped (goneWord (c .gone)) (row ps qs i)
 
--- The ways: those of the table with these numbers, without the fixed faults.
+-- The ways: those of the table with these numbers, without the faults that are gone.
 unfoldable pub waysOf : List ℕ → List ℕ → Clauses → List Way
-waysOf ps qs c = map (dropped (fixedOf c)) (select (inWords (c .waysa) (c .waysb)) (rows 0 ps qs))
+waysOf ps qs c = map (dropped (goneWord (c .gone))) (select (inWords (c .waysa) (c .waysb)) (rows 0 ps qs))
 
 -- There is none: both words of numbers are empty.
 abbrev pub noneLeft : Clauses → Bool
@@ -49,10 +66,9 @@ pub record InTable (ps qs : List ℕ) (c : Clauses) : Type 0 where
 -- The first way and the others make the ways, and its number and theirs the numbers.
 pub record Takes (ps qs : List ℕ) (c : Clauses) (t : Taken) : Type 0 where
   pub first : waysOf ps qs c ≡ t .way ∷ waysOf ps qs (t .others)
-  pub way-is : t .way ≡ dropped (fixedOf c) (row ps qs (t .way .number))
+  pub way-is : t .way ≡ dropped (goneWord (c .gone)) (row ps qs (t .way .number))
   pub numbers : (i : ℕ) → inWords (c .waysa) (c .waysb) i ≡ (eqb i (t .way .number) || inWords (t .others .waysa) (t .others .waysb) i)
-  pub same-present : t .others .fixedpresent ≡ c .fixedpresent
-  pub same-absent : t .others .fixedabsent ≡ c .fixedabsent
+  pub same-gone : t .others .gone ≡ c .gone
   pub within : InTable ps qs (t .others)
 
 -- Of a leaf's numbers, those whose ways pass a test.
@@ -69,10 +85,8 @@ pub record Divided (ps qs : List ℕ) (c : Clauses) (m : ℕ) (d : ByFault) : Ty
   pub named-within : InTable ps qs (d .named)
   pub named-ways : waysOf ps qs (d .named) ≡ part true m (waysOf ps qs c)
   pub named-numbers : Keeps ps qs (λ v. touches m v) c (d .named)
-  pub named-present : d .named .fixedpresent ≡ c .fixedpresent
-  pub named-absent : d .named .fixedabsent ≡ c .fixedabsent
+  pub named-gone : d .named .gone ≡ c .gone
   pub others-within : InTable ps qs (d .others)
   pub others-numbers : Keeps ps qs (λ v. not (touches m v)) c (d .others)
-  pub others-present : d .others .fixedpresent ≡ c .fixedpresent
-  pub others-absent : d .others .fixedabsent ≡ c .fixedabsent
+  pub others-gone : d .others .gone ≡ c .gone
   pub covered : Covers ps qs (d .others) (d .cover)

@@ -8,8 +8,9 @@ ghost use lib.ListN.{length};
 ghost use Rattle.rules.specs.Table.{rows};
 ghost use Rattle.rules.specs.Leaf;
 ghost use Rattle.records.specs.Records.{inWords};
-ghost use Rattle.clauses.specs.Leaves.{waysOf, InTable};
+ghost use Rattle.clauses.specs.Leaves.{noneGone, waysOf, InTable};
 use super::Clauses;
+use super::Gone;
 
 /// The word with bit i alone.
 pub fn one_bit(i: usize) -> u64
@@ -27,27 +28,32 @@ fn bits_below(n: usize) -> u64
     if n < 64 { one_bit(n) - 1 } else { !0 }
 }
 
-/// The ways of a table whose numbers are in the set of two words, with no fault fixed.
+/// No fault is gone.
+const NONE_GONE: Gone = Gone {
+    present: 0,
+    absent: 0,
+    out: 0,
+};
+
+/// The ways of a table whose numbers are in the set of two words, with no fault gone.
 pub fn select(present: &[u64], absent: &[u64], a: u64, b: u64) -> Clauses
     requires { ⌜ length (now present) ≤ 128 ⌝ }
     requires { ⌜ length (now absent) ≡ length (now present) ⌝ }
     ensures { λ r. ⌜ (waysOf (now (present .entry)) (now (absent .entry)) r ≡ Leaf.select (inWords a b) (rows 0 (now (present .entry)) (now (absent .entry))))
-        × InTable (now (present .entry)) (now (absent .entry)) r × (r .fixedpresent ≡ 0) × (r .fixedabsent ≡ 0) ⌝ }
+        × InTable (now (present .entry)) (now (absent .entry)) r × (r .gone ≡ noneGone) ⌝ }
 {
     let n = present.len();
     if n < 64 {
         return Clauses {
             waysa: a & bits_below(n),
             waysb: 0,
-            fixedpresent: 0,
-            fixedabsent: 0,
+            gone: NONE_GONE,
         };
     }
     Clauses {
         waysa: a,
         waysb: b & bits_below(n - 64),
-        fixedpresent: 0,
-        fixedabsent: 0,
+        gone: NONE_GONE,
     }
 }
 
@@ -56,7 +62,7 @@ pub fn whole(present: &[u64], absent: &[u64]) -> Clauses
     requires { ⌜ length (now present) ≤ 128 ⌝ }
     requires { ⌜ length (now absent) ≡ length (now present) ⌝ }
     ensures { λ r. ⌜ (waysOf (now (present .entry)) (now (absent .entry)) r ≡ rows 0 (now (present .entry)) (now (absent .entry)))
-        × InTable (now (present .entry)) (now (absent .entry)) r × (r .fixedpresent ≡ 0) × (r .fixedabsent ≡ 0) ⌝ }
+        × InTable (now (present .entry)) (now (absent .entry)) r × (r .gone ≡ noneGone) ⌝ }
 {
     select(present, absent, !0, !0)
 }
@@ -64,8 +70,7 @@ pub fn whole(present: &[u64], absent: &[u64]) -> Clauses
 /// The numbers with one more.
 pub fn with_number(c: Clauses, i: usize) -> Clauses
     requires { ⌜ i < 128 ⌝ }
-    ensures { λ r. ⌜ ((j : ℕ) → inWords (r .waysa) (r .waysb) j ≡ (eqb j i || inWords (c .waysa) (c .waysb) j))
-        × (r .fixedpresent ≡ c .fixedpresent) × (r .fixedabsent ≡ c .fixedabsent) ⌝ }
+    ensures { λ r. ⌜ ((j : ℕ) → inWords (r .waysa) (r .waysb) j ≡ (eqb j i || inWords (c .waysa) (c .waysb) j)) × (r .gone ≡ c .gone) ⌝ }
 {
     let mut r = c;
     if i < 64 {
@@ -76,15 +81,28 @@ pub fn with_number(c: Clauses, i: usize) -> Clauses
     r
 }
 
+/// One number alone, with the faults that are gone from other ways.
+pub fn alone(c: Clauses, i: usize) -> Clauses
+    requires { ⌜ i < 128 ⌝ }
+    ensures { λ r. ⌜ ((j : ℕ) → inWords (r .waysa) (r .waysb) j ≡ eqb j i) × (r .gone ≡ c .gone) ⌝ }
+{
+    let gone = c.gone;
+    let none = Clauses {
+        waysa: 0,
+        waysb: 0,
+        gone,
+    };
+    with_number(none, i)
+}
+
 /// The numbers of the first without those of the second.
 pub fn minus(c: Clauses, d: Clauses) -> Clauses
-    ensures { λ r. ⌜ ((i : ℕ) → inWords (r .waysa) (r .waysb) i ≡ inWords (c .waysa) (c .waysb) i && not (inWords (d .waysa) (d .waysb) i))
-        × (r .fixedpresent ≡ c .fixedpresent) × (r .fixedabsent ≡ c .fixedabsent) ⌝ }
+    ensures { λ r. ⌜ ((i : ℕ) → inWords (r .waysa) (r .waysb) i ≡ inWords (c .waysa) (c .waysb) i && not (inWords (d .waysa) (d .waysb) i)) × (r .gone ≡ c .gone) ⌝ }
 {
+    let gone = c.gone;
     Clauses {
         waysa: c.waysa & !d.waysa,
         waysb: c.waysb & !d.waysb,
-        fixedpresent: c.fixedpresent,
-        fixedabsent: c.fixedabsent,
+        gone,
     }
 }

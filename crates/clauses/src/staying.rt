@@ -8,7 +8,7 @@ ghost use lib.ListN.{length};
 ghost use Rattle.rules.specs.Table.{rows};
 ghost use Rattle.rules.specs.Leaf;
 ghost use Rattle.rules.specs.Leaf.{remaining, minimal, Lean};
-ghost use Rattle.clauses.specs.Leaves.{OneFault, waysOf, InTable, Keeps, Covers, Divided};
+ghost use Rattle.clauses.specs.Leaves.{OneFault, noneGone, fixMore, waysOf, InTable, Keeps, Covers, Divided};
 use super::ByFault;
 use super::Clauses;
 use super::keeping::part;
@@ -69,15 +69,16 @@ pub fn staying_rows(present: &[u64], absent: &[u64]) -> Clauses
     requires { ⌜ length (now present) ≤ 128 ⌝ }
     requires { ⌜ length (now absent) ≡ length (now present) ⌝ }
     ensures { λ r. ⌜ (waysOf (now (present .entry)) (now (absent .entry)) r ≡ minimal (rows 0 (now (present .entry)) (now (absent .entry))))
-        × InTable (now (present .entry)) (now (absent .entry)) r × (r .fixedpresent ≡ 0) × (r .fixedabsent ≡ 0) ⌝ }
+        × InTable (now (present .entry)) (now (absent .entry)) r × (r .gone ≡ noneGone) ⌝ }
 {
+    let all = whole(present, absent);
+    let gone = all.gone;
     let mut kept = Clauses {
         waysa: 0,
         waysb: 0,
-        fixedpresent: 0,
-        fixedabsent: 0,
+        gone,
     };
-    let mut left = whole(present, absent);
+    let mut left = all;
     while !none_left(left) {
         let t = taken(present, absent, left);
         let v = t.way;
@@ -94,11 +95,11 @@ fn subsumed(present: &[u64], absent: &[u64], c: Clauses, u: Way) -> Clauses
     requires { ⌜ InTable (now present) (now absent) c ⌝ }
     ensures { λ r. ⌜ Keeps (now (present .entry)) (now (absent .entry)) (λ v. Leaf.subsumes u v) c r ⌝ }
 {
+    let gone = c.gone;
     let mut kept = Clauses {
         waysa: 0,
         waysb: 0,
-        fixedpresent: c.fixedpresent,
-        fixedabsent: c.fixedabsent,
+        gone,
     };
     let mut left = c;
     while !none_left(left) {
@@ -154,8 +155,7 @@ pub fn staying(present: &[u64], absent: &[u64], c: Clauses, d: ByFault, p: u64, 
     requires { ⌜ Divided (now present) (now absent) c (bitOr p q) d ⌝ }
     requires { ⌜ OneFault p q ⌝ }
     ensures { λ r. ⌜ (waysOf (now (present .entry)) (now (absent .entry)) r ≡ minimal (remaining p q (waysOf (now (present .entry)) (now (absent .entry)) c)))
-        × InTable (now (present .entry)) (now (absent .entry)) r
-        × (r .fixedpresent ≡ bitOr (c .fixedpresent) p) × (r .fixedabsent ≡ bitOr (c .fixedabsent) q) ⌝ }
+        × InTable (now (present .entry)) (now (absent .entry)) r × (r .gone ≡ fixMore (c .gone) p q) ⌝ }
 {
     let shorter = restrict(present, absent, d.named, p, q);
     let all = d.cover;
@@ -169,10 +169,10 @@ pub fn staying(present: &[u64], absent: &[u64], c: Clauses, d: ByFault, p: u64, 
             kept = minus(kept, subsumed(present, absent, kept, u));
         }
     }
+    let gone = shorter.gone;
     Clauses {
         waysa: shorter.waysa | kept.waysa,
         waysb: shorter.waysb | kept.waysb,
-        fixedpresent: shorter.fixedpresent,
-        fixedabsent: shorter.fixedabsent,
+        gone,
     }
 }

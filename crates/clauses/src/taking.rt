@@ -6,8 +6,9 @@ ghost use Prim.Native.Nat.{_<_};
 ghost use lib.ListN.{length};
 ghost use Rattle.rules.specs.Table;
 ghost use Rattle.rules.specs.Leaf;
-ghost use Rattle.clauses.specs.Leaves.{fixedOf, row, noneLeft, InTable, Takes};
+ghost use Rattle.clauses.specs.Leaves.{goneWord, row, noneLeft, InTable, Takes};
 use super::Clauses;
+use super::Gone;
 use super::Taken;
 use rules::Way;
 
@@ -29,17 +30,17 @@ fn dropped(m: u64, v: Way) -> Way
     }
 }
 
-/// The way of the table with number i, without the fixed faults.
-fn way_at(present: &[u64], absent: &[u64], c: Clauses, i: usize) -> Way
+/// The way of the table with number i, without the faults that are gone.
+fn way_at(present: &[u64], absent: &[u64], g: Gone, i: usize) -> Way
     requires { ⌜ (i < length (now present)) × (i < length (now absent)) ⌝ }
-    ensures { λ r. ⌜ r ≡ Leaf.dropped (fixedOf c) (row (now (present .entry)) (now (absent .entry)) i) ⌝ }
+    ensures { λ r. ⌜ r ≡ Leaf.dropped (goneWord g) (row (now (present .entry)) (now (absent .entry)) i) ⌝ }
 {
     let v = Way {
         number: i,
         present: present[i],
         absent: absent[i],
     };
-    dropped(c.fixedpresent | c.fixedabsent, v)
+    dropped(g.present | g.absent | g.out, v)
 }
 
 /// No way is left.
@@ -60,14 +61,14 @@ pub fn taken(present: &[u64], absent: &[u64], c: Clauses) -> Taken
         let i = u64::trailing_zeros(c.waysa) as usize;
         others.waysa = c.waysa & (c.waysa - 1);
         return Taken {
-            way: way_at(present, absent, c, i),
+            way: way_at(present, absent, c.gone, i),
             others,
         };
     }
     let i = 64 + u64::trailing_zeros(c.waysb) as usize;
     others.waysb = c.waysb & (c.waysb - 1);
     Taken {
-        way: way_at(present, absent, c, i),
+        way: way_at(present, absent, c.gone, i),
         others,
     }
 }

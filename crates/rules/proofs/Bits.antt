@@ -145,6 +145,14 @@ cut-even x m e = let z : bitAnd x m % 2 ≡ 0 = omega (arith, and-odd x m) in rw
 pub cut-odd : (x m : ℕ) → m % 2 ≡ 1 → odd (bitAnd x m) ≡ odd x
 cut-odd x m e = let z : bitAnd x m % 2 ≡ x % 2 = omega (arith, and-odd x m) in ap (λ (k : ℕ). eqb k 1) z
 
+-- Three words joined, either way.
+pub or-assoc : (x y z : ℕ) → bitOr (bitOr x y) z ≡ bitOr x (bitOr y z)
+or-assoc x y z = bits-ext _ _ (λ i. simp (bit-or) (assoc (bit i x) (bit i y) (bit i z)))
+  where
+    assoc : (x y z : Bool) → (x || y) || z ≡ x || (y || z)
+    assoc true y z = refl
+    assoc false y z = refl
+
 -- Cut down to the bits that it has together with another, it stays as it is.
 pub and-or-left : (x y : ℕ) → bitAnd x (bitOr x y) ≡ x
 and-or-left x y = bits-ext (bitAnd x (bitOr x y)) x (λ i. bit-and i x (bitOr x y) ∙ ap (λ (b : Bool). bit i x && b) (bit-or i x y) ∙ same (bit i x) (bit i y))

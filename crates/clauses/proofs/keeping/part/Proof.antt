@@ -18,7 +18,7 @@ abbrev μ-loop : tie.MeasureT-loop
 μ-loop present absent m touched kept₀ left₀ kept left = length (waysOf present absent left)
 
 loop-holds : tie.Need-loop-holds Inv-loop μ-loop
-loop-holds c = begun _ _ _ _ _ _ (search needs)
+loop-holds c = begun _ _ _ _ _ (search needs)
 
 none-left-requires : tie.Need-none-left-requires Inv-loop μ-loop
 none-left-requires c κs = search needs
@@ -40,10 +40,10 @@ loop-less c = fewer _ _ _ _ (c .before .before .before .before .before .taken .e
 loop-again : tie.Need-loop-again Inv-loop μ-loop
 loop-again c =
     let l = c .before .before .before .before .before .before .before .before .loop in
-    let a = c .before .before .before .before .before .before .before .before .before .before .before .args in
+    let a = c .before .before .before .before .before .before .before .before .before .before .before .before .args in
     let w = c .with-number .ensures in
     turn _ _ _ _ _ _ _ (l .inv) _ (c .before .before .before .before .before .taken .ensures) true
-    (sym (ap (Bool·beq (a .touched)) (c .before .before .touches .ensures)) ∙ c .before .if2 .taken) _ (w .0) (w .1) (w .2)
+    (sym (ap (Bool·beq (a .touched)) (c .before .before .touches .ensures)) ∙ c .before .if2 .taken) _ (w .0) (w .1)
 
 loop-less-2 : tie.Need-loop-less-2 Inv-loop μ-loop
 loop-less-2 c = fewer _ _ _ _ (c .before .before .before .before .taken .ensures)
@@ -51,19 +51,18 @@ loop-less-2 c = fewer _ _ _ _ (c .before .before .before .before .taken .ensures
 loop-again-2 : tie.Need-loop-again-2 Inv-loop μ-loop
 loop-again-2 c =
     let l = c .before .before .before .before .before .before .before .loop in
-    let a = c .before .before .before .before .before .before .before .before .before .before .args in
+    let a = c .before .before .before .before .before .before .before .before .before .before .before .args in
     turn _ _ _ _ _ _ _ (l .inv) _ (c .before .before .before .before .taken .ensures) false
-    (sym (ap (Bool·beq (a .touched)) (c .before .touches .ensures)) ∙ c .if2 .left) _ (λ i. refl) refl refl
+    (sym (ap (Bool·beq (a .touched)) (c .before .touches .ensures)) ∙ c .if2 .left) _ (λ i. refl) refl
 
 returns : tie.Need-returns Inv-loop μ-loop
 returns c =
     let l = c .before .before .loop in
-    let a = c .before .before .before .before .before .args in
+    let a = c .before .before .before .before .before .before .args in
     let e = ended _ _ _ _ _ _ _ (l .inv) (search needs) (no-more (c .before .none-left .ensures) (c .if1 .left)) (λ v. v) (λ v. refl) in (
       e .0 ∙ passing-part (a .touched) (a .m) (waysOf (a .present .now) (a .absent .now) (a .c)),
       e .1,
-      l .inv .kept-present,
-      l .inv .kept-absent,
+      l .inv .kept-gone,
       all-kept _ _ _ _ _ _ _ (l .inv) (search needs) (no-more (c .before .none-left .ensures) (c .if1 .left)),
     )
 

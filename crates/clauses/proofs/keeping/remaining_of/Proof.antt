@@ -1,23 +1,32 @@
--- `remaining_of` meets its contract: after `select` nothing is fixed, so what `restrict` fixes is all.
--- Rests on the contracts of `select` and `restrict`.
-use mathlib.Core.Path.{_≡_, ap, _∙_}
+-- `remaining_of` meets its contract: after `select` no fault is gone, so what `restrict` fixes and `leaving_out` leaves out is all.
+-- Rests on Filter.antt and the contracts of these three.
+use mathlib.Core.Path.{_≡_, sym, ap, _∙_, subst}
 use mathlib.Core.List.{List}
 use Prim.Native.Nat.{ℕ}
 use borrow.Author.Needs.{needs}
-use lib.Bits.{bitOr, or-zero-l}
+use lib.Bits.{or-zero-l}
 use Rattle.rules.specs.declared.Way.{Way}
-use Rattle.rules.specs.Leaf.{remaining}
-use Rattle.clauses.specs.Leaves.{waysOf}
+use Rattle.rules.specs.Leaf.{remaining, dropAll}
+use Rattle.clauses.specs.declared.Clauses.{Clauses}
+use Rattle.clauses.specs.declared.Gone.{Gone}
+use Rattle.clauses.specs.Leaves.{noneGone, fixMore, outMore, leaveOut, waysOf, InTable}
+use Rattle.clauses.proofs.Filter.{out-ways, out-within}
 use Rattle.clauses.proofs.keeping.remaining_of.Statement.{statement}
 use Rattle.clauses.proofs.keeping.remaining_of.Tie as tie
 
--- What remains of the ways us, if they are the ways vs.
-left : (p q : ℕ) (us vs ws : List Way) → ws ≡ remaining p q us → us ≡ vs → ws ≡ remaining p q vs
-left p q us vs ws e h = e ∙ ap (remaining p q) h
+-- All faults of g, fixed and left out where none was gone.
+all-gone : (g : Gone) → outMore (fixMore noneGone (g .present) (g .absent)) (g .out) ≡ g
+all-gone g = λ i. record { present = or-zero-l (g .present) i; absent = or-zero-l (g .absent) i; out = or-zero-l (g .out) i }
 
--- The faults of m fixed where none was.
-fixed : (w m n : ℕ) → n ≡ bitOr w m → w ≡ 0 → n ≡ m
-fixed w m n e z = e ∙ ap (λ (k : ℕ). bitOr k m) z ∙ or-zero-l m
+-- The ways that remain of the selected ones us (vs, by the words), without what is left out.
+remains : (ps qs : List ℕ) (g : Gone) (c : Clauses) (us vs : List Way) → waysOf ps qs c ≡ remaining (g .present) (g .absent) us → us ≡ vs → InTable ps qs c
+    → (d : Gone) → c .gone ≡ fixMore d (g .present) (g .absent) → d ≡ noneGone → (r : Clauses) → r ≡ leaveOut c (g .out)
+    → (waysOf ps qs r ≡ dropAll (g .out) (remaining (g .present) (g .absent) vs)) × InTable ps qs r × (r .gone ≡ g)
+remains ps qs g c us vs e h w d x z r q = (
+  ap (waysOf ps qs) q ∙ out-ways ps qs c (g .out) ∙ ap (dropAll (g .out)) (e ∙ ap (remaining (g .present) (g .absent)) h),
+  subst (InTable ps qs) (sym q) (out-within ps qs c (g .out) w),
+  ap (λ (y : Clauses). y .gone) q ∙ ap (λ (y : Gone). outMore y (g .out)) (x ∙ ap (λ (y : Gone). fixMore y (g .present) (g .absent)) z) ∙ all-gone g,
+)
 
 select-requires : tie.Need-select-requires
 select-requires c κs = search needs
@@ -25,17 +34,16 @@ select-requires c κs = search needs
 restrict-requires : tie.Need-restrict-requires
 restrict-requires c κs = search needs
 
+leaving-out-requires : tie.Need-leaving-out-requires
+leaving-out-requires c κs = search needs
+
 returns : tie.Need-returns
 returns c =
-    let a = c .before .before .before .before .args in
-    let d = c .before .select .result in
-    let s = c .before .select .ensures in
-    let r = c .restrict .ensures in (
-      left (a .p) (a .q) (waysOf (a .present .now) (a .absent .now) d) _ _ (r .0) (s .0),
-      r .1,
-      fixed (d .fixedpresent) (a .p) _ (r .2) (s .2),
-      fixed (d .fixedabsent) (a .q) _ (r .3) (s .3),
-    )
+    let a = c .before .before .before .before .before .args in
+    let s = c .before .before .select in
+    let r = c .before .restrict in
+    remains (a .present .now) (a .absent .now) (a .g) (r .result) (waysOf (a .present .now) (a .absent .now) (s .result)) _ (r .ensures .0) (s .ensures .0)
+    (r .ensures .1) (s .result .gone) (r .ensures .2) (s .ensures .2) _ (c .leaving-out .ensures)
 
 pub remaining-of-spec : {M : Type 1} → statement M
-remaining-of-spec = tie.close (tie.spec select-requires restrict-requires returns)
+remaining-of-spec = tie.close (tie.spec select-requires restrict-requires leaving-out-requires returns)

@@ -19,7 +19,7 @@ abbrev μ-loop : tie.MeasureT-loop
 μ-loop present absent p q kept₀ left₀ kept left = length (waysOf present absent left)
 
 loop-holds : tie.Need-loop-holds Inv-loop μ-loop
-loop-holds c = begun _ _ _ _ _ _ (search needs)
+loop-holds c = begun _ _ _ _ _ (search needs)
 
 none-left-requires : tie.Need-none-left-requires Inv-loop μ-loop
 none-left-requires c κs = search needs
@@ -43,7 +43,7 @@ loop-again c =
     let l = c .before .before .before .before .before .before .before .before .loop in
     let w = c .with-number .ensures in
     turn _ _ _ _ _ _ _ (l .inv) _ (c .before .before .before .before .before .taken .ensures) true
-    (sym (ap not (c .before .before .contradicted .ensures)) ∙ c .before .if2 .taken) _ (w .0) (w .1) (w .2)
+    (sym (ap not (c .before .before .contradicted .ensures)) ∙ c .before .if2 .taken) _ (w .0) (w .1)
 
 loop-less-2 : tie.Need-loop-less-2 Inv-loop μ-loop
 loop-less-2 c = fewer _ _ _ _ (c .before .before .before .before .taken .ensures)
@@ -52,18 +52,17 @@ loop-again-2 : tie.Need-loop-again-2 Inv-loop μ-loop
 loop-again-2 c =
     let l = c .before .before .before .before .before .before .before .loop in
     turn _ _ _ _ _ _ _ (l .inv) _ (c .before .before .before .before .taken .ensures) false
-    (sym (ap not (c .before .contradicted .ensures)) ∙ c .if2 .left) _ (λ i. refl) refl refl
+    (sym (ap not (c .before .contradicted .ensures)) ∙ c .if2 .left) _ (λ i. refl) refl
 
 returns : tie.Need-returns Inv-loop μ-loop
 returns c =
     let l = c .before .before .loop in
-    let a = c .before .before .before .before .before .before .before .args in
+    let a = c .before .before .before .before .before .before .before .before .args in
     let e = ended _ _ _ _ _ _ _ (l .inv) (search needs) (no-more (c .before .none-left .ensures) (c .if1 .left))
-    (dropped (bitOr (a .p) (a .q))) (fixed-more (a .c) (a .p) (a .q)) in (
+    (dropped (bitOr (a .p) (a .q))) (fixed-more (a .c .gone) (a .p) (a .q)) in (
       e .0 ∙ passing-remaining (a .p) (a .q) _,
       e .1,
-      l .inv .kept-present,
-      l .inv .kept-absent,
+      l .inv .kept-gone,
       all-kept _ _ _ _ _ _ _ (l .inv) (search needs) (no-more (c .before .none-left .ensures) (c .if1 .left)),
     )
 

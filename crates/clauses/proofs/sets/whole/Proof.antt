@@ -14,7 +14,7 @@ returns : tie.Need-returns
 returns c =
     let s = c .before .before .before in
     let e = c .select .ensures in
-    (e .0 ∙ all-selected (s .args .present .now) (s .args .absent .now) (s .pre .0) (s .pre .1) _ all-in, e .1, e .2, e .3)
+    (e .0 ∙ all-selected (s .args .present .now) (s .args .absent .now) (s .pre .0) (s .pre .1) _ all-in, e .1, e .2)
 
 pub whole-spec : {M : Type 1} → statement M
 whole-spec = tie.close (tie.spec select-requires returns)

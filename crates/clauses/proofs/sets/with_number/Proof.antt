@@ -18,7 +18,6 @@ returns c =
       more-low (s .args .c .waysa) (s .args .c .waysb) (c .before .one-bit .result)
           (s .args .i) (c .before .before .if1 .taken) (c .before .one-bit .ensures),
       refl,
-      refl,
     )
 
 returns-2 : tie.Need-returns-2
@@ -26,7 +25,6 @@ returns-2 c =
     let s = c .before .before .before in (
       more-high (s .args .c .waysa) (s .args .c .waysb) (c .before .one-bit2 .result)
           (s .args .i) (c .before .before .if1 .left) (c .before .one-bit2 .ensures),
-      refl,
       refl,
     )
 

@@ -20,7 +20,7 @@ returns : tie.Need-returns
 returns c =
     let m = c .before .minus .ensures in
     let p = c .before .before .part .ensures in
-    divides _ _ _ _ _ _ _ (c .before .before .before .before .before .pre) (p .1) (p .0) (p .2) (p .3) (p .4) (m .0) (m .1) (m .2) (c .cover .ensures)
+    divides _ _ _ _ _ _ _ (c .before .before .before .before .before .pre) (p .1) (p .0) (p .2) (p .3) (m .0) (m .1) (c .cover .ensures)
 
 pub by-fault-spec : {M : Type 1} → statement M
 by-fault-spec = tie.close (tie.spec part-requires minus-requires cover-requires returns)

@@ -44,7 +44,7 @@ loop-again c =
     let t = c .before .before .before .before .before .before in
     let m = c .minus .ensures in
     leaves _ _ _ _ _ _ (t .before .before .before .loop .inv) _ (t .taken .ensures)
-    (c .before .subsumed .result) _ (c .before .subsumed .ensures) (m .0) (m .1) (m .2)
+    (c .before .subsumed .result) _ (c .before .subsumed .ensures) (m .0) (m .1)
 
 loop-less-2 : tie.Need-loop-less-2 Inv-loop μ-loop
 loop-less-2 c = fewer _ _ _ _ (c .before .before .before .before .taken .ensures)
@@ -58,13 +58,13 @@ loop-again-2 c =
 
 returns : tie.Need-returns Inv-loop μ-loop
 returns c =
-    let e = c .before .before .before .before in
+    let e = c .before .before .before .before .before in
     let l = e .before .before in
     let r = l .before .before .before in
     let s = r .before .before .before in
     let k = r .restrict .ensures in
     left-out _ _ (s .args .c) (s .args .p) (s .args .q) (s .args .d) (s .pre .1 .0) (s .pre .1 .1) (s .pre .0)
-    (r .restrict .result) (k .0) (k .2) (k .3) (k .4) (l .loop .kept)
+    (r .restrict .result) (k .0) (k .2) (k .3) (l .loop .kept)
     (none-left-over _ _ _ _ _ _ (l .loop .inv) (no-more (e .before .none-left .ensures) (e .if1 .left)))
 
 pub staying-spec : {M : Type 1} → statement M

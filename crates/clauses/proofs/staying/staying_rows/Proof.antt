@@ -26,7 +26,7 @@ whole-requires : tie.Need-whole-requires Inv-loop μ-loop
 whole-requires c κs = search needs
 
 loop-holds : tie.Need-loop-holds Inv-loop μ-loop
-loop-holds c = begun _ _ _ _ _ _ (c .whole .ensures .1)
+loop-holds c = begun _ _ _ _ _ (c .before .whole .ensures .1)
 
 none-left-requires : tie.Need-none-left-requires Inv-loop μ-loop
 none-left-requires c κs = search needs
@@ -50,7 +50,7 @@ loop-again c =
     let l = c .before .before .before .before .before .before .before .before .loop in
     let w = c .with-number .ensures in
     turn _ _ _ _ _ _ _ (l .inv) _ (c .before .before .before .before .before .taken .ensures) true
-    (sym (ap not (c .before .before .outdone .ensures)) ∙ c .before .if2 .taken) _ (w .0) (w .1) (w .2)
+    (sym (ap not (c .before .before .outdone .ensures)) ∙ c .before .if2 .taken) _ (w .0) (w .1)
 
 loop-less-2 : tie.Need-loop-less-2 Inv-loop μ-loop
 loop-less-2 c = fewer _ _ _ _ (c .before .before .before .before .taken .ensures)
@@ -59,18 +59,18 @@ loop-again-2 : tie.Need-loop-again-2 Inv-loop μ-loop
 loop-again-2 c =
     let l = c .before .before .before .before .before .before .before .loop in
     turn _ _ _ _ _ _ _ (l .inv) _ (c .before .before .before .before .taken .ensures) false
-    (sym (ap not (c .before .outdone .ensures)) ∙ c .if2 .left) _ (λ i. refl) refl refl
+    (sym (ap not (c .before .outdone .ensures)) ∙ c .if2 .left) _ (λ i. refl) refl
 
 returns : tie.Need-returns Inv-loop μ-loop
 unfolding minimal
 returns c =
     let l = c .before .before in
-    let s = l .before .before .before .before in
-    let w = l .before .whole .ensures in
+    let s = l .before .before .before .before .before in
+    let w = l .before .before .whole .ensures in
     let g : Way → Bool = λ v. not (redundant (rows 0 (s .args .present .now) (s .args .absent .now)) v) in
     let e = ended _ _ _ _ _ _ _ (l .loop .inv) (w .1) (no-more (c .before .none-left .ensures) (c .if1 .left))
-    (λ v. v) (λ v. ap (λ (m : ℕ). dropped m v) (ap₂ bitOr (w .2) (w .3))) in
-    (e .0 ∙ passing-sift g _ ∙ ap (sift g) (w .0), e .1, l .loop .inv .kept-present, l .loop .inv .kept-absent)
+    (λ v. v) (λ v. refl) in
+    (e .0 ∙ passing-sift g _ ∙ ap (sift g) (w .0), e .1, l .loop .inv .kept-gone ∙ w .2)
 
 pub staying-rows-spec : {M : Type 1} → statement M
 staying-rows-spec =

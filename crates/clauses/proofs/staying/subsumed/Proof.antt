@@ -18,7 +18,7 @@ abbrev μ-loop : tie.MeasureT-loop
 μ-loop present absent u kept₀ left₀ kept left = length (waysOf present absent left)
 
 loop-holds : tie.Need-loop-holds Inv-loop μ-loop
-loop-holds c = begun _ _ _ _ _ _ (search needs)
+loop-holds c = begun _ _ _ _ _ (search needs)
 
 none-left-requires : tie.Need-none-left-requires Inv-loop μ-loop
 none-left-requires c κs = search needs
@@ -42,7 +42,7 @@ loop-again c =
     let l = c .before .before .before .before .before .before .before .before .loop in
     let w = c .with-number .ensures in
     turn _ _ _ _ _ _ _ (l .inv) _ (c .before .before .before .before .before .taken .ensures) true
-    (sym (c .before .before .subsumes .ensures) ∙ c .before .if2 .taken) _ (w .0) (w .1) (w .2)
+    (sym (c .before .before .subsumes .ensures) ∙ c .before .if2 .taken) _ (w .0) (w .1)
 
 loop-less-2 : tie.Need-loop-less-2 Inv-loop μ-loop
 loop-less-2 c = fewer _ _ _ _ (c .before .before .before .before .taken .ensures)
@@ -51,7 +51,7 @@ loop-again-2 : tie.Need-loop-again-2 Inv-loop μ-loop
 loop-again-2 c =
     let l = c .before .before .before .before .before .before .before .loop in
     turn _ _ _ _ _ _ _ (l .inv) _ (c .before .before .before .before .taken .ensures) false
-    (sym (c .before .subsumes .ensures) ∙ c .if2 .left) _ (λ i. refl) refl refl
+    (sym (c .before .subsumes .ensures) ∙ c .if2 .left) _ (λ i. refl) refl
 
 returns : tie.Need-returns Inv-loop μ-loop
 returns c = all-kept _ _ _ _ _ _ _ (c .before .before .loop .inv) (search needs) (no-more (c .before .none-left .ensures) (c .if1 .left))

@@ -13,7 +13,7 @@ use Rattle.rules.specs.declared.Way.{Way}
 use Rattle.rules.specs.Leaf.{dropped}
 use Rattle.records.specs.Records.{inWords}
 use Rattle.clauses.specs.declared.Clauses.{Clauses}
-use Rattle.clauses.specs.Leaves.{fixedOf, row, waysOf, InTable, Takes}
+use Rattle.clauses.specs.Leaves.{goneWord, row, waysOf, InTable, Takes}
 use Rattle.clauses.proofs.First.{First, is-one, others-too, second, first-low, first-high}
 use Rattle.clauses.proofs.Selected.{select-first}
 use Rattle.clauses.proofs.taking.taken.Statement.{statement}
@@ -25,18 +25,17 @@ module _ (ps qs : List ℕ) (c : Clauses) (w : InTable ps qs c) where
   inside n f = let l : n < length ps = w .inside n (is-one f) in (l, omega (arith, l, w .paired))
 
   -- Its way comes first, and the numbers of the two words a and b are those of the others.
-  takes : (a b n : ℕ) → First (inWords (c .waysa) (c .waysb)) (inWords a b) n → (v : Way) → v ≡ dropped (fixedOf c) (row ps qs n)
-      → Takes ps qs c (record { way = v; others = record { waysa = a; waysb = b; fixedpresent = c .fixedpresent; fixedabsent = c .fixedabsent } })
+  takes : (a b n : ℕ) → First (inWords (c .waysa) (c .waysb)) (inWords a b) n → (v : Way) → v ≡ dropped (goneWord (c .gone)) (row ps qs n)
+      → Takes ps qs c (record { way = v; others = record { waysa = a; waysb = b; gone = c .gone } })
   unfolding waysOf
   takes a b n f v e =
       subst (λ (u : Way). Takes ps qs c
-      (record { way = u; others = record { waysa = a; waysb = b; fixedpresent = c .fixedpresent; fixedabsent = c .fixedabsent } })) (sym e)
+      (record { way = u; others = record { waysa = a; waysb = b; gone = c .gone } })) (sym e)
       (record {
-        first = ap (map (dropped (fixedOf c))) (select-first f ps qs (w .paired) (inside n f .0));
+        first = ap (map (dropped (goneWord (c .gone)))) (select-first f ps qs (w .paired) (inside n f .0));
         way-is = refl;
         numbers = f .numbers;
-        same-present = refl;
-        same-absent = refl;
+        same-gone = refl;
         within = record { short = w .short; paired = w .paired; inside = λ i h. w .inside i (others-too f i h) };
       })
 
