@@ -11,16 +11,16 @@ use lib.Dec.{eqb}
 use borrow.Author.Tests.{eqb-true, eq-eqb}
 use Rattle.rules.specs.declared.Way.{Way}
 use Rattle.rules.specs.Table.{bit, rows}
-use Rattle.rules.specs.Leaf.{select, contradicted, dropped, remaining, dropAll}
+use Rattle.rules.specs.Leaf.{select, contradicted, dropped, remaining}
 use Rattle.rules.specs.Group.{touches, part}
 use Rattle.rules.proofs.Booleans.{and-left, and-false, or-first, or-second}
-use Rattle.rules.proofs.Bits.{bit-or, bits-ext, or-assoc}
+use Rattle.rules.proofs.Bits.{bit-or, bits-ext}
 use Rattle.rules.proofs.Remaining.{dropped-twice}
 use Rattle.records.specs.Records.{inWords}
 use Rattle.clauses.specs.declared.Clauses.{Clauses}
 use Rattle.clauses.specs.declared.Gone.{Gone}
 use Rattle.clauses.specs.declared.Taken.{Taken}
-use Rattle.clauses.specs.Leaves.{goneWord, fixMore, outMore, leaveOut, row, wayAt, waysOf, noneLeft, InTable, Takes, Keeps}
+use Rattle.clauses.specs.Leaves.{goneWord, fixMore, row, wayAt, waysOf, noneLeft, InTable, Takes, Keeps}
 use Rattle.clauses.proofs.Pairs.{in-none}
 use Rattle.clauses.proofs.Selected.{each-row, passing, select-passing}
 
@@ -165,21 +165,3 @@ regroup P A O p q = bits-ext _ _ (λ i. simp (bit-or) (swap (bit i P) (bit i A) 
 -- Faults fixed besides those of the leaf are dropped with them.
 pub fixed-more : (g : Gone) (p q : ℕ) (v : Way) → dropped (bitOr p q) (dropped (goneWord g) v) ≡ dropped (goneWord (fixMore g p q)) v
 fixed-more g p q v = dropped-twice (goneWord g) (bitOr p q) v ∙ ap (λ (m : ℕ). dropped m v) (regroup (g .present) (g .absent) (g .out) p q)
-
--- So are faults left out besides.
-out-more : (g : Gone) (m : ℕ) (v : Way) → dropped m (dropped (goneWord g) v) ≡ dropped (goneWord (outMore g m)) v
-out-more g m v = dropped-twice (goneWord g) m v ∙ ap (λ (k : ℕ). dropped k v) (or-assoc (bitOr (g .present) (g .absent)) (g .out) m)
-
-module _ (ps qs : List ℕ) (c : Clauses) (m : ℕ) where
-  -- LEAVING FAULTS OUT leaves them out of each way.
-  pub out-ways : waysOf ps qs (leaveOut c m) ≡ dropAll m (waysOf ps qs c)
-  unfolding waysOf dropAll
-  out-ways = each (select (inWords (c .waysa) (c .waysb)) (rows 0 ps qs))
-    where
-      each : (vs : List Way) → map (dropped (goneWord (outMore (c .gone) m))) vs ≡ dropAll m (map (dropped (goneWord (c .gone))) vs)
-      each [] = refl
-      each (v ∷ vs) = ap₂ (λ (x : Way) (y : List Way). x ∷ y) (sym (out-more (c .gone) m v)) (each vs)
-
-  -- The numbers are the same.
-  pub out-within : InTable ps qs c → InTable ps qs (leaveOut c m)
-  out-within w = record { short = w .short; paired = w .paired; inside = w .inside }

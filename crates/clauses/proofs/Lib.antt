@@ -3,6 +3,7 @@
 mod Filter
 pub mod First
 mod Leaving
+pub mod LeftOut
 pub mod Loops
 mod Pairs
 mod Rows

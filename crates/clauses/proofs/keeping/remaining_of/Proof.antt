@@ -1,5 +1,5 @@
 -- `remaining_of` meets its contract: after `select` no fault is gone, so what `restrict` fixes and `leaving_out` leaves out is all.
--- Rests on Filter.antt and the contracts of these three.
+-- Rests on LeftOut.antt and the contracts of these three.
 use mathlib.Core.Path.{_≡_, sym, ap, _∙_, subst}
 use mathlib.Core.List.{List}
 use Prim.Native.Nat.{ℕ}
@@ -10,7 +10,7 @@ use Rattle.rules.specs.Leaf.{remaining, dropAll}
 use Rattle.clauses.specs.declared.Clauses.{Clauses}
 use Rattle.clauses.specs.declared.Gone.{Gone}
 use Rattle.clauses.specs.Leaves.{noneGone, fixMore, outMore, leaveOut, waysOf, InTable}
-use Rattle.clauses.proofs.Filter.{out-ways, out-within}
+use Rattle.clauses.proofs.LeftOut.{out-ways, out-within}
 use Rattle.clauses.proofs.keeping.remaining_of.Statement.{statement}
 use Rattle.clauses.proofs.keeping.remaining_of.Tie as tie
 
