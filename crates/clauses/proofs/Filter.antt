@@ -54,13 +54,6 @@ one-over false true k o g h = rw (h refl, and-false)
 one-over true false k o g h = refl
 one-over false false k o g h = refl
 
--- A way that is taken has one of the leaf's numbers, so it is below 128.
-pub numbered : (ps qs : List ℕ) (c : Clauses) (t : Taken) → InTable ps qs c → Takes ps qs c t → t .way .number < 128
-numbered ps qs c t w h =
-    let n = t .way .number in
-    let i : n < length ps = w .inside n (h .numbers n ∙ or-first (eqb n n) _ (eq-eqb n n refl)) in
-    omega (arith, w .short)
-
 -- ---- the loop
 
 module _ (ps qs : List ℕ) (f : Way → Bool) (c : Clauses) where

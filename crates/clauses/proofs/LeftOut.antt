@@ -1,18 +1,16 @@
 -- Faults left out of a leaf's ways, and its first way by itself: what both do to the ways. With these the common part is taken out.
--- Rests on Selected.antt and First.antt, and on `rules`, Remaining, for faults dropped after others.
+-- Rests on Selected.antt, First.antt and Loops.antt, and on `rules`, Remaining, for faults dropped after others.
 use mathlib.Core.Path.{_≡_, refl, sym, ap, ap₂, _∙_}
 use mathlib.Core.Bool.{Bool, true, false, _||_}
 use mathlib.Core.List.{List, [], _∷_, map}
-use Prim.Native.Nat.{ℕ, _<_}
+use Prim.Native.Nat.{ℕ}
 use native.Mathlib.Omega.{arith}
 use lib.Bits.{bitOr}
 use lib.Dec.{eqb}
-use lib.ListN.{length}
-use borrow.Author.Tests.{eqb-true, eq-eqb, ne-eqb}
+use borrow.Author.Tests.{eqb-true, ne-eqb}
 use Rattle.rules.specs.declared.Way.{Way}
 use Rattle.rules.specs.Table.{rows}
 use Rattle.rules.specs.Leaf.{select, dropped, dropAll}
-use Rattle.rules.proofs.Booleans.{or-first}
 use Rattle.rules.proofs.Bits.{or-assoc}
 use Rattle.rules.proofs.Remaining.{dropped-twice}
 use Rattle.rules.proofs.Sets.{select-none}
@@ -20,8 +18,9 @@ use Rattle.records.specs.Records.{inWords}
 use Rattle.clauses.specs.declared.Clauses.{Clauses}
 use Rattle.clauses.specs.declared.Gone.{Gone}
 use Rattle.clauses.specs.declared.Taken.{Taken}
-use Rattle.clauses.specs.Leaves.{goneWord, outMore, leaveOut, row, waysOf, InTable, Takes}
+use Rattle.clauses.specs.Leaves.{goneWord, outMore, leaveOut, row, waysOf, InTable, Takes, Alone}
 use Rattle.clauses.proofs.First.{First}
+use Rattle.clauses.proofs.Loops.{taken-there}
 use Rattle.clauses.proofs.Selected.{select-first}
 
 -- ---- faults left out
@@ -51,16 +50,11 @@ module _ (ps qs : List ℕ) (c : Clauses) (t : Taken) (w : InTable ps qs c) (h :
   n : ℕ
   n = t .way .number
 
-  -- It is that of a way of the table.
-  there : n < length ps
-  unfolding n
-  there = w .inside n (h .numbers n ∙ or-first (eqb n n) _ (eq-eqb n n refl))
-
-  module _ (r : Clauses) (one : (j : ℕ) → inWords (r .waysa) (r .waysb) j ≡ eqb j (t .way .number)) (same : r .gone ≡ c .gone) where
+  module _ (r : Clauses) (one : Alone c (t .way .number) r) where
     -- No number but that one.
     only : First (inWords (r .waysa) (r .waysb)) (λ j. false) n
     unfolding n
-    only = record { before = λ j l. one j ∙ ne-eqb j n (λ e. omega arith); numbers = λ j. one j ∙ or-none (eqb j n); gone = refl }
+    only = record { before = λ j l. one .0 j ∙ ne-eqb j n (λ e. omega arith); numbers = λ j. one .0 j ∙ or-none (eqb j n); gone = refl }
       where
         or-none : (x : Bool) → x ≡ x || false
         or-none true = refl
@@ -70,8 +64,8 @@ module _ (ps qs : List ℕ) (c : Clauses) (t : Taken) (w : InTable ps qs c) (h :
     pub alone-ways : waysOf ps qs r ≡ t .way ∷ []
     unfolding waysOf n
     alone-ways =
-        ap (map (dropped (goneWord (r .gone)))) (select-first only ps qs (w .paired) there ∙ ap (λ (vs : List Way). row ps qs n ∷ vs) none)
-        ∙ ap (λ (g : Gone). dropped (goneWord g) (row ps qs n) ∷ []) same ∙ ap (λ (v : Way). v ∷ []) (sym (h .way-is))
+        ap (map (dropped (goneWord (r .gone)))) (select-first only ps qs (w .paired) (taken-there ps qs c t w h) ∙ ap (λ (vs : List Way). row ps qs n ∷ vs) none)
+        ∙ ap (λ (g : Gone). dropped (goneWord g) (row ps qs n) ∷ []) (one .1) ∙ ap (λ (v : Way). v ∷ []) (sym (h .way-is))
       where
         none : select (λ j. false) (rows 0 ps qs) ≡ []
         none = select-none (λ j. false) (λ j. refl) (rows 0 ps qs)
@@ -80,4 +74,4 @@ module _ (ps qs : List ℕ) (c : Clauses) (t : Taken) (w : InTable ps qs c) (h :
     pub alone-within : InTable ps qs r
     unfolding n
     alone-within =
-        record { short = w .short; paired = w .paired; inside = λ i e. let q : i ≡ n = eqb-true i n (sym (one i) ∙ e) in omega (arith, q, there) }
+        record { short = w .short; paired = w .paired; inside = λ i e. let q : i ≡ n = eqb-true i n (sym (one .0 i) ∙ e) in omega (arith, q, taken-there ps qs c t w h) }

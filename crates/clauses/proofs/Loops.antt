@@ -6,11 +6,12 @@ use mathlib.Core.List.{List, [], _∷_, map}
 use Prim.Native.Nat.{ℕ, _≤_, _<_, _^_}
 use native.Mathlib.Omega.{arith}
 use lib.ListN.{length, length-map}
-use borrow.Author.Tests.{eqb-true, not-true, not-false}
+use lib.Dec.{eqb}
+use borrow.Author.Tests.{eqb-true, eq-eqb, not-true, not-false}
 use Rattle.rules.specs.declared.Way.{Way}
 use Rattle.rules.specs.Table.{rows}
 use Rattle.rules.specs.Leaf.{select, hasNumber, dropped}
-use Rattle.rules.proofs.Booleans.{and-true, and-false}
+use Rattle.rules.proofs.Booleans.{and-true, and-false, or-first}
 use Rattle.rules.proofs.Sets.{select-none}
 use Rattle.records.specs.Records.{lowWord, highWord, inWords}
 use Rattle.records.proofs.Words.{words-number, low-fits}
@@ -46,6 +47,14 @@ module _ (ps qs : List ℕ) (c : Clauses) where
   -- A turn leaves one way fewer.
   pub fewer : (t : Taken) → Takes ps qs c t → length (waysOf ps qs (t .others)) < length (waysOf ps qs c)
   fewer t h = omega (arith, ap length (h .first))
+
+  -- A way that is taken has the number of a way of the table.
+  pub taken-there : (t : Taken) → InTable ps qs c → Takes ps qs c t → t .way .number < length ps
+  taken-there t w h = let n = t .way .number in w .inside n (h .numbers n ∙ or-first (eqb n n) _ (eq-eqb n n refl))
+
+  -- So it is below 128.
+  pub numbered : (t : Taken) → InTable ps qs c → Takes ps qs c t → t .way .number < 128
+  numbered t w h = omega (arith, w .short, taken-there t w h)
 
   module _ {A : Type 0} (f : List Way → A) where
     -- One turn of a loop whose answer is f of the ways left: the first way comes off.

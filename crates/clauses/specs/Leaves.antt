@@ -71,6 +71,10 @@ pub record Takes (ps qs : List ℕ) (c : Clauses) (t : Taken) : Type 0 where
   pub same-gone : t .others .gone ≡ c .gone
   pub within : InTable ps qs (t .others)
 
+-- One number alone, where the same faults are gone.
+abbrev pub Alone : Clauses → ℕ → Clauses → Type 0
+Alone c n r = ((i : ℕ) → inWords (r .waysa) (r .waysb) i ≡ eqb i n) × (r .gone ≡ c .gone)
+
 -- Of a leaf's numbers, those whose ways pass a test.
 abbrev pub Keeps : List ℕ → List ℕ → (Way → Bool) → Clauses → Clauses → Type 0
 Keeps ps qs f c r = (i : ℕ) → inWords (r .waysa) (r .waysb) i ≡ inWords (c .waysa) (c .waysb) i && f (wayAt ps qs c i)

@@ -8,7 +8,7 @@ ghost use lib.ListN.{length};
 ghost use Rattle.rules.specs.Table.{rows};
 ghost use Rattle.rules.specs.Leaf;
 ghost use Rattle.records.specs.Records.{inWords};
-ghost use Rattle.clauses.specs.Leaves.{noneGone, waysOf, InTable};
+ghost use Rattle.clauses.specs.Leaves.{noneGone, waysOf, InTable, Alone};
 use super::Clauses;
 use super::Gone;
 
@@ -81,10 +81,10 @@ pub fn with_number(c: Clauses, i: usize) -> Clauses
     r
 }
 
-/// One number alone, with the faults that are gone from other ways.
+/// One number alone, where the same faults are gone.
 pub fn alone(c: Clauses, i: usize) -> Clauses
     requires { ⌜ i < 128 ⌝ }
-    ensures { λ r. ⌜ ((j : ℕ) → inWords (r .waysa) (r .waysb) j ≡ eqb j i) × (r .gone ≡ c .gone) ⌝ }
+    ensures { λ r. ⌜ Alone c i r ⌝ }
 {
     let gone = c.gone;
     let none = Clauses {

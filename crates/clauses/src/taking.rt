@@ -19,6 +19,13 @@ pub fn faults(v: Way) -> u64
     v.present | v.absent
 }
 
+/// The faults that a way names besides those of the word.
+pub fn faults_besides(v: Way, m: u64) -> u64
+    ensures { λ r. ⌜ r ≡ Leaf.without m (Table.faults v) ⌝ }
+{
+    faults(v) & !m
+}
+
 /// The way without the faults of the word.
 fn dropped(m: u64, v: Way) -> Way
     ensures { λ r. ⌜ r ≡ Leaf.dropped m v ⌝ }

@@ -2,4 +2,5 @@
 -- Each function's proof stands in its own directory.
 mod Counted
 mod KeptWords
+mod Meeting
 mod Some

@@ -1,5 +1,6 @@
 //! The ways of the two children that a refinement makes of a leaf, and whether it can be made. Rests on `rules`, Group and Tree.
-//! By independence the children are the first group and the other ways; by a fault, what stays of what remains with it present and absent.
+//! By independence the children are the first group and the other ways; by the common part, that part and the ways without it; by a fault, what stays
+//! of what remains with it present and absent.
 ghost use mathlib.Core.Path.{_≡_};
 ghost use mathlib.Core.Bool.{true};
 ghost use Prim.Native.Nat.{_<_};
@@ -10,6 +11,8 @@ ghost use Rattle.rules.specs.Tree;
 ghost use Rattle.clauses.specs.Leaves.{waysOf, InTable};
 ghost use Rattle.formula.specs.Leaves.{FaultFits, Parts};
 use super::Children;
+use super::common::common_part;
+use super::common::take_out;
 use super::group::falls_apart;
 use super::group::group_faults;
 use chances::chance::has;
@@ -38,6 +41,7 @@ pub fn children(present: &[u64], absent: &[u64], c: Clauses, k: Kind) -> Childre
             let right = part(present, absent, c, m, false);
             Children { left, right }
         }
+        Kind::IndependentAnd => take_out(present, absent, c),
         Kind::Shannon(f) => {
             let b = one_bit(f as usize);
             let d = by_fault(present, absent, c, b);
@@ -73,13 +77,14 @@ pub fn occurs(f: usize, present: &[u64], absent: &[u64], c: Clauses) -> bool
     false
 }
 
-/// A refinement of this kind can be made: the ways fall apart, or the fault occurs in them. Then `children` takes the kind.
+/// A refinement of this kind can be made: the ways fall apart, they have a common part, or the fault occurs in them. Then `children` takes the kind.
 pub fn possible(k: Kind, present: &[u64], absent: &[u64], c: Clauses) -> bool
     requires { ⌜ InTable (now present) (now absent) c ⌝ }
     ensures { λ r. ⌜ (r ≡ Tree.possible k (waysOf (now (present .entry)) (now (absent .entry)) c)) × (r ≡ true → FaultFits k) ⌝ }
 {
     match k {
         Kind::IndependentOr => falls_apart(present, absent, c),
+        Kind::IndependentAnd => common_part(present, absent, c) != 0,
         Kind::Shannon(f) => occurs(f as usize, present, absent, c),
     }
 }

@@ -1,7 +1,8 @@
-//! A leaf's formula, computed: its two ends, its groups, its children, and the fault that a run fixes.
+//! A leaf's formula, computed: its two ends, its groups, its common part, its children, and the fault that a run fixes.
 //! Each function returns what the definition of the crate `rules` that its contract names says; numbers are billionths, in u64.
 pub mod child;
 pub mod choice;
+pub mod common;
 pub mod group;
 pub mod leaf;
 

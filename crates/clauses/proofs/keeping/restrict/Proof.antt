@@ -7,8 +7,8 @@ use lib.ListN.{length}
 use lib.Bits.{bitOr}
 use Rattle.rules.specs.Leaf.{contradicted, dropped}
 use Rattle.clauses.specs.Leaves.{waysOf}
-use Rattle.clauses.proofs.Filter.{Sifting, numbered, begun, turn, all-kept, ended, passing-remaining, fixed-more}
-use Rattle.clauses.proofs.Loops.{fewer, some-left, no-more}
+use Rattle.clauses.proofs.Filter.{Sifting, begun, turn, all-kept, ended, passing-remaining, fixed-more}
+use Rattle.clauses.proofs.Loops.{numbered, fewer, some-left, no-more}
 use Rattle.clauses.proofs.keeping.restrict.Statement.{statement}
 use Rattle.clauses.proofs.keeping.restrict.Tie as tie
 

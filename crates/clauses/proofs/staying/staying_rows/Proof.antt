@@ -10,8 +10,8 @@ use Rattle.rules.specs.declared.Way.{Way}
 use Rattle.rules.specs.Table.{rows}
 use Rattle.rules.specs.Leaf.{dropped, sift, redundant, minimal}
 use Rattle.clauses.specs.Leaves.{waysOf}
-use Rattle.clauses.proofs.Filter.{Sifting, numbered, begun, turn, ended}
-use Rattle.clauses.proofs.Loops.{fewer, some-left, no-more}
+use Rattle.clauses.proofs.Filter.{Sifting, begun, turn, ended}
+use Rattle.clauses.proofs.Loops.{numbered, fewer, some-left, no-more}
 use Rattle.clauses.proofs.Rows.{passing-sift}
 use Rattle.clauses.proofs.staying.staying_rows.Statement.{statement}
 use Rattle.clauses.proofs.staying.staying_rows.Tie as tie

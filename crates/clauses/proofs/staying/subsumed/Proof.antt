@@ -6,8 +6,8 @@ use borrow.Author.Needs.{needs}
 use lib.ListN.{length}
 use Rattle.rules.specs.Leaf.{subsumes}
 use Rattle.clauses.specs.Leaves.{waysOf}
-use Rattle.clauses.proofs.Filter.{Sifting, numbered, begun, turn, all-kept}
-use Rattle.clauses.proofs.Loops.{fewer, some-left, no-more}
+use Rattle.clauses.proofs.Filter.{Sifting, begun, turn, all-kept}
+use Rattle.clauses.proofs.Loops.{numbered, fewer, some-left, no-more}
 use Rattle.clauses.proofs.staying.subsumed.Statement.{statement}
 use Rattle.clauses.proofs.staying.subsumed.Tie as tie
 

@@ -1,5 +1,5 @@
 -- `children` meets its contract, by the kind.
--- Rests on the contracts of `group_faults`, `part`, `one_bit`, `by_fault` and `staying`.
+-- Rests on the contracts of `group_faults`, `part`, `take_out`, `one_bit`, `by_fault` and `staying`.
 use mathlib.Core.Path.{_≡_, refl, sym, ap, _∙_, subst}
 use mathlib.Core.Bool.{true, false}
 use mathlib.Core.List.{List}
@@ -8,15 +8,16 @@ use borrow.Author.Needs.{needs}
 use lib.Bits.{bitOr, or-zero-l, or-zero-r}
 use Rattle.rules.specs.declared.Way.{Way}
 use Rattle.rules.specs.declared.Kind.{Kind}
-use Rattle.rules.specs.declared.Kind.the-variants.{IndependentOr, Shannon}
+use Rattle.rules.specs.declared.Kind.the-variants.{IndependentOr, IndependentAnd, Shannon}
 use Rattle.rules.specs.Leaf.{remaining, minimal}
 use Rattle.rules.specs.Group.{part, groupFaults}
-use Rattle.rules.specs.Tree.{Side, left, right, child, childFixed}
+use Rattle.rules.specs.Tree.{Side, left, right, child, childFixed, childOut}
 use Rattle.clauses.specs.declared.ByFault.{ByFault}
 use Rattle.clauses.specs.declared.Clauses.{Clauses}
-use Rattle.clauses.specs.Leaves.{waysOf, InTable, Divided}
+use Rattle.clauses.specs.declared.Gone.{Gone}
+use Rattle.clauses.specs.Leaves.{fixMore, waysOf, InTable, Divided}
 use Rattle.formula.specs.declared.Children.{Children}
-use Rattle.formula.specs.Leaves.{FaultFits, Part, Parts}
+use Rattle.formula.specs.Leaves.{FaultFits, childGone, Part, Parts}
 use Rattle.formula.proofs.child.children.Statement.{statement}
 use Rattle.formula.proofs.child.children.Tie as tie
 
@@ -26,39 +27,39 @@ unfolding FaultFits
 fits k f e h = rw e at h
 
 module _ (ps qs : List ℕ) (c : Clauses) where
-  -- What `part` and `staying` say of their answer: its ways, and the words of its fixed faults.
-  abbrev Made : Clauses → List Way → ℕ → ℕ → Type 0
-  Made d vs p q = (waysOf ps qs d ≡ vs) × InTable ps qs d × (d .fixedpresent ≡ p) × (d .fixedabsent ≡ q)
+  -- What `part` and `staying` say of their answer: its ways, and the faults that are gone.
+  abbrev Made : Clauses → List Way → Gone → Type 0
+  Made d vs g = (waysOf ps qs d ≡ vs) × InTable ps qs d × (d .gone ≡ g)
 
   -- One child.
-  one : (k : Kind) (b : Side) (d : Clauses) {vs : List Way} {p q : ℕ} → Made d vs p q → vs ≡ child k b (waysOf ps qs c)
-      → p ≡ childFixed left k b (c .fixedpresent) → q ≡ childFixed right k b (c .fixedabsent) → Part ps qs c k b d
-  one k b d m e f g = record { ways-are = m .0 ∙ e; present-is = m .2 ∙ f; absent-is = m .3 ∙ g; within = m .1 }
+  one : (k : Kind) (b : Side) (d : Clauses) {vs : List Way} {g : Gone} → Made d vs g → vs ≡ child k b (waysOf ps qs c)
+      → g ≡ childGone k b (c .gone) (waysOf ps qs c) → Part ps qs c k b d
+  one k b d m e f = record { ways-are = m .0 ∙ e; gone-is = m .2 ∙ f; within = m .1 }
 
   module _ (x y : Clauses) where
     -- Both, by independence, where m is the group's faults.
-    by-groups : (m : ℕ) → m ≡ groupFaults (waysOf ps qs c) → Made x (part true m (waysOf ps qs c)) (c .fixedpresent) (c .fixedabsent)
-        → Made y (part false m (waysOf ps qs c)) (c .fixedpresent) (c .fixedabsent) → Parts ps qs c IndependentOr (record { left = x; right = y })
-    unfolding child childFixed
+    by-groups : (m : ℕ) → m ≡ groupFaults (waysOf ps qs c) → Made x (part true m (waysOf ps qs c)) (c .gone)
+        → Made y (part false m (waysOf ps qs c)) (c .gone) → Parts ps qs c IndependentOr (record { left = x; right = y })
+    unfolding child childFixed childOut
     by-groups m e s t =
         record {
-          on-left = one IndependentOr left x s (ap (λ (n : ℕ). part true n (waysOf ps qs c)) e) refl refl;
-          on-right = one IndependentOr right y t (ap (λ (n : ℕ). part false n (waysOf ps qs c)) e) refl refl;
+          on-left = one IndependentOr left x s (ap (λ (n : ℕ). part true n (waysOf ps qs c)) e) refl;
+          on-right = one IndependentOr right y t (ap (λ (n : ℕ). part false n (waysOf ps qs c)) e) refl;
         }
 
     -- And by the fault f, whose word is m.
-    by-fault : (f m : ℕ) → m ≡ 2 ^ f → Made x (minimal (remaining m 0 (waysOf ps qs c))) (bitOr (c .fixedpresent) m) (bitOr (c .fixedabsent) 0)
-        → Made y (minimal (remaining 0 m (waysOf ps qs c))) (bitOr (c .fixedpresent) 0) (bitOr (c .fixedabsent) m)
-        → Parts ps qs c (Shannon f) (record { left = x; right = y })
-    unfolding child childFixed
+    by-fault : (f m : ℕ) → m ≡ 2 ^ f → Made x (minimal (remaining m 0 (waysOf ps qs c))) (fixMore (c .gone) m 0)
+        → Made y (minimal (remaining 0 m (waysOf ps qs c))) (fixMore (c .gone) 0 m) → Parts ps qs c (Shannon f) (record { left = x; right = y })
+    unfolding child childFixed childOut
     by-fault f m e s t =
+        let g = c .gone in
         record {
           on-left =
               one (Shannon f) left x s (ap (λ (n : ℕ). minimal (remaining n 0 (waysOf ps qs c))) e)
-              (ap (bitOr (c .fixedpresent)) e) (or-zero-r (c .fixedabsent));
+              (λ i. record { present = bitOr (g .present) (e i); absent = or-zero-r (g .absent) i; out = g .out });
           on-right =
               one (Shannon f) right y t (ap (λ (n : ℕ). minimal (remaining 0 n (waysOf ps qs c))) e)
-              (or-zero-r (c .fixedpresent)) (ap (bitOr (c .fixedabsent)) e);
+              (λ i. record { present = or-zero-r (g .present) i; absent = bitOr (g .absent) (e i); out = g .out });
         }
 
   -- What `staying` asks of the ways by the fault f, where m is its word and n the same word with the other sense's, which is 0.
@@ -80,6 +81,12 @@ part-requires c κs = search needs
 
 part-requires-2 : tie.Need-part-requires-2
 part-requires-2 c κs = search needs
+
+enum-told-2 : tie.Need-enum-told-2
+enum-told-2 c = search needs
+
+take-out-requires : tie.Need-take-out-requires
+take-out-requires c κs = search needs
 
 enum-known-k : tie.Need-enum-known-k
 enum-known-k c = search needs
@@ -112,10 +119,13 @@ returns c =
     let l = c .before .part .ensures in
     let r = c .part2 .ensures in
     of-kind _ _ _ (c .before .before .before .enum-told .given .1)
-    (by-groups _ _ _ _ _ _ (c .before .before .group-faults .ensures) (l .0, l .1, l .2, l .3) (r .0, r .1, r .2, r .3))
+    (by-groups _ _ _ _ _ _ (c .before .before .group-faults .ensures) (l .0, l .1, l .2) (r .0, r .1, r .2))
 
 returns-2 : tie.Need-returns-2
-returns-2 c =
+returns-2 c = of-kind _ _ _ (c .before .enum-told2 .given .1) (c .take-out .ensures)
+
+returns-3 : tie.Need-returns-3
+returns-3 c =
     of-kind _ _ _ (c .before .before .before .before .before .k .given .1)
     (by-fault _ _ _ _ _ _ _ (c .before .before .before .one-bit .ensures) (c .before .staying .ensures) (c .staying2 .ensures))
 
@@ -127,10 +137,13 @@ children-spec =
     group-faults-requires
     part-requires
     part-requires-2
+    enum-told-2
+    take-out-requires
     enum-known-k
     one-bit-requires
     by-fault-requires
     staying-requires
     staying-requires-2
     returns
-    returns-2)
+    returns-2
+    returns-3)

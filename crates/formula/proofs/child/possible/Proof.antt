@@ -1,8 +1,10 @@
 -- `possible` meets its contract, by the kind.
--- Rests on the contracts of `falls_apart` and `occurs`.
-use mathlib.Core.Path.{_≡_}
-use mathlib.Core.Bool.{Bool, true}
+-- Rests on the contracts of `falls_apart`, `common_part` and `occurs`.
+use mathlib.Core.Path.{_≡_, ap}
+use mathlib.Core.Bool.{Bool, true, not}
 use mathlib.Core.List.{List}
+use Prim.Native.Nat.{ℕ}
+use lib.Dec.{eqb}
 use borrow.Author.Needs.{needs}
 use Rattle.rules.specs.declared.Way.{Way}
 use Rattle.rules.specs.declared.Kind.{Kind}
@@ -25,6 +27,12 @@ enum-told c = search needs
 falls-apart-requires : tie.Need-falls-apart-requires
 falls-apart-requires c κs = search needs
 
+enum-told-2 : tie.Need-enum-told-2
+enum-told-2 c = search needs
+
+common-part-requires : tie.Need-common-part-requires
+common-part-requires c κs = search needs
+
 enum-known-k : tie.Need-enum-known-k
 enum-known-k c = search needs
 
@@ -37,7 +45,12 @@ returns c = of-kind _ _ _ _ (c .before .enum-told .given .1) (c .falls-apart .en
 
 returns-2 : tie.Need-returns-2
 unfolding possible FaultFits
-returns-2 c = of-kind _ _ _ _ (c .before .before .k .given .1) (c .occurs .ensures)
+returns-2 c =
+    of-kind _ _ _ _ (c .before .enum-told2 .given .1) (ap (λ (m : ℕ). not (eqb m 0)) (c .common-part .ensures), λ t. tt)
+
+returns-3 : tie.Need-returns-3
+unfolding possible FaultFits
+returns-3 c = of-kind _ _ _ _ (c .before .before .k .given .1) (c .occurs .ensures)
 
 pub possible-spec : {M : Type 1} → statement M
 possible-spec =
@@ -45,7 +58,10 @@ possible-spec =
     (tie.spec
     enum-told
     falls-apart-requires
+    enum-told-2
+    common-part-requires
     enum-known-k
     occurs-requires
     returns
-    returns-2)
+    returns-2
+    returns-3)
