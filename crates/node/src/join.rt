@@ -13,6 +13,7 @@ ghost use Rattle.store.specs.Safe.{SafeNode};
 use super::told::kind_of;
 use chances::rounding::either;
 use chances::rounding::mean;
+use chances::rounding::times;
 use records::Node;
 use rules::Kind;
 
@@ -36,6 +37,7 @@ fn combined(up: bool, k: Kind, weights: &[u32], a: u64, b: u64) -> u64
 {
     match k {
         Kind::IndependentOr => either(up, a, b),
+        Kind::IndependentAnd => times(up, a, b),
         Kind::Shannon(f) => {
             let w = weight_of(weights, f as usize);
             mean(up, w, a, b)

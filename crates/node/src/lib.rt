@@ -16,6 +16,7 @@ ghost use Rattle.records.specs.Records.{treeRecords, kindCode, faultCode};
 ghost use Rattle.records.specs.Growing.{freshRecord, refinedRecord};
 ghost use Rattle.store.specs.Safe.{SafeNode};
 ghost use Rattle.clauses.specs.Leaves.{waysOf, InTable};
+ghost use Rattle.node.specs.Told.{spotWith};
 use clauses::Clauses;
 use formula::leaf::ends;
 use records::Node;
@@ -30,6 +31,9 @@ const INDEPENDENT_OR: u64 = 2;
 /// Of one that was refined by a fault.
 const SHANNON: u64 = 3;
 
+/// Of one whose common part was taken out.
+const INDEPENDENT_AND: u64 = 4;
+
 /// The record of a leaf with these ways below a parent. Of the table only the weights count once the ways are known.
 pub fn leaf_record(
     weights: &[u32],
@@ -42,10 +46,11 @@ pub fn leaf_record(
     requires { ⌜ overweight (now weights) ≡ false ⌝ }
     requires { ⌜ InTable (now present) (now absent) c ⌝ }
     ensures { λ r. ⌜ (r ≡ freshRecord (table (now (weights .entry)) [] [])
-        (record { set = []; present = c .fixedpresent; absent = c .fixedabsent; ways = waysOf (now (present .entry)) (now (absent .entry)) c }) parent)
+        (spotWith (c .gone) (waysOf (now (present .entry)) (now (absent .entry)) c)) parent)
         × (r .low ≤ S) × (r .high ≤ S) ⌝ }
 {
     let e = ends(weights, present, absent, c);
+    let gone = c.gone;
     Node {
         kind: LEAF,
         fault: 0,
@@ -54,8 +59,9 @@ pub fn leaf_record(
         left: 0,
         waysa: c.waysa,
         waysb: c.waysb,
-        present: c.fixedpresent,
-        absent: c.fixedabsent,
+        present: gone.present,
+        absent: gone.absent,
+        out: gone.out,
         low: e.low,
         high: e.high,
         ownlow: e.low,
@@ -69,6 +75,7 @@ fn kind_code(k: Kind) -> u64
 {
     match k {
         Kind::IndependentOr => INDEPENDENT_OR,
+        Kind::IndependentAnd => INDEPENDENT_AND,
         Kind::Shannon(_) => SHANNON,
     }
 }
@@ -79,6 +86,7 @@ fn fault_code(k: Kind) -> u64
 {
     match k {
         Kind::IndependentOr => 0,
+        Kind::IndependentAnd => 0,
         Kind::Shannon(f) => f,
     }
 }

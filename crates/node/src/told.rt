@@ -8,9 +8,11 @@ ghost use lib.ListN.{length};
 ghost use Rattle.records.specs.Records.{isLive, kindOf};
 ghost use Rattle.records.specs.Growing.{recordWidth};
 ghost use Rattle.node.specs.Told.{LeafWays};
+use super::INDEPENDENT_AND;
 use super::INDEPENDENT_OR;
 use super::LEAF;
 use clauses::Clauses;
+use clauses::Gone;
 use clauses::keeping::remaining_of;
 use records::Node;
 use rules::Kind;
@@ -20,10 +22,12 @@ pub fn kind_of(x: Node) -> Kind
     ensures { λ r. ⌜ r ≡ kindOf x ⌝ }
 {
     if x.kind == INDEPENDENT_OR {
-        Kind::IndependentOr
-    } else {
-        Kind::Shannon(x.fault)
+        return Kind::IndependentOr;
     }
+    if x.kind == INDEPENDENT_AND {
+        return Kind::IndependentAnd;
+    }
+    Kind::Shannon(x.fault)
 }
 
 /// The remaining ways of a record.
@@ -32,7 +36,12 @@ pub fn ways_of(present: &[u64], absent: &[u64], x: Node) -> Clauses
     requires { ⌜ length (now absent) ≡ length (now present) ⌝ }
     ensures { λ r. ⌜ LeafWays (now (present .entry)) (now (absent .entry)) x r ⌝ }
 {
-    remaining_of(present, absent, x.waysa, x.waysb, x.present, x.absent)
+    let gone = Gone {
+        present: x.present,
+        absent: x.absent,
+        out: x.out,
+    };
+    remaining_of(present, absent, x.waysa, x.waysb, gone)
 }
 
 /// The record is marked as an open leaf's. In a tree that a call left only a leaf's record is.

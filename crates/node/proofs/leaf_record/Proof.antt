@@ -16,6 +16,7 @@ use Rattle.clauses.specs.declared.Clauses.{Clauses}
 use Rattle.clauses.proofs.Loops.{low-back, high-back}
 use Rattle.formula.specs.declared.Ends.{Ends}
 use Rattle.formula.specs.Leaves.{endsOf}
+use Rattle.node.specs.Told.{spotWith}
 use Rattle.node.proofs.leaf_record.Statement.{statement}
 use Rattle.node.proofs.leaf_record.Tie as tie
 
@@ -34,15 +35,15 @@ all-fields : (ws : List ℕ) (vs : List Way) (up-link : ℕ) (c : Clauses) (e : 
       left = 0;
       waysa = c .waysa;
       waysb = c .waysb;
-      present = c .fixedpresent;
-      absent = c .fixedabsent;
+      present = c .gone .present;
+      absent = c .gone .absent;
+      out = c .gone .out;
       low = e .low;
       high = e .high;
       ownlow = e .low;
       ownhigh = e .high;
     })
-    (freshRecord (record { weights = ws; present = []; absent = [] })
-    (record { set = []; present = c .fixedpresent; absent = c .fixedabsent; ways = vs }) up-link)
+    (freshRecord (record { weights = ws; present = []; absent = [] }) (spotWith (c .gone) vs) up-link)
 unfolding endsOf kindCode faultCode liveCode end
 all-fields ws vs up-link c e h l g = rw (h, l, g, mark (isOpen ws vs))
 
@@ -51,9 +52,9 @@ ends-requires c κs = search needs
 
 returns : tie.Need-returns
 returns c =
-    let s = c .before .before .before .before in
+    let s = c .before .before .before .before .before in
     let a = s .args in
-    let e = c .ends .ensures in
+    let e = c .before .ends .ensures in
     let w = s .pre .1 .1 in
     let l : a .c .waysa < 2 ^ 64 = search needs in
     let h : a .c .waysb < 2 ^ 64 = search needs in (
