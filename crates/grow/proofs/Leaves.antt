@@ -1,6 +1,6 @@
 -- The records that a refinement writes: those of the two new leaves, and all three in their places.
 -- Rests on `store`, SafeLaws, on `rules`, LeafEnds, on the definitions of Branched.antt, and on that of `records`, refinedAt.
-use mathlib.Core.Path.{_≡_, ap, _∙_}
+use mathlib.Core.Path.{_≡_, ap, ap₂, _∙_}
 use mathlib.Core.List.{List, []}
 use Prim.Native.Nat.{ℕ, _+_, _<_}
 use native.Mathlib.Numerals.{add-one}
@@ -8,8 +8,7 @@ use native.Mathlib.Omega.{arith}
 use lib.ListN.{length, getD, set, length-set}
 use Rattle.rules.specs.Rounding.{down, up}
 use Rattle.rules.specs.Table.{Table}
-use Rattle.rules.specs.Tree.{Side, left, right, childFixed, childNode, end}
-use Rattle.rules.specs.Tree.{Node as Spot}
+use Rattle.rules.specs.Tree.{Side, left, right, childNode, end}
 use Rattle.rules.specs.declared.Kind.{Kind}
 use Rattle.rules.specs.declared.Way.{Way}
 use Rattle.rules.proofs.LeafEnds.{leaf-le}
@@ -18,29 +17,28 @@ use Rattle.records.specs.Growing.{refinedRecord, freshRecord, spotOf, refinedAt
 use Rattle.records.specs.declared.Node.{Node}
 use Rattle.store.specs.Safe.{SafeNode, Safe}
 use Rattle.clauses.specs.declared.Clauses.{Clauses}
+use Rattle.clauses.specs.declared.Gone.{Gone}
 use Rattle.clauses.specs.Leaves.{waysOf}
-use Rattle.formula.specs.Leaves.{Part}
+use Rattle.formula.specs.Leaves.{childGone, Part}
 use Rattle.store.proofs.SafeLaws.{safe-set}
-use Rattle.node.specs.Told.{LeafWays}
+use Rattle.node.specs.Told.{goneIn, spotWith, LeafWays}
 use Rattle.grow.specs.Branched.{leafBelow, three}
 
--- A table of weights alone, and what stands at a place but for its set: a leaf's record depends on no more.
+-- A table of weights alone: a leaf's record depends on no more of it.
 abbrev only : List ℕ → Table
 only ws = record { weights = ws; present = []; absent = [] }
 
-abbrev spot : ℕ → ℕ → List Way → Spot
-spot p q vs = record { set = []; present = p; absent = q; ways = vs }
-
--- The leaf with the fixed faults and the ways of a child is the child.
+-- The leaf with the ways of a child, and the faults gone there, is the child.
 pub as-child : (ps qs ws : List ℕ) (x : Node) (c d : Clauses) (k : Kind) (b : Side) (j : ℕ) (n : Node) → LeafWays ps qs x c → Part ps qs c k b d
-    → n ≡ freshRecord (only ws) (spot (d .fixedpresent) (d .fixedabsent) (waysOf ps qs d)) j → n ≡ leafBelow ws x (waysOf ps qs c) k j b
+    → n ≡ freshRecord (only ws) (spotWith (d .gone) (waysOf ps qs d)) j → n ≡ leafBelow ws x (waysOf ps qs c) k j b
 as-child ps qs ws x c d k b j n l p h =
-    rw (p .ways-are, p .present-is ∙ ap (childFixed left k b) (l .present-is), p .absent-is ∙ ap (childFixed right k b) (l .absent-is)) at h
+    h ∙ ap₂ (λ (g : Gone) (vs : List Way). freshRecord (only ws) (spotWith g vs) j)
+    (p .gone-is ∙ ap (λ (g : Gone). childGone k b g (waysOf ps qs c)) (l .gone-is)) (p .ways-are)
 
 -- The record of a new leaf is safe.
-pub safe-fresh : (ws : List ℕ) (p q : ℕ) (vs : List Way) (j : ℕ) (n : Node) → j < treeRecords → n ≡ freshRecord (only ws) (spot p q vs) j → SafeNode n
+pub safe-fresh : (ws : List ℕ) (g : Gone) (vs : List Way) (j : ℕ) (n : Node) → j < treeRecords → n ≡ freshRecord (only ws) (spotWith g vs) j → SafeNode n
 unfolding end
-safe-fresh ws p q vs j n h e =
+safe-fresh ws g vs j n h e =
     rw e
     (record {
       parent-inside = h;
@@ -62,7 +60,7 @@ safe-three xs used j n l r long h g s a b c =
 -- The ways vs are those of record j of the table t.
 module _ (t : Table) (xs : List Node) (used j : ℕ) (k : Kind) (vs : List Way) (e : vs ≡ recordWays t (getD xs j blank)) where
   leaf-of : (b : Side) → leafBelow (t .weights) (getD xs j blank) vs k j b ≡ freshRecord t (childNode k b (spotOf t (getD xs j blank))) j
-  leaf-of b = ap (λ (us : List Way). freshRecord t (childNode k b (spot (getD xs j blank .present) (getD xs j blank .absent) us)) j) e
+  leaf-of b = ap (λ (us : List Way). freshRecord t (childNode k b (spotWith (goneIn (getD xs j blank)) us)) j) e
 
   pub three-refined : (n l r : Node) → n ≡ refinedRecord (getD xs j blank) k used → l ≡ leafBelow (t .weights) (getD xs j blank) vs k j left
       → r ≡ leafBelow (t .weights) (getD xs j blank) vs k j right → three xs used j n l r ≡ refinedAt t xs used j k

@@ -10,13 +10,14 @@ use Rattle.rules.specs.declared.Way.{Way}
 use Rattle.records.specs.Growing.{refinedRecord, freshRecord}
 use Rattle.records.specs.declared.Node.{Node}
 use Rattle.store.specs.Safe.{SafeNode}
+use Rattle.node.specs.Told.{goneIn, spotWith}
 use Rattle.grow.specs.declared.refine.Branch.{Branch}
 
 -- The record of a leaf below the leaf x in record j, where vs are the ways of x.
 abbrev pub leafBelow : List ℕ → Node → List Way → Kind → ℕ → Side → Node
 leafBelow ws x vs k j b =
     freshRecord (record { weights = ws; present = []; absent = [] })
-    (childNode k b (record { set = []; present = x .present; absent = x .absent; ways = vs })) j
+    (childNode k b (spotWith (goneIn x) vs)) j
 
 -- What a refinement of the leaf x writes: its own record with its left leaf in record `next`, and its leaves' records, all three safe.
 pub record Branched (ws : List ℕ) (x : Node) (vs : List Way) (k : Kind) (j next : ℕ) (b : Branch) : Type 0 where

@@ -31,8 +31,8 @@ returns c =
       left-is = as-child _ _ _ (s .args .x) (s .args .c) _ (s .args .k) left (s .args .j) _ (q .0) (p .children .ensures .on-left) l;
       right-is = as-child _ _ _ (s .args .x) (s .args .c) _ (s .args .k) right (s .args .j) _ (q .0) (p .children .ensures .on-right) r;
       node-safe = n .1;
-      left-safe = safe-fresh _ _ _ _ _ _ (q .1 .1 .1 .0 .0) l;
-      right-safe = safe-fresh _ _ _ _ _ _ (q .1 .1 .1 .0 .0) r;
+      left-safe = safe-fresh _ _ _ _ _ (q .1 .1 .1 .0 .0) l;
+      right-safe = safe-fresh _ _ _ _ _ (q .1 .1 .1 .0 .0) r;
     }
 
 pub branch-of-spec : {M : Type 1} → statement M
