@@ -8,13 +8,14 @@ use Prim.Native.Nat.{ℕ, zero, suc, _<_, _≤_}
 use native.Mathlib.Omega.{arith}
 use lib.ListN.{length, getD}
 use lib.Dec.{ltb}
-use borrow.Author.Tests.{lt-ltb, le-ltb}
+use borrow.Author.Tests.{lt-ltb, le-ltb, eq-eqb, ne-eqb}
 use Rattle.rules.specs.Table.{Table}
 use Rattle.rules.specs.declared.Way.{Way}
-use Rattle.rules.specs.declared.Kind.the-variants.{IndependentOr, Shannon}
+use Rattle.rules.specs.declared.Kind.the-variants.{IndependentOr, IndependentAnd, Shannon}
 use Rattle.rules.specs.declared.Aim.{Aim}
 use Rattle.rules.specs.declared.Verdict.the-variants.{Met, Done, Full}
 use Rattle.rules.specs.Group.{fallApart}
+use Rattle.rules.specs.Common.{shared}
 use Rattle.rules.specs.Tree.{DTree, low, high, inners, roomy, Refinement, tree, descend, subtree, series}
 use Rattle.rules.specs.Run.{named, mostNamed, choice, next, narrow, stop, go, turn}
 use Rattle.rules.proofs.Series.{series-inners}
@@ -51,10 +52,16 @@ pub choice-apart : (ws : List ℕ) (vs : List Way) → fallApart vs ≡ true →
 unfolding choice
 choice-apart ws vs e = rw (e, choice)
 
--- Others by the fault named most.
-pub choice-fault : (ws : List ℕ) (vs : List Way) (n f : ℕ) → length ws ≡ n → fallApart vs ≡ false → f ≡ mostNamed n vs → Shannon f ≡ choice ws vs
+-- Of others the common part is taken out, if there is one.
+pub choice-common : (ws : List ℕ) (vs : List Way) (m : ℕ) → fallApart vs ≡ false → m ≡ shared vs → (m ≡ 0 → ⊥) → IndependentAnd ≡ choice ws vs
 unfolding choice
-choice-fault ws vs n f l e h = rw (e, choice) (ap Shannon (h ∙ ap (λ (m : ℕ). mostNamed m vs) (sym l)))
+choice-common ws vs m e h z = rw (e, ne-eqb (shared vs) 0 (λ q. z (h ∙ q)), choice)
+
+-- Else they are refined by the fault named most.
+pub choice-fault : (ws : List ℕ) (vs : List Way) (m n f : ℕ) → length ws ≡ n → fallApart vs ≡ false → m ≡ shared vs → m ≡ 0 → f ≡ mostNamed n vs
+    → Shannon f ≡ choice ws vs
+unfolding choice
+choice-fault ws vs m n f l e g z h = rw (e, eq-eqb (shared vs) 0 (sym g ∙ z), choice) (ap Shannon (h ∙ ap (λ (k : ℕ). mostNamed k vs) (sym l)))
 
 -- ---- the rules' turn, by its tests
 

@@ -20,6 +20,7 @@ ghost use Rattle.running.specs.Decided.{decided, ByRule};
 use super::Step;
 use clauses::Clauses;
 use formula::choice::most_named;
+use formula::common::common_part;
 use formula::group::falls_apart;
 use grow::refine::grow;
 use node::told::ways_of;
@@ -43,6 +44,9 @@ fn choose(n: usize, present: &[u64], absent: &[u64], c: Clauses) -> Kind
 {
     if falls_apart(present, absent, c) {
         return Kind::IndependentOr;
+    }
+    if common_part(present, absent, c) != 0 {
+        return Kind::IndependentAnd;
     }
     Kind::Shannon(most_named(n, present, absent, c) as u64)
 }

@@ -96,7 +96,7 @@ refine-by-rule-requires c κs =
         l .loop .inv .safe,
         (
           room (table s) (given s) (s .args .limits) (now-tree l) (l .loop .made) (l .loop .inv) _ (goes-there k .0) (s .pre .0),
-          lean-at (table s) (now-tree l) (l .loop .inv .good) _,
+          lean-at (table s) (s .pre .0) (now-tree l) (l .loop .inv .good) _,
         ),
       ),
     )
