@@ -17,12 +17,14 @@ use Rattle.records.specs.declared.Node.{Node}
 use Rattle.records.specs.declared.Tree.{Tree}
 use Rattle.records.proofs.ByTheRules.{opened}
 use Rattle.records.proofs.Demand.{root-read}
+use Rattle.clauses.specs.Leaves.{noneGone}
+use Rattle.node.specs.Told.{spotWith}
 use Rattle.dtree.specs.Promises.{oneRecord, Certain, Opening}
 use Rattle.dtree.proofs.Stored.{every-place}
 
 -- The root leaf's record, from what stays of the ways of the table.
 pub root-record : (t : Table)
-    → freshRecord (record { weights = t .weights; present = []; absent = [] }) (record { set = []; present = 0; absent = 0; ways = rootWays t }) 0
+    → freshRecord (record { weights = t .weights; present = []; absent = [] }) (spotWith noneGone (rootWays t)) 0
     ≡ recordAt t [] []
 unfolding recordAt grow kindAt subtree subtreeOr places above leftCode position samePlace descend ways
 root-record t = refl

@@ -1,8 +1,7 @@
--- `root_leaf` meets its contract: what stays of the ways of the table, with nothing fixed.
+-- `root_leaf` meets its contract: what stays of the ways of the table, with no fault gone.
 -- Rests on what holds of an accepted table (`rules`, Accepted) and on the contracts of `staying_rows` and `leaf_record`.
 use mathlib.Core.Path.{_≡_, sym, _∙_}
 use mathlib.Core.List.{List, []}
-use Prim.Native.Nat.{ℕ}
 use Rattle.rules.specs.Table.{Table, ways}
 use Rattle.rules.specs.Tree.{rootWays}
 use Rattle.rules.specs.declared.Way.{Way}
@@ -10,14 +9,16 @@ use Rattle.rules.proofs.Accepted.{few-faults, few-ways, paired-words, light}
 use Rattle.records.specs.Records.{recordAt}
 use Rattle.records.specs.Growing.{freshRecord}
 use Rattle.records.specs.declared.Node.{Node}
+use Rattle.clauses.specs.declared.Gone.{Gone}
+use Rattle.clauses.specs.Leaves.{noneGone}
+use Rattle.node.specs.Told.{spotWith}
 use Rattle.dtree.proofs.Opens.{root-record}
 use Rattle.dtree.proofs.opening.root_leaf.Statement.{statement}
 use Rattle.dtree.proofs.opening.root_leaf.Tie as tie
 
-from-ways : (t : Table) (vs : List Way) (p a : ℕ) (x : Node) → vs ≡ rootWays t → p ≡ 0 → a ≡ 0
-    → x ≡ freshRecord (record { weights = t .weights; present = []; absent = [] }) (record { set = []; present = p; absent = a; ways = vs }) 0
-    → x ≡ recordAt t [] []
-from-ways t vs p a x e g h f = f ∙ rw (e, g, h) (root-record t)
+from-ways : (t : Table) (vs : List Way) (g : Gone) (x : Node) → vs ≡ rootWays t → g ≡ noneGone
+    → x ≡ freshRecord (record { weights = t .weights; present = []; absent = [] }) (spotWith g vs) 0 → x ≡ recordAt t [] []
+from-ways t vs g x e h f = f ∙ rw (e, h) (root-record t)
 
 staying-rows-requires : tie.Need-staying-rows-requires
 staying-rows-requires c κs =
@@ -33,7 +34,7 @@ returns : tie.Need-returns
 unfolding ways rootWays
 returns c =
     let w = c .before .staying-rows .ensures in
-    from-ways _ _ _ _ _ (w .0) (w .2) (w .3) (c .leaf-record .ensures .0)
+    from-ways _ _ _ _ (w .0) (w .2) (c .leaf-record .ensures .0)
 
 pub root-leaf-spec : {M : Type 1} → statement M
 root-leaf-spec = tie.close (tie.spec staying-rows-requires leaf-record-requires returns)

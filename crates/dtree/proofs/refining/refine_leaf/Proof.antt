@@ -60,7 +60,7 @@ grow-requires c κs =
       s .pre .0,
       (
         ways-there (s .args .present .now) (s .args .absent .now) _ _ _ (n .record-at .ensures) (w .ways-of .ensures),
-        (r .fault, (s .pre .1 .1 .0, ((r .inside, odd-room (given s) (lent s) g (r .room)), lean-at (given s) (lent s) g (s .args .j)))),
+        (r .fault, (s .pre .1 .1 .0, ((r .inside, odd-room (given s) (lent s) g (r .room)), lean-at (given s) (s .pre .0) (lent s) g (s .args .j)))),
       ),
     )
 

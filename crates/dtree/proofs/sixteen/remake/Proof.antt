@@ -112,7 +112,7 @@ grow-requires c κs =
             s .pre .1 .0,
             (
               (omega (arith, room, inside), omega (arith, room, u .used-in .ensures, s .pre .1 .1 .0)),
-              lean-at (given s) (built s) (s .pre .1 .1 .1) _,
+              lean-at (given s) (s .pre .0) (built s) (s .pre .1 .1 .1) _,
             ),
           ),
         ),
