@@ -22,9 +22,9 @@ use Rattle.sheet.specs.Handed.{sized, tableAt}
 use Rattle.sheet.specs.declared.table.TableArrays.{TableArrays}
 use Rattle.sheet.proofs.Sized.{length-sized}
 use Rattle.sheet.proofs.Tables.{partsOf, entry-parts}
-use Rattle.cuerisk.specs.Numbers.{noTable, flatTable, tableBy, flatTableAt}
+use Rattle.cue_numbers.specs.Numbers.{noTable, flatTable, tableBy, flatTableAt}
 use Rattle.cuerisk.specs.Told.{tableHeld, TableTold}
-use Rattle.cuerisk.specs.declared.CueTable.{CueTable}
+use Rattle.cue_numbers.specs.declared.CueTable.{CueTable}
 
 -- ---- arrays
 

@@ -25,16 +25,16 @@ use Rattle.captures.specs.declared.FractionAnswer.{FractionAnswer}
 use Rattle.captures.specs.declared.WeightAnswer.{WeightAnswer}
 use Rattle.captures.specs.declared.OrderAnswer.{OrderAnswer}
 use Rattle.captures.specs.Promises.{LogCounted, LogsCounted, Added, Weighed, Compared}
-use Rattle.cuerisk.specs.Numbers.{flat, flatAnswer, flatRun, flatWrite, flatImport, flatSheet, flatEntry}
+use Rattle.cue_numbers.specs.Numbers.{flat, flatAnswer, flatRun, flatWrite, flatImport, flatSheet, flatEntry}
 use Rattle.cuerisk.specs.Told.{refineAnswer, runOnAnswer, OpeningTold, RefiningTold, RunningTold, ReadingTold, EntryTold, WritingTold}
-use Rattle.cuerisk.specs.Numbers.{flatFraction, flatWeight, flatOrder}
+use Rattle.cue_numbers.specs.Numbers.{flatFraction, flatWeight, flatOrder}
 use Rattle.cuerisk.specs.Told.{ImportingTold, ExportingTold, LogTold, LogsTold, AddingTold, WeighingTold, ComparingTold}
-use Rattle.cuerisk.specs.declared.CueAnswer.{CueAnswer}
-use Rattle.cuerisk.specs.declared.CueSheet.{CueSheet}
-use Rattle.cuerisk.specs.declared.CueEntry.{CueEntry}
-use Rattle.cuerisk.specs.declared.CueFraction.{CueFraction}
-use Rattle.cuerisk.specs.declared.CueWeight.{CueWeight}
-use Rattle.cuerisk.specs.declared.CueOrder.{CueOrder}
+use Rattle.cue_numbers.specs.declared.CueAnswer.{CueAnswer}
+use Rattle.cue_numbers.specs.declared.CueSheet.{CueSheet}
+use Rattle.cue_numbers.specs.declared.CueEntry.{CueEntry}
+use Rattle.cue_numbers.specs.declared.CueFraction.{CueFraction}
+use Rattle.cue_numbers.specs.declared.CueWeight.{CueWeight}
+use Rattle.cue_numbers.specs.declared.CueOrder.{CueOrder}
 
 -- The answer that an outcome is of.
 abbrev answerIn : Outcome → Answer → Answer

@@ -1,5 +1,5 @@
 -- What each call promises whose answer is told in numbers: the promise of the call that it stands for, whole, and the numbers of that very
--- answer. Rests on Numbers.antt and Into.antt, on `dtree`, `csv` and `captures`, Promises, on `page`, Widest, and on `rules`, Sheet.
+-- answer. Rests on `cue_numbers`, Numbers, on Into.antt, on `dtree`, `csv` and `captures`, Promises, on `page`, Widest, and on `rules`, Sheet.
 use mathlib.Core.Path.{_≡_}
 use mathlib.Core.List.{List}
 use Prim.Native.Nat.{ℕ, _<_}
@@ -25,17 +25,17 @@ use Rattle.csv.specs.Promises.{Importing, Exporting}
 use Rattle.captures.specs.declared.Fraction.{Fraction}
 use Rattle.captures.specs.Fractions.{logAnswer, logsAnswer, totalAnswer, weightAnswer, compareAnswer}
 use Rattle.captures.specs.Promises.{LogCounted, LogsCounted, Added, Weighed, Compared}
-use Rattle.cuerisk.specs.Numbers.{flat, flatAnswer, flatRun, flatWrite, flatImport, flatSpot, flatSheet, flatEntry, flatTableAt}
-use Rattle.cuerisk.specs.Numbers.{flatFraction, flatWeight, flatOrder}
+use Rattle.cue_numbers.specs.Numbers.{flat, flatAnswer, flatRun, flatWrite, flatImport, flatSpot, flatSheet, flatEntry, flatTableAt}
+use Rattle.cue_numbers.specs.Numbers.{flatFraction, flatWeight, flatOrder}
 use Rattle.cuerisk.specs.Into.{reportNumber, reportAnswer, reported}
-use Rattle.cuerisk.specs.declared.CueAnswer.{CueAnswer}
-use Rattle.cuerisk.specs.declared.CueSpot.{CueSpot}
-use Rattle.cuerisk.specs.declared.CueSheet.{CueSheet}
-use Rattle.cuerisk.specs.declared.CueEntry.{CueEntry}
-use Rattle.cuerisk.specs.declared.CueTable.{CueTable}
-use Rattle.cuerisk.specs.declared.CueFraction.{CueFraction}
-use Rattle.cuerisk.specs.declared.CueWeight.{CueWeight}
-use Rattle.cuerisk.specs.declared.CueOrder.{CueOrder}
+use Rattle.cue_numbers.specs.declared.CueAnswer.{CueAnswer}
+use Rattle.cue_numbers.specs.declared.CueSpot.{CueSpot}
+use Rattle.cue_numbers.specs.declared.CueSheet.{CueSheet}
+use Rattle.cue_numbers.specs.declared.CueEntry.{CueEntry}
+use Rattle.cue_numbers.specs.declared.CueTable.{CueTable}
+use Rattle.cue_numbers.specs.declared.CueFraction.{CueFraction}
+use Rattle.cue_numbers.specs.declared.CueWeight.{CueWeight}
+use Rattle.cue_numbers.specs.declared.CueOrder.{CueOrder}
 
 -- The answer of a hand refinement on any tree, 16 judged by the records.
 abbrev pub refineAnswer : Table → Tree → List ℕ → Kind → Answer

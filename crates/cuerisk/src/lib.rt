@@ -1,112 +1,45 @@
 //! The C interface (include/cue_risk.h): trees, slices and spaces are lent and written where they are, answers are handed back as plain numbers.
 //! Each export is one call of `dtree`, `page`, `sheet`, `writer`, `report`, `csv_import`, `csv_export` or `captures`, and carries its promise whole
-//! (specs/Told.antt); specs/Numbers.antt says which numbers stand for which answer. No enum crosses this border, and a number that a rule
+//! (specs/Told.antt); `cue_numbers` says which numbers stand for which answer. No enum crosses this border, and a number that a rule
 //! judges crosses it whole, in 64 bits.
-mod numbers;
 mod reports;
 
 ghost use mathlib.Core.Path.{_≡_};
 ghost use Rattle.rules.specs.Table.{table};
 ghost use Rattle.store.specs.Lent.{treeOf};
 ghost use Rattle.writer.specs.Given.{given};
-ghost use Rattle.cuerisk.specs.Numbers.{version, kindAsked};
+ghost use Rattle.cue_numbers.specs.Numbers.{version, kindAsked};
 ghost use Rattle.cuerisk.specs.Told.{OpeningTold, RefiningTold, RunningTold, SearchTold, ReadingTold, EntryTold, TableTold, WritingTold, ReportingTold};
 ghost use Rattle.captures.specs.Logs.{logsIn};
 ghost use Rattle.captures.specs.Fractions.{fraction, fractionsIn};
 ghost use Rattle.cuerisk.specs.Told.{ImportingTold, ExportingTold, LogTold, LogsTold, AddingTold, WeighingTold, ComparingTold};
 use captures::Fraction;
-use numbers::kind_asked;
-use numbers::no_table;
-use numbers::of_answer;
-use numbers::of_entry;
-use numbers::of_fraction;
-use numbers::of_import;
-use numbers::of_order;
-use numbers::of_read;
-use numbers::of_run;
-use numbers::of_spot;
-use numbers::of_table;
-use numbers::of_weight;
-use numbers::of_write;
+use cue_numbers::CueAnswer;
+use cue_numbers::CueEntry;
+use cue_numbers::CueFraction;
+use cue_numbers::CueOrder;
+use cue_numbers::CueSheet;
+use cue_numbers::CueSpot;
+use cue_numbers::CueTable;
+use cue_numbers::CueWeight;
+use cue_numbers::numbers::kind_asked;
+use cue_numbers::numbers::no_table;
+use cue_numbers::numbers::of_answer;
+use cue_numbers::numbers::of_entry;
+use cue_numbers::numbers::of_fraction;
+use cue_numbers::numbers::of_import;
+use cue_numbers::numbers::of_order;
+use cue_numbers::numbers::of_read;
+use cue_numbers::numbers::of_run;
+use cue_numbers::numbers::of_spot;
+use cue_numbers::numbers::of_table;
+use cue_numbers::numbers::of_weight;
+use cue_numbers::numbers::of_write;
 use records::Node;
 use reports::put_text;
 use rules::EntryAnswer;
 use rules::Limits;
 use store::Words;
-
-/// The answer of a call on a tree, and of a call that fills a space: writer, report, import and export. `verdict` is 0 none, 1 met, 2 done, 3 full, 4 spent.
-/// `figure` is that of an accepted run, and 0 in every other answer.
-#[repr(C)]
-pub struct CueAnswer {
-    pub number: u64,
-    pub low: u64,
-    pub high: u64,
-    pub count: u64,
-    pub verdict: u64,
-    pub figure: u64,
-}
-
-/// The answer of the search of lent records: 1 and the position, or 0 and 0.
-#[repr(C)]
-pub struct CueSpot {
-    pub found: u64,
-    pub at: usize,
-}
-
-/// The answer of reading a whole sheet: its head, or the number that refuses it and zeros.
-#[repr(C)]
-pub struct CueSheet {
-    pub number: u64,
-    pub faults: u64,
-    pub cues: u64,
-    pub allowance: u64,
-    pub budget: u64,
-}
-
-/// The answer of a reader's call: a cue; past the last cue `past` is 1 and the rest 0; refused, the number and zeros.
-#[repr(C)]
-pub struct CueEntry {
-    pub number: u64,
-    pub past: u64,
-    pub cue: u64,
-    pub ways: u64,
-    pub start: u64,
-}
-
-/// The answer of a call for a cue's table: the first `faults` weights, the first `ways` words of each kind, and zeros behind them; past the last
-/// cue `past` is 1 and the rest 0; refused, the number and zeros.
-#[repr(C)]
-pub struct CueTable {
-    pub number: u64,
-    pub past: u64,
-    pub faults: u64,
-    pub ways: u64,
-    pub weights: [u32; 64],
-    pub present: [u64; 128],
-    pub absent: [u64; 128],
-}
-
-/// The answer of counting one log or several, and of adding fractions: the fraction, or the number that refuses it and 0 of 0.
-#[repr(C)]
-pub struct CueFraction {
-    pub number: u64,
-    pub discarded: u64,
-    pub judged: u64,
-}
-
-/// The answer of making a weight of a fraction: the weight, or the number that refuses it and 0.
-#[repr(C)]
-pub struct CueWeight {
-    pub number: u64,
-    pub weight: u64,
-}
-
-/// The answer of comparing a fraction with another: 1 less, 2 equal, 3 greater, or the number that refuses it and 0.
-#[repr(C)]
-pub struct CueOrder {
-    pub number: u64,
-    pub order: u64,
-}
 
 /// The version of these structs and calls, to be compared with that of the header.
 #[no_mangle]

@@ -1,7 +1,7 @@
 -- `cue_sheet_report` meets its contract: the numbers of what `put_text` answers, and its space.
 -- Rests on Reporting.antt and the contracts of `put_text` and `of_write`.
 use mathlib.Core.Path.{ap, _∙_}
-use Rattle.cuerisk.specs.Numbers.{flat, flatWrite}
+use Rattle.cue_numbers.specs.Numbers.{flat, flatWrite}
 use Rattle.cuerisk.proofs.Reporting.{report-reply}
 use borrow.Author.Needs.{needs}
 use Rattle.cuerisk.proofs.cue_sheet_report.Statement.{statement}

@@ -45,15 +45,15 @@ use Rattle.page.proofs.widest as g
 use Rattle.page.proofs.widest.Symbol as g-def
 use Rattle.page.proofs.widest.Symbol.{name as #page·widest}
 use Rattle.page.proofs.widest.Met as g-thm
-use Rattle.cuerisk.specs.Numbers.{flatSpot}
+use Rattle.cue_numbers.specs.Numbers.{flatSpot}
 use Rattle.cuerisk.specs.Told.{SearchTold}
-use Rattle.cuerisk.specs.declared.CueSpot.{CueSpot}
-use Rattle.cuerisk.proofs.CueSpot as S
-use Rattle.cuerisk.proofs.CueSpot.Laws as S′
-use Rattle.cuerisk.proofs.numbers.of_spot as k
-use Rattle.cuerisk.proofs.numbers.of_spot.Symbol as k-def
-use Rattle.cuerisk.proofs.numbers.of_spot.Symbol.{name as #cuerisk·of-spot}
-use Rattle.cuerisk.proofs.numbers.of_spot.Met as k-thm
+use Rattle.cue_numbers.specs.declared.CueSpot.{CueSpot}
+use Rattle.cue_numbers.proofs.CueSpot as S
+use Rattle.cue_numbers.proofs.CueSpot.Laws as S′
+use Rattle.cue_numbers.proofs.numbers.of_spot as k
+use Rattle.cue_numbers.proofs.numbers.of_spot.Symbol as k-def
+use Rattle.cue_numbers.proofs.numbers.of_spot.Symbol.{name as #cue-numbers·of-spot}
+use Rattle.cue_numbers.proofs.numbers.of_spot.Met as k-thm
 use Rattle.cuerisk.proofs.cue_widest.Key.{name as #cuerisk·cue-widest}
 use Rattle.cuerisk.proofs.cue_widest as f
 use Rattle.cuerisk.proofs.cue_widest.Statement as stated
@@ -109,7 +109,7 @@ module _ {M : Type 1} (𝓤 : URA M) (H : Heap 𝓤) (A : Atoms 𝓤) (W : Given
       move ! (1 ∷ []) $ frame ! $ nothing ! $ move ! (2 ∷ 0 ∷ []) $ fjoin ! $ frame ! $ done !
 
   module _ (C : Calls 𝓤 H) (Λ : Loops 𝓤 H) (fm : FmC 𝓤 H (W .laws) C)
-      (known-find : Triple 𝓤 (C #page·widest) (Widest 𝓤 H A mem run)) (known-tell : Triple 𝓤 (C #cuerisk·of-spot) (Tells 𝓤 H A mem run)) where
+      (known-find : Triple 𝓤 (C #page·widest) (Widest 𝓤 H A mem run)) (known-tell : Triple 𝓤 (C #cue-numbers·of-spot) (Tells 𝓤 H A mem run)) where
     walk : Is (ShrSlice (named 0) κ N.the-row) s vs → ent 𝓤 (onEntry 𝓤 H A f.signature (κ, tt) (q, tt) (s, tt) (vs, tt)) (WpFn 𝓤 H C Λ code.function vs Post)
     walk p =
         qed W (raw (onEntry 𝓤 H A f.signature (κ, tt) (q, tt) (s, tt) (vs, tt)) ∷ []) ∵ enter ! C Λ code.function vs _ $
@@ -138,7 +138,7 @@ module _ {M : Type 1} (𝓤 : URA M) (H : Heap 𝓤) (A : Atoms 𝓤) (W : Given
 
 module _ {M : Type 1} (𝓤 : URA M) (H : Heap 𝓤) (A : Atoms 𝓤) (W : Given 𝓤 H A) (mem : Memory → SProp 𝓤) (run : Routine → Fun 𝓤) where
   cue-widest-walks : (C : Calls 𝓤 H) (Λ : Loops 𝓤 H) → FmC 𝓤 H (W .laws) C
-      → Triple 𝓤 (C #page·widest) (Widest 𝓤 H A mem run) → Triple 𝓤 (C #cuerisk·of-spot) (Tells 𝓤 H A mem run)
+      → Triple 𝓤 (C #page·widest) (Widest 𝓤 H A mem run) → Triple 𝓤 (C #cue-numbers·of-spot) (Tells 𝓤 H A mem run)
       → Walks 𝓤 H A f.ended stayed (WpFn 𝓤 H C Λ code.function) (f.clauses 𝓤 H A mem run)
   cue-widest-walks C Λ fm known-find known-tell =
       walked 𝓤 H A f.ended stayed (f.clauses 𝓤 H A mem run) (WpFn 𝓤 H C Λ code.function)
@@ -146,7 +146,7 @@ module _ {M : Type 1} (𝓤 : URA M) (H : Heap 𝓤) (A : Atoms 𝓤) (W : Given
       (λ κs qs bounds a _ are. via 𝓤 _ (fst∗ 𝓤 _ (emp 𝓤)) (walk 𝓤 H A W mem run (κs .0) (qs .0) (a .0) C Λ fm known-find known-tell (are .0)))
 
 cue-widest-meets : {M : Type 1} (𝓤 : URA M) (H : Heap 𝓤) (A : Atoms 𝓤) (W : Given 𝓤 H A) (mem : Memory → SProp 𝓤) (run : Routine → Fun 𝓤) (𝓣 : Tables 𝓤 H)
-    → Triple 𝓤 (𝓣 .C #page·widest) (Widest 𝓤 H A mem run) → Triple 𝓤 (𝓣 .C #cuerisk·of-spot) (Tells 𝓤 H A mem run)
+    → Triple 𝓤 (𝓣 .C #page·widest) (Widest 𝓤 H A mem run) → Triple 𝓤 (𝓣 .C #cue-numbers·of-spot) (Tells 𝓤 H A mem run)
     → Meets 𝓤 H A f.signature (WpFn 𝓤 H (𝓣 .C) (𝓣 .Λ) code.function) (f.spec 𝓤 H A mem run)
 cue-widest-meets 𝓤 H A W mem run 𝓣 known-find known-tell =
     walk-meets 𝓤 H A f.ended stayed W (goes-none-slice 𝓤 H A W 1 (0 ∷ []) tt (plain (λ _. N.the-row)) yes, tt) (f.clauses 𝓤 H A mem run)
@@ -160,4 +160,4 @@ cue-widest-spec 𝓤 H 𝓜 𝓖 𝓡 =
     (tables 𝓤 H 𝓜 𝓡 code.env .C) (tables 𝓤 H 𝓜 𝓡 code.env .Λ) #cuerisk·cue-widest code.function (code.unfolded 𝓤 H 𝓜 𝓡)
     (cue-widest-meets 𝓤 H (𝓖 .A) (givenOf 𝓤 H 𝓜 𝓖) (𝓜 .mem) (𝓡 .run) (tablesOf 𝓤 H 𝓜 (tables 𝓤 H 𝓜 𝓡 code.env))
     (cited 𝓤 H (Widest 𝓤 H (𝓖 .A) (𝓜 .mem) (𝓡 .run)) 𝓜 𝓡 code.env #page·widest g-def.routine code.calls-page·widest (g-thm.met 𝓤 H 𝓜 𝓖 𝓡))
-    (cited 𝓤 H (Tells 𝓤 H (𝓖 .A) (𝓜 .mem) (𝓡 .run)) 𝓜 𝓡 code.env #cuerisk·of-spot k-def.routine code.calls-cuerisk·numbers·of-spot (k-thm.met 𝓤 H 𝓜 𝓖 𝓡)))
+    (cited 𝓤 H (Tells 𝓤 H (𝓖 .A) (𝓜 .mem) (𝓡 .run)) 𝓜 𝓡 code.env #cue-numbers·of-spot k-def.routine code.calls-cue-numbers·numbers·of-spot (k-thm.met 𝓤 H 𝓜 𝓖 𝓡)))
