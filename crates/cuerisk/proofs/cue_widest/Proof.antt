@@ -160,4 +160,5 @@ cue-widest-spec 𝓤 H 𝓜 𝓖 𝓡 =
     (tables 𝓤 H 𝓜 𝓡 code.env .C) (tables 𝓤 H 𝓜 𝓡 code.env .Λ) #cuerisk·cue-widest code.function (code.unfolded 𝓤 H 𝓜 𝓡)
     (cue-widest-meets 𝓤 H (𝓖 .A) (givenOf 𝓤 H 𝓜 𝓖) (𝓜 .mem) (𝓡 .run) (tablesOf 𝓤 H 𝓜 (tables 𝓤 H 𝓜 𝓡 code.env))
     (cited 𝓤 H (Widest 𝓤 H (𝓖 .A) (𝓜 .mem) (𝓡 .run)) 𝓜 𝓡 code.env #page·widest g-def.routine code.calls-page·widest (g-thm.met 𝓤 H 𝓜 𝓖 𝓡))
-    (cited 𝓤 H (Tells 𝓤 H (𝓖 .A) (𝓜 .mem) (𝓡 .run)) 𝓜 𝓡 code.env #cue-numbers·of-spot k-def.routine code.calls-cue-numbers·numbers·of-spot (k-thm.met 𝓤 H 𝓜 𝓖 𝓡)))
+    (cited 𝓤 H (Tells 𝓤 H (𝓖 .A) (𝓜 .mem) (𝓡 .run)) 𝓜 𝓡 code.env #cue-numbers·of-spot k-def.routine
+    code.calls-cue-numbers·numbers·of-spot (k-thm.met 𝓤 H 𝓜 𝓖 𝓡)))

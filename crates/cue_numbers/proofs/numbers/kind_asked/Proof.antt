@@ -9,14 +9,17 @@ use Rattle.cue_numbers.proofs.numbers.kind_asked.Statement.{statement}
 use Rattle.cue_numbers.proofs.numbers.kind_asked.Tie as tie
 
 module _ (what fault : ℕ) where
+  -- 0 asks for independence.
   by-zero : what ≡ 0 → Kind.IndependentOr ≡ kindAsked what fault
   unfolding kindAsked
   by-zero e = rw (eq-eqb what 0 e, kindAsked) refl
 
+  -- 1 asks for the fault named.
   by-one : (what ≡ 0 → ⊥) → what ≡ 1 → Kind.Shannon fault ≡ kindAsked what fault
   unfolding kindAsked
   by-one f e = rw (ne-eqb what 0 f, kindAsked) (rw (eq-eqb what 1 e) refl)
 
+  -- Any other number asks for fault 64.
   by-another : (what ≡ 0 → ⊥) → (what ≡ 1 → ⊥) → Kind.Shannon 64 ≡ kindAsked what fault
   unfolding kindAsked
   by-another f g = rw (ne-eqb what 0 f, kindAsked) (rw (ne-eqb what 1 g) refl)
