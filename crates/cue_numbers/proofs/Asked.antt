@@ -1,4 +1,4 @@
--- A hand refinement that asks for neither independence nor a fault, or for a fault at 64 or above: it is possible at no leaf of an accepted table.
+-- A hand refinement that asks for none of the three kinds, or for a fault at 64 or above: it is possible at no leaf of an accepted table.
 -- So 20 applies where nothing before it does. Rests on `rules`, First, Accepted, KindLaws and Runs.
 use mathlib.Core.Path.{_≡_, refl, sym, ap, _∙_}
 use mathlib.Core.Bool.{Bool, true, false, not, true≢false}
@@ -71,12 +71,13 @@ far-fault t bad s bs f far = by (first (tableRefusals t)) refl
         ap (λ (b : Bool). first (refusal 20 b ∷ [])) (twenty t e s bs f far leaf)))))
         ∙ sym (first-after (tableRefusals t) _ k)
 
--- THE NUMBER of a hand refinement that asks for neither: `what` is neither 0 nor 1.
-pub never-asked : (t : Table) (bad : Bool) (s : DTree) (bs : List ℕ) (what fault : ℕ) → 1 < what
+-- THE NUMBER of a hand refinement that asks for none of them: `what` is neither 0 nor 1 nor 2.
+pub never-asked : (t : Table) (bad : Bool) (s : DTree) (bs : List ℕ) (what fault : ℕ) → 2 < what
     → handNumber t bad s bs (kindAsked what fault) ≡ first (neverRefusals t bad s bs)
 unfolding kindAsked
 never-asked t bad s bs what fault h =
-    rw (ne-eqb what 0 (λ e. omega (arith, e)), kindAsked) (rw (ne-eqb what 1 (λ e. omega (arith, e))) (far-fault t bad s bs 64 (omega arith)))
+    rw (ne-eqb what 0 (λ e. omega (arith, e)), kindAsked)
+    (rw (ne-eqb what 1 (λ e. omega (arith, e))) (rw (ne-eqb what 2 (λ e. omega (arith, e))) (far-fault t bad s bs 64 (omega arith))))
 
 -- THE NUMBER of one that asks for a fault that no table has, however large.
 pub never-there : (t : Table) (bad : Bool) (s : DTree) (bs : List ℕ) (fault : ℕ) → 64 ≤ fault

@@ -36,13 +36,19 @@ use Rattle.cue_numbers.specs.declared.CueOrder.{CueOrder}
 
 -- The version: another one for every change of a struct or of a call, and for every new one. CUE_VERSION in include/cue_risk.h.
 abbrev pub version : ℕ
-version = 4
+version = 5
 
--- The refinement asked for (docs/RULES.md, 5.4): 0 is independence, 1 the fault named. Any other number asks for fault 64, which no accepted table has.
+-- The refinement asked for (docs/RULES.md, 5.4): 0 is independence, 1 the fault named, 2 the common part. Any other number asks for fault 64, which no
+-- accepted table has.
 unfoldable pub kindAsked : ℕ → ℕ → Kind
 kindAsked what fault =
-    elim (eqb what 0) as (λ b. Kind)
-    [ true ↦ Kind.IndependentOr | false ↦ elim (eqb what 1) as (λ b. Kind) [ true ↦ Kind.Shannon fault | false ↦ Kind.Shannon 64 ] ]
+    elim (eqb what 0) as (λ b. Kind) [
+      | true ↦ Kind.IndependentOr
+      | false ↦ elim (eqb what 1) as (λ b. Kind) [
+        | true ↦ Kind.Shannon fault
+        | false ↦ elim (eqb what 2) as (λ b. Kind) [ true ↦ Kind.IndependentAnd | false ↦ Kind.Shannon 64 ]
+      ]
+    ]
 
 -- A verdict's code; 0 where there is none.
 abbrev pub verdictCode : Option Verdict → ℕ

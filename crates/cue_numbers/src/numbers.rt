@@ -30,7 +30,7 @@ use rules::S;
 use rules::Verdict;
 use rules::WriteAnswer;
 
-/// The refinement asked for: 0 is independence, 1 the fault. Any other number asks for fault 64, which no table has: 20.
+/// The refinement asked for: 0 is independence, 1 the fault, 2 the common part. Any other number asks for fault 64, which no table has: 20.
 pub fn kind_asked(what: u64, fault: u64) -> Kind
     ensures { λ r. ⌜ r ≡ kindAsked what fault ⌝ }
 {
@@ -39,6 +39,9 @@ pub fn kind_asked(what: u64, fault: u64) -> Kind
     }
     if what == 1 {
         return Kind::Shannon(fault);
+    }
+    if what == 2 {
+        return Kind::IndependentAnd;
     }
     Kind::Shannon(64)
 }

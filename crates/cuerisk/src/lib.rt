@@ -46,7 +46,7 @@ use store::Words;
 pub extern "C" fn cue_version() -> u64
     ensures promise { λ r. ⌜ r ≡ version ⌝ }
 {
-    4
+    5
 }
 
 /// Opens a table. What the tree held before does not matter; refused, it is left without nodes.
@@ -64,7 +64,7 @@ pub extern "C" fn cue_open(
 }
 
 /// Refines one leaf of the tree. The place is a list of steps from the root, 0 for left and 1 for right; `what` is 0 for
-/// independence and 1 for the fault. Any other `what`, and any fault from 64 on, is refused by 20 where nothing before refuses.
+/// independence, 1 for the fault and 2 for the common part. Any other `what`, and any fault from 64 on, is refused by 20 where nothing before refuses.
 #[no_mangle]
 pub extern "C" fn cue_refine(
     tree: &mut Words,

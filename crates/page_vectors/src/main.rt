@@ -51,6 +51,7 @@ fn record(kind: u64, live: u64, low: u64, high: u64) -> Node {
         waysb: 0,
         present: 0,
         absent: 0,
+        out: 0,
         low,
         high,
         ownlow: 0,

@@ -19,10 +19,15 @@ module _ (what fault : ℕ) where
   unfolding kindAsked
   by-one f e = rw (ne-eqb what 0 f, kindAsked) (rw (eq-eqb what 1 e) refl)
 
-  -- Any other number asks for fault 64.
-  by-another : (what ≡ 0 → ⊥) → (what ≡ 1 → ⊥) → Kind.Shannon 64 ≡ kindAsked what fault
+  -- 2 asks for the common part.
+  by-two : (what ≡ 0 → ⊥) → (what ≡ 1 → ⊥) → what ≡ 2 → Kind.IndependentAnd ≡ kindAsked what fault
   unfolding kindAsked
-  by-another f g = rw (ne-eqb what 0 f, kindAsked) (rw (ne-eqb what 1 g) refl)
+  by-two f g e = rw (ne-eqb what 0 f, kindAsked) (rw (ne-eqb what 1 g) (rw (eq-eqb what 2 e) refl))
+
+  -- Any other number asks for fault 64.
+  by-another : (what ≡ 0 → ⊥) → (what ≡ 1 → ⊥) → (what ≡ 2 → ⊥) → Kind.Shannon 64 ≡ kindAsked what fault
+  unfolding kindAsked
+  by-another f g h = rw (ne-eqb what 0 f, kindAsked) (rw (ne-eqb what 1 g) (rw (ne-eqb what 2 h) refl))
 
 returns : tie.Need-returns
 returns c = by-zero _ _ (c .if1 .taken)
@@ -31,7 +36,10 @@ returns-2 : tie.Need-returns-2
 returns-2 c = by-one _ _ (c .before .if1 .left) (c .if2 .taken)
 
 returns-3 : tie.Need-returns-3
-returns-3 c = by-another _ _ (c .before .if1 .left) (c .if2 .left)
+returns-3 c = by-two _ _ (c .before .before .if1 .left) (c .before .if2 .left) (c .if3 .taken)
+
+returns-4 : tie.Need-returns-4
+returns-4 c = by-another _ _ (c .before .before .if1 .left) (c .before .if2 .left) (c .if3 .left)
 
 pub kind-asked-spec : {M : Type 1} → statement M
-kind-asked-spec = tie.close (tie.spec returns returns-2 returns-3)
+kind-asked-spec = tie.close (tie.spec returns returns-2 returns-3 returns-4)
