@@ -31,12 +31,15 @@ fn opening(weights: &[u32], present: &[u64], absent: &[u64], tree: &mut Words) {
     print_line(reply(open(weights, present, absent, tree)));
 }
 
-/// Reads what a hand refinement does: 0 for independence, 1 for a fault, then the fault's number.
+/// Reads what a hand refinement does: 0 for independence, 1 for a fault, 2 for the common part, then the fault's number.
 fn kind_read() -> Kind {
-    let by_fault = number();
+    let what = number();
     let fault = number();
-    if by_fault == 0 {
+    if what == 0 {
         return Kind::IndependentOr;
+    }
+    if what == 2 {
+        return Kind::IndependentAnd;
     }
     Kind::Shannon(fault)
 }

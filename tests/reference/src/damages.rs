@@ -5,10 +5,12 @@
 //! - the records in use: the first blank one among the 511 ends them; a blank one is all zeros;
 //! - a parent: the root's is 0, and a child has its sibling's;
 //! - a kind: as many nodes are inner as there are pairs of children, so one that is a leaf stays
-//!   one; by a fault the left child has one fault more fixed than the node, by independence none;
+//!   one; by a fault the left child has one fault more fixed than the node, by the common part the
+//!   right child has more faults taken out, by independence neither;
 //! - a fault: the one that the left child has fixed more, else 0;
 //! - a left link: the pair of children whose parent this record is, else 0;
-//! - ways and fixed faults: by those of the parent and what was done there, the root's by the table;
+//! - ways, fixed faults and faults taken out: by those of the parent, what was done there and the
+//!   table, which gives the root's;
 //! - the own interval, and whether a leaf is open: by the table and the ways;
 //! - the interval: by the own one, what was done and the children's.
 
@@ -24,9 +26,11 @@ const SEED: u64 = 2016;
 /// So many refinements has the small tree.
 const REFINED: u64 = 5;
 const RECORDS: u64 = 511;
-const FIELDS: u64 = 13;
+const FIELDS: u64 = 14;
 /// The field number of the count of records in use, which is in no record.
-const USED: u64 = 13;
+const USED: u64 = FIELDS;
+/// The field of a record that has the low end of its interval.
+const LOW: u64 = 10;
 
 /// A small tree damaged in each record in use and in blank ones, and a full tree in some.
 pub fn damages() -> Vec<Script> {
@@ -41,7 +45,7 @@ pub fn damages() -> Vec<Script> {
     vec![small, full]
 }
 
-/// A table of which some refinements give inner nodes of both kinds and leaves of both states.
+/// A table of which some refinements give inner nodes of all three kinds and leaves of both states.
 fn with_every_state(random: &mut Random) -> Table {
     loop {
         let table = random.table_within(8, 10);
@@ -53,6 +57,7 @@ fn with_every_state(random: &mut Random) -> Table {
             && stands(|state| *state == State::Open)
             && stands(|state| *state == State::Closed)
             && stands(|state| *state == State::Refined(Act::Independence))
+            && stands(|state| *state == State::Refined(Act::Common))
             && stands(|state| matches!(state, State::Refined(Act::Fault(_))))
         {
             return table;
@@ -78,7 +83,7 @@ fn damaged_everywhere(random: &mut Random, table: Table, refined: u64, records: 
     // The order of refusals: 14 and 15 before 16, and 16 before 17 to 20.
     let low_end = Damage {
         record: 0,
-        field: 9,
+        field: LOW,
         by: 1,
     };
     let order = [

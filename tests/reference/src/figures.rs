@@ -1,6 +1,7 @@
 //! The figures that are easy to get wrong and those to be run in the tests, each by name and typed by hand: the
 //! root leaf's interval, then for each call number, low, high, count, verdict and figure.
 
+use crate::common;
 use crate::distances::{self, Case};
 use crate::paper::{
     chain, done_and_full, equal_ways, most_named, one_division, one_pass, own_high, own_interval,
@@ -19,7 +20,8 @@ pub type Figures = (&'static str, Table, (u64, u64), Vec<(Call, [u64; 6])>);
 pub fn typed() -> Vec<Figures> {
     let redundant = redundant::cases().into_iter().map(|case| case.figures);
     let distances = distances::cases().into_iter().map(Case::figures);
-    let more = redundant.chain(distances).collect();
+    let common = common::cases().into_iter().map(|case| case.figures);
+    let more = redundant.chain(distances).chain(common).collect();
     [roots_and_widths(), stops(), more].concat()
 }
 

@@ -22,6 +22,25 @@ impl Way {
         fault < 64 && self.faults() >> fault & 1 == 1
     }
 
+    /// Whether it names this fault in this sense, present or absent.
+    pub fn says(&self, fault: usize, present: bool) -> bool {
+        let word = if present { self.present } else { self.absent };
+        fault < 64 && word >> fault & 1 == 1
+    }
+
+    /// The way that names these faults, each present or absent, and no other.
+    pub fn naming(number: usize, faults: &[(usize, bool)]) -> Way {
+        let word = |sense: bool| {
+            let named = faults.iter().filter(|&&(_, present)| present == sense);
+            named.fold(0, |word, &(fault, _)| word | 1u64 << fault)
+        };
+        Way {
+            number,
+            present: word(true),
+            absent: word(false),
+        }
+    }
+
     pub fn is_empty(&self) -> bool {
         self.faults() == 0
     }

@@ -4,6 +4,7 @@
 
 pub mod captures;
 pub mod child;
+pub mod common;
 pub mod csv;
 pub mod damages;
 pub mod distances;

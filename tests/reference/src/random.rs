@@ -3,7 +3,7 @@
 
 use crate::run::pick;
 use crate::sheet::{encode, length, Sheet};
-use crate::tree::{split, Act, Entry, State};
+use crate::tree::{common, split, Act, Entry, State};
 use crate::{Table, Tree, LONGEST_PLACE, LONGEST_SHEET, MOST_CUES, MOST_FAULTS, MOST_WAYS, S};
 
 /// Splitmix64: the same seed gives the same inputs everywhere.
@@ -21,22 +21,24 @@ enum Shape {
     Chain,
     Groups,
     Repeats,
+    Common,
     Mixed,
 }
 
-const SHAPES: [Shape; 7] = [
+const SHAPES: [Shape; 8] = [
     Shape::Sparse,
     Shape::Dense,
     Shape::PresentOnly,
     Shape::Chain,
     Shape::Groups,
     Shape::Repeats,
+    Shape::Common,
     Shape::Mixed,
 ];
 
 const TOP: u32 = S as u32;
 const EDGES: [u32; 4] = [0, 1, TOP - 1, TOP];
-const COMMON: [u32; 6] = [
+const USUAL: [u32; 6] = [
     TOP / 2,
     TOP / 4,
     TOP / 3,
@@ -79,7 +81,7 @@ impl Random {
 
     // Tables
 
-    /// Weights in one of four manners: edges, common figures, anything, or all of these;
+    /// Weights in one of four manners: edges, usual figures, anything, or all of these;
     /// or one such weight for all faults.
     pub fn weights(&mut self, faults: usize) -> Vec<u32> {
         let manner = self.one_of(&[0, 1, 1, 2, 2, 3, 3, 3]);
@@ -92,7 +94,7 @@ impl Random {
     fn weight(&mut self, manner: usize) -> u32 {
         match manner {
             0 => self.one_of(&EDGES),
-            1 => self.one_of(&COMMON),
+            1 => self.one_of(&USUAL),
             2 => self.between(0, S as usize) as u32,
             _ => {
                 let manner = self.below(3);
@@ -121,6 +123,7 @@ impl Random {
     fn shaped(&mut self, shape: Shape, faults: usize, count: usize) -> Vec<(u64, u64)> {
         let mut ways: Vec<(u64, u64)> = Vec::new();
         let parts = self.between(2, 5).min(faults);
+        let common = self.way(0, faults, 2, true);
         for number in 0..count {
             let way = match shape {
                 Shape::Sparse => self.way(0, faults, 3, true),
@@ -147,6 +150,7 @@ impl Random {
                     }
                 }
                 Shape::Repeats => self.way(0, faults, 3, true),
+                Shape::Common => naming_too(self.way(0, faults, 4, true), common),
                 Shape::Mixed => {
                     let shape = self.one_of(&[Shape::Sparse, Shape::Dense, Shape::PresentOnly]);
                     self.shaped(shape, faults, 1)[0]
@@ -199,6 +203,24 @@ impl Random {
             };
             table.present[number] = present;
             table.absent[number] = absent;
+        }
+        table
+    }
+
+    /// A sound table whose ways have a common part; in every other one each half of the ways has a further one.
+    pub fn common_table(&mut self, most_faults: usize, most_ways: usize) -> Table {
+        let mut table = self.table_within(most_faults, most_ways);
+        let ways = table.present.len();
+        let mut rows = vec![0..ways];
+        if self.one_in(2) {
+            rows.extend([0..ways / 2, ways / 2..ways]);
+        }
+        for rows in rows.into_iter().rev() {
+            let part = self.way(0, table.faults(), 2, true);
+            for row in rows {
+                let way = (table.present[row], table.absent[row]);
+                (table.present[row], table.absent[row]) = naming_too(way, part);
+            }
         }
         table
     }
@@ -329,6 +351,9 @@ impl Random {
         if self.one_in(2) && split(&leaf.ways).is_some() {
             return Act::Independence;
         }
+        if self.one_in(2) && !common(&leaf.ways).is_empty() {
+            return Act::Common;
+        }
         let occurring: Vec<u64> = (0..64)
             .filter(|&f| leaf.ways.iter().any(|way| way.names(f as usize)))
             .collect();
@@ -395,9 +420,10 @@ impl Random {
 
     fn any_act(&mut self, table: &Table) -> Act {
         let faults = table.faults() as u64;
-        match self.below(4) {
+        match self.below(5) {
             0 => Act::Independence,
-            1 => Act::Fault(self.one_of(&[
+            1 => Act::Common,
+            2 => Act::Fault(self.one_of(&[
                 faults,
                 faults + 1,
                 63,
@@ -652,6 +678,12 @@ impl Random {
             _ => length,
         }
     }
+}
+
+/// A way that names what it did and all of a part, where they disagree as the part does.
+fn naming_too((present, absent): (u64, u64), part: (u64, u64)) -> (u64, u64) {
+    let others = !(part.0 | part.1);
+    (present & others | part.0, absent & others | part.1)
 }
 
 /// Puts a little-endian field, as far as the bytes reach.

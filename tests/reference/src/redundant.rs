@@ -4,10 +4,8 @@
 use crate::figures::Figures;
 use crate::paper::{H, Q};
 use crate::random::Random;
-use crate::scripts::{any_call, lined, mostly_open, Call, Damage, Line, Script};
-use crate::sheet::Sheet;
-use crate::tree::open;
-use crate::vectors::make;
+use crate::scripts::{drawn_and_shown, lined, Call, Damage, Line, Script};
+use crate::sheet::{of_tables, Sheet};
 use crate::{Act, Table, MET, NONE, S};
 
 const SEED: u64 = 2002;
@@ -134,21 +132,7 @@ pub fn cases() -> Vec<Case> {
 
 /// The tables as the cues 1 to 10 of one sheet, each with faults of its own.
 pub fn sheet() -> Sheet {
-    let mut sheet = Sheet {
-        budget: 255,
-        ..Sheet::default()
-    };
-    for (case, cue) in cases().into_iter().zip(1..) {
-        let (_, table, ..) = case.figures;
-        let first = sheet.weights.len();
-        let moved = |word: &u64| word << first;
-        sheet.cues.push(cue);
-        sheet.counts.push(table.present.len() as u16);
-        sheet.present.extend(table.present.iter().map(moved));
-        sheet.absent.extend(table.absent.iter().map(moved));
-        sheet.weights.extend(table.weights);
-    }
-    sheet
+    of_tables(cases().into_iter().map(|case| case.figures.1), 255)
 }
 
 /// A record with the number of a way that is left out, where every figure is the same with that way and without it: the table,
@@ -196,17 +180,6 @@ pub fn left_out_stored() -> Vec<Script> {
 pub fn drawn() -> Vec<Script> {
     let mut random = Random::new(SEED);
     let table = |random: &mut Random| random.redundant_table(8, 12);
-    let mut script = || {
-        let table = mostly_open(&mut random, table);
-        let mut tree = open(&table).1;
-        let mut lines = Vec::new();
-        for _ in 0..random.between(2, 5) {
-            let call = any_call(&mut random, &table, &tree);
-            make(&table, &mut tree, &call);
-            lines.push(Line::Call(call));
-        }
-        lines.push(Line::Show);
-        lined(table, lines)
-    };
-    (0..RANDOM).map(|_| script()).collect()
+    let script = |_| drawn_and_shown(&mut random, table);
+    (0..RANDOM).map(script).collect()
 }

@@ -2,7 +2,7 @@
 //! full or spent, and reports how many refinements it made and one figure for the page.
 
 use crate::leaf::{Interval, Way};
-use crate::tree::{split, Act, State};
+use crate::tree::{common, split, Act, State};
 use crate::{Answer, Table, Tree, DONE, FULL, MET, MOST_REFINEMENTS, S, SPENT};
 
 /// A run with an allowance and a budget: refusals 9 to 16, then the refinements.
@@ -78,11 +78,14 @@ fn run_number(table: &Table, tree: &Tree, allowance: u64, budget: u64) -> u64 {
     }
 }
 
-/// What a run does at a leaf: independence if the ways fall apart, else the fault named
-/// in most ways, the lowest if equal.
+/// What a run does at a leaf: independence if the ways fall apart, else the common part taken out if there is one, else
+/// the fault named in most ways, the lowest if equal.
 pub fn pick(ways: &[Way]) -> Act {
     if split(ways).is_some() {
         return Act::Independence;
+    }
+    if !common(ways).is_empty() {
+        return Act::Common;
     }
     let mut most = (0, 0);
     for fault in 0..64 {

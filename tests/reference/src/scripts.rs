@@ -2,6 +2,7 @@
 //! hand at the edges of the rules, with the answers they must have, and seeded random ones.
 //! The figures by name, damaged trees and lists in several orders have modules of their own.
 
+use crate::common;
 use crate::damages::damages;
 use crate::figures::figures;
 use crate::orders::orders_of_refinement;
@@ -81,6 +82,10 @@ pub fn scripts() -> Vec<Script> {
     scripts.extend(orders_of_refinement());
     scripts.extend(redundant::left_out_stored());
     scripts.extend(redundant::drawn());
+    scripts.push(common::deep());
+    scripts.extend(common::handed_on());
+    scripts.extend(common::stored());
+    scripts.extend(common::drawn());
     scripts
 }
 
@@ -98,12 +103,12 @@ pub(crate) fn lined(table: Table, lines: Vec<Line>) -> Script {
     }
 }
 
-fn hand(place: &[u8], act: Act) -> Call {
+pub(crate) fn hand(place: &[u8], act: Act) -> Call {
     Call::Hand(place.to_vec(), act)
 }
 
 /// A script with each call's number and verdict, which the rules must give.
-fn told(table: Table, calls: &[(Call, u64, u64)]) -> Script {
+pub(crate) fn told(table: Table, calls: &[(Call, u64, u64)]) -> Script {
     let mut tree = open(&table).1;
     for (call, number, verdict) in calls {
         let answer = make(&table, &mut tree, call);
@@ -181,11 +186,11 @@ fn paper_runs() -> Vec<Script> {
     ]
 }
 
-/// Refusals 17, 18 and 20, and acts that are just allowed.
+/// Refusals 17, 18 and 20, for all three acts, and acts that are just allowed.
 fn refused_by_hand() -> Vec<Script> {
     let at = |place: &[u8], act, number| (hand(place, act), number, NONE);
     let by = Act::Fault;
-    let apart = Act::Independence;
+    let (apart, common) = (Act::Independence, Act::Common);
     vec![
         told(
             p4(),
@@ -204,15 +209,34 @@ fn refused_by_hand() -> Vec<Script> {
                 at(&[0, 2], apart, 17),
                 at(&[2, 0], apart, 17),
                 at(&[1], by(1), 18),
+                at(&[1], common, 18),
                 at(&[0], by(0), 20),
+                at(&[0], common, 20),
                 at(&[0], apart, 0),
                 at(&[0, 1], by(2), 18),
                 at(&[0, 0, 0], by(2), 17),
             ],
         ),
+        told(
+            p4(),
+            &[
+                at(&[0; 65], common, 17),
+                at(&[2], common, 17),
+                at(&[], common, 0),
+                at(&[], common, 17),
+                at(&[0], common, 18),
+                at(&[1], common, 20),
+                at(&[1], by(0), 20),
+                at(&[1], apart, 0),
+                at(&[1, 0], common, 18),
+            ],
+        ),
         told(p3(), &[at(&[], by(0), 18), at(&[1], by(0), 17)]),
+        told(p3(), &[at(&[], common, 18), at(&[1], common, 17)]),
+        told(p6(), &[at(&[], common, 20), at(&[], by(0), 0)]),
         told(chain(), &[at(&[], apart, 20), at(&[], by(1), 0)]),
         told(p7(), &[at(&[], by(2), 20), at(&[], by(1), 0)]),
+        told(p7(), &[at(&[], common, 20), at(&[], apart, 0)]),
         // Closed because one of two ways is left out, and a fault that only the one left out names: 18 comes first.
         told(Table::of(&[H; 2], &[&[0], &[0, 1]]), &[at(&[], by(1), 18)]),
     ]
@@ -254,7 +278,9 @@ pub fn full() -> Script {
             (Call::Run(0, 255), 0, FULL),
             by_hand(leaf(State::Open), Act::Fault(64), 19),
             by_hand(leaf(State::Open), Act::Independence, 19),
+            by_hand(leaf(State::Open), Act::Common, 19),
             by_hand(leaf(State::Closed), Act::Fault(64), 18),
+            by_hand(leaf(State::Closed), Act::Common, 18),
             by_hand(vec![2], Act::Fault(64), 17),
             (Call::Run(0, 256), 15, NONE),
             (Call::Run(0, 255), 0, FULL),
@@ -294,7 +320,7 @@ fn cut_in_two(random: &mut Random) -> Vec<Script> {
 // Trees handed on to another table
 
 /// A script on the tree of the one before, with each call's number, which the rules must give.
-fn handed(tree: &mut Tree, table: Table, calls: &[(Call, u64)]) -> Script {
+pub(crate) fn handed(tree: &mut Tree, table: Table, calls: &[(Call, u64)]) -> Script {
     for (call, number) in calls {
         let answer = make(&table, tree, call);
         assert_eq!(answer.number, *number, "{call:?} of {table:?}");
@@ -353,6 +379,20 @@ fn drawn(random: &mut Random, table: fn(&mut Random) -> Table) -> Script {
         calls.push(call);
     }
     opened(table, calls)
+}
+
+/// A table with 2 to 5 such calls, every place shown at the end.
+pub(crate) fn drawn_and_shown(random: &mut Random, table: fn(&mut Random) -> Table) -> Script {
+    let table = mostly_open(random, table);
+    let mut tree = open(&table).1;
+    let mut lines = Vec::new();
+    for _ in 0..random.between(2, 5) {
+        let call = any_call(random, &table, &tree);
+        make(&table, &mut tree, &call);
+        lines.push(Line::Call(call));
+    }
+    lines.push(Line::Show);
+    lined(table, lines)
 }
 
 /// A table, seven in eight of them with an open root.

@@ -312,6 +312,24 @@ pub fn of_one_cue(table: Table, budget: u64) -> Sheet {
     }
 }
 
+/// A sheet with cue 1 for the first table, 2 for the next and so on, each with faults of its own, with allowance 0.
+pub fn of_tables(tables: impl Iterator<Item = Table>, budget: u64) -> Sheet {
+    let mut sheet = Sheet {
+        budget,
+        ..Sheet::default()
+    };
+    for (table, cue) in tables.zip(1..) {
+        let first = sheet.weights.len();
+        let moved = |word: &u64| word << first;
+        sheet.cues.push(cue);
+        sheet.counts.push(table.present.len() as u16);
+        sheet.present.extend(table.present.iter().map(moved));
+        sheet.absent.extend(table.absent.iter().map(moved));
+        sheet.weights.extend(table.weights);
+    }
+    sheet
+}
+
 /// The length of the sheet that these lists give.
 pub fn length(sheet: &Sheet) -> usize {
     let counted: usize = sheet.counts.iter().copied().map(usize::from).sum();

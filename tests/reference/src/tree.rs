@@ -1,14 +1,16 @@
-//! The decomposition tree: a recursive tree on the heap, opened as a single leaf and
-//! refined by hand. A node holds its set of ways and its fixed faults, nothing worked
-//! out: remaining ways and intervals are found afresh whenever they are asked for.
+//! The decomposition tree: a recursive tree on the heap, opened as a single leaf and refined by hand. A node holds
+//! what was done there and nothing else: ways and intervals are worked out from the table's ways, from the root down,
+//! whenever they are asked for.
 
 use crate::leaf::{down, is_open, leaf_interval, product, staying, up, Interval, Way};
 use crate::{Answer, Table, LONGEST_PLACE, MOST_REFINEMENTS, S};
+use std::collections::BTreeSet;
 
 /// What is done at a leaf to refine it.
 #[derive(Clone, Copy, Debug, PartialEq, Eq)]
 pub enum Act {
     Independence,
+    Common,
     Fault(u64),
 }
 
@@ -20,8 +22,8 @@ pub enum State {
     Refined(Act),
 }
 
-/// A place as the steps from the root, 0 left and 1 right, with what was done there,
-/// its interval, its remaining ways, and those that remained before any was left out.
+/// A place as the steps from the root, 0 left and 1 right, with what was done there, its interval, its remaining ways,
+/// those that remained before any was left out, and the faults taken out of the ways on the path.
 #[derive(Clone, Debug, PartialEq, Eq)]
 pub struct Entry {
     pub place: Vec<u8>,
@@ -29,20 +31,22 @@ pub struct Entry {
     pub interval: Interval,
     pub ways: Vec<Way>,
     pub before: Vec<Way>,
+    pub out: BTreeSet<usize>,
 }
 
-/// A set of ways, by number, and the faults fixed present (true) or absent (false).
-#[derive(Clone, Debug, Default, PartialEq, Eq)]
+/// What a node has: the ways it is handed, with what they still name, those of them that stay, which are its remaining
+/// ways, and the faults taken out on the path.
+#[derive(Clone, Debug)]
 struct Situation {
-    set: Vec<usize>,
-    fixed: Vec<(usize, bool)>,
+    before: Vec<Way>,
+    ways: Vec<Way>,
+    out: BTreeSet<usize>,
 }
 
 #[derive(Clone, Debug, PartialEq, Eq)]
 enum Node {
-    Leaf(Situation),
+    Leaf,
     Inner {
-        situation: Situation,
         act: Act,
         left: Box<Node>,
         right: Box<Node>,
@@ -86,42 +90,56 @@ pub fn refine_by_hand(table: &Table, tree: &mut Tree, place: &[u8], act: Act) ->
 
 impl Tree {
     fn root_leaf(table: &Table) -> Tree {
-        let set = (0..table.present.len()).collect();
-        let root = Some(Node::Leaf(Situation {
-            set,
-            fixed: Vec::new(),
-        }));
         Tree {
             table: table.clone(),
-            root,
+            root: Some(Node::Leaf),
         }
     }
 
     /// This tree with one refinement more, or the first of refusals 17 to 20 that applies.
     fn grown(&self, table: &Table, place: &[u8], act: Act) -> Result<Tree, u64> {
         let mut root = self.root.clone();
-        let leaf = match root.as_mut().and_then(|root| root.at(place)) {
-            Some(leaf @ Node::Leaf(_)) if place.len() <= LONGEST_PLACE => leaf,
+        let found = root.as_mut().and_then(|root| root.at(place));
+        let leaf = match found {
+            Some(leaf @ Node::Leaf) if place.len() <= LONGEST_PLACE => leaf,
             _ => return Err(17),
         };
-        let situation = leaf.situation().clone();
-        if !is_open(&table.weights, &situation.remaining(table)) {
+        let situation = self.situation(table, place);
+        if !is_open(&table.weights, &situation.ways) {
             return Err(18);
         }
         if self.refinements() >= MOST_REFINEMENTS {
             return Err(19);
         }
-        let (left, right) = situation.children(table, act).ok_or(20u64)?;
+        if situation.children(act).is_none() {
+            return Err(20);
+        }
         *leaf = Node::Inner {
-            situation,
             act,
-            left: Box::new(Node::Leaf(left)),
-            right: Box::new(Node::Leaf(right)),
+            left: Box::new(Node::Leaf),
+            right: Box::new(Node::Leaf),
         };
         Ok(Tree {
             table: table.clone(),
             root,
         })
+    }
+
+    /// What the node at a place of this tree has.
+    fn situation(&self, table: &Table, place: &[u8]) -> Situation {
+        let mut here = Situation::root(table);
+        let mut node = self.root.as_ref();
+        for &step in place {
+            let Some(Node::Inner { act, left, right }) = node else {
+                break;
+            };
+            let (on_left, on_right) = here.below(*act);
+            (here, node) = match step {
+                0 => (on_left, Some(&**left)),
+                _ => (on_right, Some(&**right)),
+            };
+        }
+        here
     }
 
     /// Grows by a refinement that a run has picked; false if the rules forbid it.
@@ -136,7 +154,7 @@ impl Tree {
     }
 
     /// Whether refusal 16 does not apply: some accepted refinements from this table's root
-    /// leaf give the same places, acts, sets and intervals, each node's own as a leaf too.
+    /// leaf give the same places, acts, sets, faults taken out and intervals, each node's own as a leaf too.
     /// With the table the tree was grown by there is nothing to ask; with another, its
     /// refinements are made again.
     pub fn belongs_to(&self, table: &Table) -> bool {
@@ -154,14 +172,10 @@ impl Tree {
         });
         let same = |(a, b): (&Entry, &Entry)| {
             let own = leaf_interval(&self.table.weights, &a.ways);
-            (&a.place, a.state, a.interval, own, numbers(&a.ways))
-                == (
-                    &b.place,
-                    b.state,
-                    b.interval,
-                    leaf_interval(&table.weights, &b.ways),
-                    numbers(&b.ways),
-                )
+            let other = leaf_interval(&table.weights, &b.ways);
+            (&a.place, a.state, a.interval, &a.out) == (&b.place, b.state, b.interval, &b.out)
+                && own == other
+                && numbers(&a.ways) == numbers(&b.ways)
         };
         let again = again.places(table);
         repeated && own.len() == again.len() && own.iter().zip(&again).all(same)
@@ -175,16 +189,16 @@ impl Tree {
     /// The interval at the root; [0, S], which says nothing, for a tree without nodes.
     pub fn interval(&self, table: &Table) -> Interval {
         let nothing = Interval { low: 0, high: S };
-        self.root
-            .as_ref()
-            .map_or(nothing, |root| root.interval(table))
+        self.root.as_ref().map_or(nothing, |root| {
+            root.interval(table, &Situation::root(table))
+        })
     }
 
     /// All places by a table that 9 to 13 accept: a node before those below it, left before right.
     pub fn places(&self, table: &Table) -> Vec<Entry> {
         let mut entries = Vec::new();
         if let Some(root) = &self.root {
-            root.list(table, Vec::new(), &mut entries);
+            root.list(table, Situation::root(table), Vec::new(), &mut entries);
         }
         entries
     }
@@ -195,12 +209,6 @@ impl Tree {
 }
 
 impl Node {
-    fn situation(&self) -> &Situation {
-        match self {
-            Node::Leaf(situation) | Node::Inner { situation, .. } => situation,
-        }
-    }
-
     fn at(&mut self, place: &[u8]) -> Option<&mut Node> {
         match (place.split_first(), self) {
             (None, node) => Some(node),
@@ -212,51 +220,54 @@ impl Node {
 
     fn inner_nodes(&self) -> u64 {
         match self {
-            Node::Leaf(_) => 0,
+            Node::Leaf => 0,
             Node::Inner { left, right, .. } => 1 + left.inner_nodes() + right.inner_nodes(),
         }
     }
 
-    fn interval(&self, table: &Table) -> Interval {
-        let own = leaf_interval(&table.weights, &self.situation().remaining(table));
+    fn interval(&self, table: &Table, here: &Situation) -> Interval {
+        let own = leaf_interval(&table.weights, &here.ways);
         match self {
-            Node::Leaf(_) => own,
-            Node::Inner {
-                act, left, right, ..
-            } => overlap(
-                own,
-                combine(table, *act, left.interval(table), right.interval(table)),
-            ),
+            Node::Leaf => own,
+            Node::Inner { act, left, right } => {
+                let (on_left, on_right) = here.below(*act);
+                let left = left.interval(table, &on_left);
+                let right = right.interval(table, &on_right);
+                overlap(own, combine(table, *act, left, right))
+            }
         }
     }
 
     /// Adds this node's entry and all below it; gives its interval to the node above.
-    fn list(&self, table: &Table, place: Vec<u8>, entries: &mut Vec<Entry>) -> Interval {
-        let before = self.situation().before_leaving_out(table);
-        let ways = staying(&before);
-        let own = leaf_interval(&table.weights, &ways);
+    fn list(
+        &self,
+        table: &Table,
+        here: Situation,
+        place: Vec<u8>,
+        entries: &mut Vec<Entry>,
+    ) -> Interval {
+        let own = leaf_interval(&table.weights, &here.ways);
         let child = |step: u8| [&place[..], &[step]].concat();
         let mut below = Vec::new();
         let (state, interval) = match self {
-            Node::Leaf(_) if is_open(&table.weights, &ways) => (State::Open, own),
-            Node::Leaf(_) => (State::Closed, own),
-            Node::Inner {
-                act, left, right, ..
-            } => {
-                let left = left.list(table, child(0), &mut below);
-                let right = right.list(table, child(1), &mut below);
-                (
-                    State::Refined(*act),
-                    overlap(own, combine(table, *act, left, right)),
-                )
+            Node::Leaf if is_open(&table.weights, &here.ways) => (State::Open, own),
+            Node::Leaf => (State::Closed, own),
+            Node::Inner { act, left, right } => {
+                let (on_left, on_right) = here.below(*act);
+                let left = left.list(table, on_left, child(0), &mut below);
+                let right = right.list(table, on_right, child(1), &mut below);
+                let combined = combine(table, *act, left, right);
+                (State::Refined(*act), overlap(own, combined))
             }
         };
+        let Situation { before, ways, out } = here;
         entries.push(Entry {
             place,
             state,
             interval,
             ways,
             before,
+            out,
         });
         entries.append(&mut below);
         interval
@@ -264,44 +275,77 @@ impl Node {
 }
 
 impl Situation {
-    /// What remains of the set (RULES 3.2).
-    fn before_leaving_out(&self, table: &Table) -> Vec<Way> {
-        let ways = self.set.iter().filter_map(|&number| table.way(number));
-        ways.filter_map(|way| self.fixed.iter().try_fold(way, without))
-            .collect()
+    fn new(before: Vec<Way>, out: BTreeSet<usize>) -> Situation {
+        let ways = staying(&before);
+        Situation { before, ways, out }
     }
 
-    /// The remaining ways: what stays of those.
-    fn remaining(&self, table: &Table) -> Vec<Way> {
-        staying(&self.before_leaving_out(table))
+    fn root(table: &Table) -> Situation {
+        Situation::new(table.ways(), BTreeSet::new())
     }
 
-    /// The two children that an act gives, or none if it cannot be done here.
-    fn children(&self, table: &Table, act: Act) -> Option<(Situation, Situation)> {
-        let ways = self.remaining(table);
+    /// The children of a node that was refined so. Panics where that is impossible: a tree is asked about by a table
+    /// that it belongs to.
+    fn below(&self, act: Act) -> (Situation, Situation) {
+        let children = self.children(act);
+        children.expect("what was done at a node is possible there")
+    }
+
+    /// The two children that an act gives, or none if it cannot be done here. They take over only what stays: a way
+    /// that is left out here does not come back.
+    fn children(&self, act: Act) -> Option<(Situation, Situation)> {
         match act {
             Act::Independence => {
-                let (left, right) = split(&ways)?;
-                let child = |set| Situation {
-                    set,
-                    fixed: self.fixed.clone(),
-                };
-                Some((child(left), child(right)))
+                let (left, _) = split(&self.ways)?;
+                let (left, right) = self.ways.iter().partition(|way| left.contains(&way.number));
+                Some((self.child(left), self.child(right)))
+            }
+            Act::Common => {
+                let common = common(&self.ways);
+                let lowest = self.ways.first().filter(|_| !common.is_empty())?;
+                let left = Way::naming(lowest.number, &common);
+                // Every way names all of it in this sense, so that none is contradicted.
+                let right = fixed(&self.ways, &common);
+                let taken: BTreeSet<usize> = common.iter().map(|&(fault, _)| fault).collect();
+                let besides = (0..64).filter(|&fault| lowest.names(fault) && !left.names(fault));
+                let besides: BTreeSet<usize> = besides.collect();
+                Some((
+                    Situation::new(vec![left], &self.out | &besides),
+                    Situation::new(right, &self.out | &taken),
+                ))
             }
             Act::Fault(fault) => {
                 let fault = usize::try_from(fault).ok()?;
-                if !ways.iter().any(|way| way.names(fault)) {
+                if !self.ways.iter().any(|way| way.names(fault)) {
                     return None;
                 }
-                // Children take over only what stays: a way that is left out here does not come back.
-                let child = |present| Situation {
-                    set: numbers(&ways),
-                    fixed: [&self.fixed[..], &[(fault, present)]].concat(),
-                };
-                Some((child(true), child(false)))
+                let side = |present| self.child(fixed(&self.ways, &[(fault, present)]));
+                Some((side(true), side(false)))
             }
         }
     }
+
+    /// A child from which nothing is taken out.
+    fn child(&self, before: Vec<Way>) -> Situation {
+        Situation::new(before, self.out.clone())
+    }
+}
+
+/// The common part: every fault, and in which sense, that all of the ways name in that sense.
+pub fn common(ways: &[Way]) -> Vec<(usize, bool)> {
+    let each = (0..64).flat_map(|fault| [(fault, true), (fault, false)]);
+    let by_all =
+        |&(fault, present): &(usize, bool)| ways.iter().all(|way| way.says(fault, present));
+    each.filter(|named| !ways.is_empty() && by_all(named))
+        .collect()
+}
+
+/// What remains of ways once these faults are fixed, each present or absent.
+fn fixed(ways: &[Way], faults: &[(usize, bool)]) -> Vec<Way> {
+    let remaining = ways
+        .iter()
+        .filter_map(|&way| faults.iter().try_fold(way, without));
+    remaining.collect()
 }
 
 /// A way once a fault is fixed: gone if contradicted, else without that fault.
@@ -362,6 +406,10 @@ fn combine(table: &Table, act: Act, left: Interval, right: Interval) -> Interval
         Act::Independence => Interval {
             low: S - up(product(S - left.low, S - right.low)),
             high: S - down(product(S - left.high, S - right.high)),
+        },
+        Act::Common => Interval {
+            low: down(product(left.low, right.low)),
+            high: up(product(left.high, right.high)),
         },
         Act::Fault(fault) => {
             let weight = table

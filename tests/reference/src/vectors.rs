@@ -21,12 +21,13 @@ pub struct Vectors {
 /// The input: how many scripts, then for each a line with 1 if its table is opened or 0 if
 /// the tree of the script before is handed on, the lengths of the three lists, the
 /// weights, the present and the absent words and how many lines follow. A line is a call: 0,
-/// the length of the place, its steps, 0 for independence or 1 for a fault and the fault; or
-/// 1, allowance and budget. Or it is 2, the record, the field and what is added there, and a
-/// call; or 3, all places; or 4 and a call, with all places then and the tree kept as it was.
-/// The expected lines: number, low, high and count, and a run's verdict and figure; of a place 1 for a
-/// leaf, 2 for independence, 3 for a fault, the fault, 1 for an open leaf, low and high, a
-/// node before those below it, left before right. Panics where an answer breaks the rules.
+/// the length of the place, its steps, 0 for independence, 1 for a fault or 2 for the common part, and
+/// the fault, 0 where there is none; or 1, allowance and budget. Or it is 2, the record, the field and
+/// what is added there, and a call; or 3, all places; or 4 and a call, with all places then and the
+/// tree kept as it was. The expected lines: number, low, high and count, and a run's verdict and figure;
+/// of a place 1 for a leaf, 2 for independence, 3 for a fault, 4 for the common part, the fault, 1 for an
+/// open leaf, low and high, a node before those below it, left before right. Panics where an answer
+/// breaks the rules.
 pub fn vectors() -> Vectors {
     check_paper();
     let scripts = scripts();
@@ -102,6 +103,7 @@ impl Vectors {
                 State::Open => (1, 0, 1),
                 State::Refined(Act::Independence) => (2, 0, 0),
                 State::Refined(Act::Fault(fault)) => (3, fault, 0),
+                State::Refined(Act::Common) => (4, 0, 0),
             };
             let interval = entry.interval;
             let told = [kind, fault, open, interval.low, interval.high];
@@ -159,6 +161,7 @@ fn call_numbers(call: &Call) -> Vec<u64> {
             match *act {
                 Act::Independence => numbers.extend([0, 0]),
                 Act::Fault(fault) => numbers.extend([1, fault]),
+                Act::Common => numbers.extend([2, 0]),
             }
             numbers
         }

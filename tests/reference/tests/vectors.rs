@@ -25,13 +25,19 @@ fn the_stored_writes_are_this_implementations_own() {
     assert!(stored("crates/writer_vectors/stdout") == writes.expected.as_bytes());
 }
 
-/// Every number from 9 to 20 and every verdict is among the lines of the trees. The line of a place starts with 1, 2 or 3.
+/// Every number from 9 to 20, every verdict and every kind of node is among the lines of the trees. The line of a place
+/// starts with 1 to 4.
 #[test]
 fn every_number_and_verdict_of_trees_occurs() {
     let expected = stored_text("crates/tree_vectors/stdout");
     let lines = expected.lines().map(|line| line.split(' ').collect());
-    let of_call = |line: &Vec<&str>| !["1", "2", "3"].contains(&line[0]);
-    let lines: Vec<Vec<&str>> = lines.filter(of_call).collect();
+    let kinds = ["1", "2", "3", "4"];
+    let of_place = |line: &Vec<&str>| kinds.contains(&line[0]);
+    let (places, lines): (Vec<Vec<&str>>, Vec<Vec<&str>>) = lines.partition(of_place);
+    for kind in kinds {
+        let met = places.iter().filter(|line| line[0] == kind).count();
+        assert!(met >= 100, "kind {kind}: {met}");
+    }
     for number in (9..=20).chain([0]) {
         let number = number.to_string();
         assert!(lines.iter().any(|line| line[0] == number), "{number}");
