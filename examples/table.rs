@@ -30,6 +30,7 @@ struct Node {
     waysb: u64,
     present: u64,
     absent: u64,
+    out: u64,
     low: u64,
     high: u64,
     ownlow: u64,

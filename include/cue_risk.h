@@ -15,9 +15,11 @@
  * TREES
  * A tree belongs to one table. Each refinement turns a leaf into an inner node with two leaves, and may narrow the
  * interval at the root:
- *   by independence   if the leaf's ways fall into groups that share no fault: the left child has the group of the
- *                     lowest numbered way, the right child all other ways;
- *   by a fault        that its ways name: the left child fixes it present, the right child absent.
+ *   by independence      if the leaf's ways fall into groups that share no fault: the left child has the group of
+ *                        the lowest numbered way, the right child all other ways;
+ *   by the common part   if there are faults that all its ways name in the same sense: the left child is one way,
+ *                        just these faults, and is closed; the right child has the ways without them;
+ *   by a fault           that its ways name: the left child fixes it present, the right child absent.
  * At every node a way that names all faults of another way that remains there, in the same sense, says nothing new and
  * is left out; of equal ways the lowest numbered stays. Children take over only what stays. A leaf is open, and can be
  * refined, if two or more ways stay, none of them empty, and its low is below its high. A tree has at most 255
@@ -26,10 +28,14 @@
  *
  * RECORDS
  * Record 0 holds the root, records 2k - 1 and 2k the left and the right child of the k-th refinement that was made; so
- * `used` is 1 + 2 * refinements, and all records behind are blank, all zero. The record of an inner node keeps the
- * ways, the fixed faults and the own interval of the leaf that it was; low and high are the overlap of that interval
- * with what the children combine to, and live is 0. Refusal 16 accepts this order and these figures alone: read
- * records, do not write them. A tree has no pointers; it may be copied, stored and lent again, with its table.
+ * `used` is 1 + 2 * refinements, and all records behind are blank, all zero. A way of a node names what it names in the
+ * table, without the faults that are fixed or taken out there. Of a node refined by the common part the left child has
+ * the lowest numbered way alone, and all that this way names besides is taken out; the right child has all ways, and
+ * the common part is taken out. Every other child has out as its parent has it. The record of an inner node keeps the
+ * ways, the faults fixed and taken out and the own interval of the leaf that it was; low and high are the overlap of
+ * that interval with what the children combine to, and live is 0. Refusal 16 accepts this order and these figures
+ * alone: read records, do not write them. A tree has no pointers; it may be copied, stored and lent again, with its
+ * table.
  *
  * SHEETS
  * A sheet has several cues over the same faults. Its bytes, every number little-endian, nothing in between:
@@ -98,7 +104,7 @@
 #include <stddef.h>
 #include <stdint.h>
 
-#define CUE_VERSION 4u          /* of this header */
+#define CUE_VERSION 5u          /* of this header */
 #define CUE_BILLION 1000000000u /* chance 1 */
 #define CUE_FAULTS 64           /* the most faults */
 #define CUE_WAYS 128            /* the most ways of a table */
@@ -113,10 +119,10 @@
 enum { CUE_NONE = 0, CUE_MET = 1, CUE_DONE = 2, CUE_FULL = 3, CUE_SPENT = 4 };
 
 /* The argument `what` of cue_refine. */
-enum { CUE_INDEPENDENCE = 0, CUE_FAULT = 1 };
+enum { CUE_INDEPENDENCE = 0, CUE_FAULT = 1, CUE_COMMON = 2 };
 
 /* CueNode.kind */
-enum { CUE_BLANK = 0, CUE_LEAF = 1, CUE_INDEPENDENT_OR = 2, CUE_SHANNON = 3 };
+enum { CUE_BLANK = 0, CUE_LEAF = 1, CUE_INDEPENDENT_OR = 2, CUE_SHANNON = 3, CUE_INDEPENDENT_AND = 4 };
 
 /* CueOrder.order: the first fraction beside the second. */
 enum { CUE_LESS = 1, CUE_EQUAL = 2, CUE_GREATER = 3 };
@@ -133,7 +139,8 @@ typedef struct CueAnswer {
 
 /* One node of a tree. */
 typedef struct CueNode {
-    uint64_t kind;    /* CUE_LEAF; CUE_INDEPENDENT_OR, refined by independence; CUE_SHANNON, by a fault; CUE_BLANK */
+    uint64_t kind;    /* CUE_LEAF; CUE_INDEPENDENT_OR, refined by independence; CUE_SHANNON, by a fault;
+                         CUE_INDEPENDENT_AND, by the common part; CUE_BLANK */
     uint64_t fault;   /* of a CUE_SHANNON node, else 0 */
     uint64_t live;    /* 1 for an open leaf, else 0 */
     size_t parent;    /* record of the parent; 0 for the root */
@@ -142,6 +149,7 @@ typedef struct CueNode {
     uint64_t waysb;   /* bit i: way 64 + i stays */
     uint64_t present; /* bit f: fault f is fixed present on the path here */
     uint64_t absent;  /* bit f: fixed absent */
+    uint64_t out;     /* bit f: fault f is taken out of the ways on the path here */
     uint64_t low;     /* the node's interval */
     uint64_t high;
     uint64_t ownlow;  /* its interval as a leaf */
@@ -232,7 +240,8 @@ static inline const char *cue_refusal(uint64_t number)
         /* 17 */ "the place named is longer than 64 or has no leaf",
         /* 18 */ "the leaf there is closed",
         /* 19 */ "the tree has 255 refinements",
-        /* 20 */ "the fault named does not occur in the leaf, or independence is asked where its ways hang together",
+        /* 20 */ "the fault named does not occur in the leaf, or independence is asked where its ways hang together, "
+                 "or the common part where it is empty",
         /* 21 */ "the writer's lists do not agree in length with each other or with the ways its cues count",
         /* 22 */ "the space lent for writing is shorter than the output",
         /* 23 */ "a record of the text is missing, is of no shape there, or names a fault twice in the same sense",
@@ -257,9 +266,10 @@ CueAnswer cue_open(CueTree *tree,
                    const uint64_t *present, size_t n_present,
                    const uint64_t *absent, size_t n_absent);
 
-/* Refines the leaf at a place, count 1. `what` is CUE_FAULT, or CUE_INDEPENDENCE, where `fault` is not looked at.
-   Refusals 9 to 13, 16 to 20. A step other than 0 and 1 leads to no leaf: 17. A fault occurs in a leaf if a way that
-   stays there names it, so that one of 64 or more never does: 20. Any other `what` asks for such a fault. */
+/* Refines the leaf at a place, count 1. `what` is CUE_FAULT, or CUE_INDEPENDENCE or CUE_COMMON, where `fault` is not
+   looked at. Refusals 9 to 13, 16 to 20. A step other than 0 and 1 leads to no leaf: 17. A fault occurs in a leaf if a
+   way that stays there still names it, so that one of 64 or more never does: 20. Any other `what` asks for such a
+   fault. */
 CueAnswer cue_refine(CueTree *tree,
                      const uint32_t *weights, size_t n_weights,
                      const uint64_t *present, size_t n_present,
@@ -273,7 +283,8 @@ CueAnswer cue_refine(CueTree *tree,
      CUE_FULL   the tree has 255 refinements
      CUE_SPENT  it has made `budget` refinements (0 to 255)
    Else it takes the widest open leaf, of equally wide ones the one at the leftmost place, and refines it by
-   independence if its ways fall apart, else by the fault that most of them name, of several the lowest numbered.
+   independence if its ways fall apart, else by the common part if it is not empty, else by the fault that most of its
+   ways name, of several the lowest numbered.
    The allowance is a distance: with CUE_MET the chance is at most that far from the answer's figure, above or below.
    With any other verdict the figure is the middle of the interval, and the chance lies somewhere in the interval.
    Refusals 9 to 16. */
@@ -372,8 +383,8 @@ CueOrder cue_fraction_compare(uint64_t discarded, uint64_t judged,
 #ifdef CUE_ASSERT
 CUE_ASSERT(sizeof(size_t) == 8);
 CUE_ASSERT(sizeof(CueAnswer) == 48);
-CUE_ASSERT(sizeof(CueNode) == 104);
-CUE_ASSERT(sizeof(CueTree) == 53152);
+CUE_ASSERT(sizeof(CueNode) == 112);
+CUE_ASSERT(sizeof(CueTree) == 57240);
 CUE_ASSERT(sizeof(CueSpot) == 16);
 CUE_ASSERT(sizeof(CueSheet) == 40);
 CUE_ASSERT(sizeof(CueEntry) == 40);

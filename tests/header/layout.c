@@ -3,7 +3,7 @@
 #include <assert.h>
 #include "cue_risk.h"
 
-static_assert(CUE_VERSION == 4, "");
+static_assert(CUE_VERSION == 5, "");
 static_assert(CUE_BILLION == 1000000000, "");
 static_assert(CUE_FAULTS == 64, "");
 static_assert(CUE_WAYS == 128, "");
@@ -21,10 +21,12 @@ static_assert(CUE_FULL == 3, "");
 static_assert(CUE_SPENT == 4, "");
 static_assert(CUE_INDEPENDENCE == 0, "");
 static_assert(CUE_FAULT == 1, "");
+static_assert(CUE_COMMON == 2, "");
 static_assert(CUE_BLANK == 0, "");
 static_assert(CUE_LEAF == 1, "");
 static_assert(CUE_INDEPENDENT_OR == 2, "");
 static_assert(CUE_SHANNON == 3, "");
+static_assert(CUE_INDEPENDENT_AND == 4, "");
 static_assert(CUE_LESS == 1, "");
 static_assert(CUE_EQUAL == 2, "");
 static_assert(CUE_GREATER == 3, "");
@@ -55,15 +57,16 @@ FIELD(CueNode, uint64_t, waysa, 40);
 FIELD(CueNode, uint64_t, waysb, 48);
 FIELD(CueNode, uint64_t, present, 56);
 FIELD(CueNode, uint64_t, absent, 64);
-FIELD(CueNode, uint64_t, low, 72);
-FIELD(CueNode, uint64_t, high, 80);
-FIELD(CueNode, uint64_t, ownlow, 88);
-FIELD(CueNode, uint64_t, ownhigh, 96);
-static_assert(sizeof(CueNode) == 104, "");
+FIELD(CueNode, uint64_t, out, 72);
+FIELD(CueNode, uint64_t, low, 80);
+FIELD(CueNode, uint64_t, high, 88);
+FIELD(CueNode, uint64_t, ownlow, 96);
+FIELD(CueNode, uint64_t, ownhigh, 104);
+static_assert(sizeof(CueNode) == 112, "");
 
 FIELD(CueTree, Nodes, nodes, 0);
-FIELD(CueTree, size_t, used, 53144);
-static_assert(sizeof(CueTree) == 53152, "");
+FIELD(CueTree, size_t, used, 57232);
+static_assert(sizeof(CueTree) == 57240, "");
 
 FIELD(CueSpot, uint64_t, found, 0);
 FIELD(CueSpot, size_t, at, 8);

@@ -15,7 +15,7 @@ enum { MILLION = 1000000 };
 static CueTree tree, before;
 
 /* A record's fields in the order of the header. */
-static void same_record(int line, const CueNode *n, const uint64_t want[13])
+static void same_record(int line, const CueNode *n, const uint64_t want[14])
 {
     same(line, "kind", n->kind, want[0]);
     same(line, "fault", n->fault, want[1]);
@@ -26,16 +26,17 @@ static void same_record(int line, const CueNode *n, const uint64_t want[13])
     same(line, "waysb", n->waysb, want[6]);
     same(line, "present", n->present, want[7]);
     same(line, "absent", n->absent, want[8]);
-    same(line, "low", n->low, want[9] * MILLION);
-    same(line, "high", n->high, want[10] * MILLION);
-    same(line, "ownlow", n->ownlow, want[11] * MILLION);
-    same(line, "ownhigh", n->ownhigh, want[12] * MILLION);
+    same(line, "out", n->out, want[9]);
+    same(line, "low", n->low, want[10] * MILLION);
+    same(line, "high", n->high, want[11] * MILLION);
+    same(line, "ownlow", n->ownlow, want[12] * MILLION);
+    same(line, "ownhigh", n->ownhigh, want[13] * MILLION);
 }
 
 /* The records in use, and all others blank. */
-static void same_records(int line, size_t used, const uint64_t (*want)[13])
+static void same_records(int line, size_t used, const uint64_t (*want)[14])
 {
-    static const uint64_t blank[13] = {0};
+    static const uint64_t blank[14] = {0};
     same(line, "used", tree.used, used);
     for (size_t i = 0; i < 511; i++) {
         same_record(line, &tree.nodes[i], i < used ? want[i] : blank);
@@ -48,22 +49,29 @@ static uint64_t present[70], absent[70];
 #define TABLE weights, 4, present, 70, absent, 70
 
 /* The root alone: low 0.5 * 0.7, high 0.5 * 0.7 + 0.2 * 0.7. Intervals are in millions here. */
-static const uint64_t opened[1][13] = {{1, 0, 1, 0, 0, 4, 32, 0, 0, 350, 490, 350, 490}};
+static const uint64_t opened[1][14] = {{1, 0, 1, 0, 0, 4, 32, 0, 0, 0, 350, 490, 350, 490}};
 
 /* By fault 3: on the left no way remains, on the right {1} and {2}, low 1 - 0.5 * 0.8 and high 0.5 + 0.2. */
-static const uint64_t by_fault[3][13] = {
-    {3, 3, 0, 0, 1, 4, 32, 0, 0, 420, 490, 350, 490},
-    {1, 0, 0, 0, 0, 0, 0, 8, 0, 0, 0, 0, 0},
-    {1, 0, 1, 0, 0, 4, 32, 0, 8, 600, 700, 600, 700},
+static const uint64_t by_fault[3][14] = {
+    {3, 3, 0, 0, 1, 4, 32, 0, 0, 0, 420, 490, 350, 490},
+    {1, 0, 0, 0, 0, 0, 0, 8, 0, 0, 0, 0, 0, 0},
+    {1, 0, 1, 0, 0, 4, 32, 0, 8, 0, 600, 700, 600, 700},
 };
 
-/* Then its right child by independence. */
-static const uint64_t then_apart[5][13] = {
-    {3, 3, 0, 0, 1, 4, 32, 0, 0, 420, 420, 350, 490},
-    {1, 0, 0, 0, 0, 0, 0, 8, 0, 0, 0, 0, 0},
-    {2, 0, 0, 0, 3, 4, 32, 0, 8, 600, 600, 600, 700},
-    {1, 0, 0, 2, 0, 4, 0, 0, 8, 500, 500, 500, 500},
-    {1, 0, 0, 2, 0, 0, 32, 0, 8, 200, 200, 200, 200},
+/* Or by the common part {~3}: on the left that alone, as way 2 without fault 1; on the right {1} and {2}. */
+static const uint64_t by_common[3][14] = {
+    {4, 0, 0, 0, 1, 4, 32, 0, 0, 0, 420, 490, 350, 490},
+    {1, 0, 0, 0, 0, 4, 0, 0, 0, 2, 700, 700, 700, 700},
+    {1, 0, 1, 0, 0, 4, 32, 0, 0, 8, 600, 700, 600, 700},
+};
+
+/* By fault 3, then its right child by independence. */
+static const uint64_t then_apart[5][14] = {
+    {3, 3, 0, 0, 1, 4, 32, 0, 0, 0, 420, 420, 350, 490},
+    {1, 0, 0, 0, 0, 0, 0, 8, 0, 0, 0, 0, 0, 0},
+    {2, 0, 0, 0, 3, 4, 32, 0, 8, 0, 600, 600, 600, 700},
+    {1, 0, 0, 2, 0, 4, 0, 0, 8, 0, 500, 500, 500, 500},
+    {1, 0, 0, 2, 0, 0, 32, 0, 8, 0, 200, 200, 200, 200},
 };
 
 static void by_hand(void)
@@ -75,6 +83,10 @@ static void by_hand(void)
     }
     ACCEPTED(open_table(&tree, TABLE), 350 * MILLION, 490 * MILLION, 0);
     same_records(__LINE__, 1, opened);
+    before = tree;
+    ACCEPTED(refine(&tree, TABLE, NULL, 0, 2, 3), 420 * MILLION, 490 * MILLION, 1);
+    same_records(__LINE__, 3, by_common);
+    tree = before;
     ACCEPTED(refine(&tree, TABLE, NULL, 0, 1, 3), 420 * MILLION, 490 * MILLION, 1);
     same_records(__LINE__, 3, by_fault);
     REFUSED(refine(&tree, TABLE, NULL, 0, 1, 3), 17);
@@ -83,11 +95,62 @@ static void by_hand(void)
     REFUSED(refine(&tree, TABLE, left, 1, 1, 2), 18);
     REFUSED(refine(&tree, TABLE, right, 1, 1, 0), 20);
     REFUSED(refine(&tree, TABLE, right, 1, 1, 4294967298), 20);
+    REFUSED(refine(&tree, TABLE, right, 1, 2, 2), 20);
+    REFUSED(refine(&tree, TABLE, right, 1, 3, 2), 20);
     REFUSED(refine(&tree, TABLE, right, 1, 257, 2), 20);
     REFUSED(refine(&tree, TABLE, right, 1, 4294967297, 2), 20);
     same_records(__LINE__, 3, by_fault);
     ACCEPTED(refine(&tree, TABLE, right, 1, 0, 64), 420 * MILLION, 420 * MILLION, 1);
     same_records(__LINE__, 5, then_apart);
+}
+
+/* {0, 1} {0, 2} of 0.5, 0.5 and 0.2. By the common part {0}: on the left that, on the right {1} and {2}. */
+static const uint64_t repeater[3][14] = {
+    {4, 0, 0, 0, 1, 3, 0, 0, 0, 0, 300, 350, 250, 350},
+    {1, 0, 0, 0, 0, 1, 0, 0, 0, 2, 500, 500, 500, 500},
+    {1, 0, 1, 0, 0, 3, 0, 0, 0, 1, 600, 700, 600, 700},
+};
+
+/* Then its right child by independence: what is taken out stays so. */
+static const uint64_t then_both[5][14] = {
+    {4, 0, 0, 0, 1, 3, 0, 0, 0, 0, 300, 300, 250, 350},
+    {1, 0, 0, 0, 0, 1, 0, 0, 0, 2, 500, 500, 500, 500},
+    {2, 0, 0, 0, 3, 3, 0, 0, 0, 1, 600, 600, 600, 700},
+    {1, 0, 0, 2, 0, 1, 0, 0, 0, 1, 500, 500, 500, 500},
+    {1, 0, 0, 2, 0, 2, 0, 0, 0, 1, 200, 200, 200, 200},
+};
+
+/* And {0, 1, 2} {0, 1, 3} of 0.5, whose common part has two faults: low 0.25 * 0.75, high 0.25 * 1. */
+static void common_part(void)
+{
+    static const uint8_t left[1] = {0}, right[1] = {1};
+    static const uint32_t w[3] = {500 * MILLION, 500 * MILLION, 200 * MILLION};
+    static const uint32_t halves[4] = {500 * MILLION, 500 * MILLION, 500 * MILLION, 500 * MILLION};
+    static const uint64_t p[2] = {3, 5}, r[2] = {7, 11}, q[2] = {0, 0};
+    ACCEPTED(open_table(&tree, w, 3, p, 2, q, 2), 250 * MILLION, 350 * MILLION, 0);
+    before = tree;
+    REFUSED(refine(&tree, w, 3, p, 2, q, 2, NULL, 0, 258, 0), 20);
+    REFUSED(refine(&tree, w, 3, p, 2, q, 2, NULL, 0, 4294967298, 0), 20);
+    HOLDS(memcmp(&tree, &before, sizeof tree) == 0);
+    ACCEPTED(refine(&tree, w, 3, p, 2, q, 2, NULL, 0, 2, 64), 300 * MILLION, 350 * MILLION, 1);
+    same_records(__LINE__, 3, repeater);
+    REFUSED(refine(&tree, w, 3, p, 2, q, 2, left, 1, 1, 0), 18);
+    REFUSED(refine(&tree, w, 3, p, 2, q, 2, left, 1, 2, 0), 18);
+    REFUSED(refine(&tree, w, 3, p, 2, q, 2, right, 1, 1, 0), 20);
+    REFUSED(refine(&tree, w, 3, p, 2, q, 2, right, 1, 2, 0), 20);
+    same_records(__LINE__, 3, repeater);
+    ACCEPTED(refine(&tree, w, 3, p, 2, q, 2, right, 1, 0, 0), 300 * MILLION, 300 * MILLION, 1);
+    same_records(__LINE__, 5, then_both);
+    before = tree;
+    tree.nodes[2].out = 0;
+    REFUSED(run(&tree, w, 3, p, 2, q, 2, 0, 0), 16);
+    tree = before;
+    ENDED(run(&tree, w, 3, p, 2, q, 2, 0, 0), 300 * MILLION, 300 * MILLION, 0, 1, 300 * MILLION);
+
+    ACCEPTED(open_table(&tree, halves, 4, r, 2, q, 2), 125 * MILLION, 250 * MILLION, 0);
+    ACCEPTED(refine(&tree, halves, 4, r, 2, q, 2, NULL, 0, 2, 0), 187500000, 250 * MILLION, 1);
+    SAME(tree.nodes[1].out, 4);
+    SAME(tree.nodes[2].out, 3);
 }
 
 /* An empty way always happens, no way never. A refused opening leaves no nodes, which 16 refuses. */
@@ -104,7 +167,7 @@ static void openings(void)
     REFUSED(open_table(&tree, weights, 4, one, 1, one, 1), 13);
 }
 
-/* {0, 1} {0, 2} of 0.5, 0.5 and 0.2. A run goes by fault 0, then by independence at the left child. */
+/* {0, 1} {0, 2} of 0.5, 0.5 and 0.2. A run takes out the common part {0}, then goes by independence on the right. */
 static void runs(void)
 {
     static const uint32_t w[3] = {500 * MILLION, 500 * MILLION, 200 * MILLION};
@@ -121,6 +184,7 @@ static void runs(void)
     ENDED(run(&tree, w, 3, p, 2, q, 2, 10 * MILLION, 1), 300 * MILLION, 350 * MILLION, 1, 4, 325 * MILLION);
     ENDED(run(&tree, w, 3, p, 2, q, 2, 25 * MILLION, 40), 300 * MILLION, 350 * MILLION, 0, 1, 325 * MILLION);
     ENDED(run(&tree, w, 3, p, 2, q, 2, 24999999, 40), 300 * MILLION, 300 * MILLION, 1, 1, 300 * MILLION);
+    same_records(__LINE__, 5, then_both);
     REFUSED(run(&tree, w, 3, q, 2, p, 2, 0, 40), 16);
 }
 
@@ -199,6 +263,7 @@ static void search(void)
 void on_trees(void)
 {
     by_hand();
+    common_part();
     openings();
     runs();
     senses();

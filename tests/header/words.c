@@ -27,7 +27,8 @@ static const char *const words[] = {
     "the place named is longer than 64 or has no leaf",
     "the leaf there is closed",
     "the tree has 255 refinements",
-    "the fault named does not occur in the leaf, or independence is asked where its ways hang together",
+    "the fault named does not occur in the leaf, or independence is asked where its ways hang together, "
+    "or the common part where it is empty",
     "the writer's lists do not agree in length with each other or with the ways its cues count",
     "the space lent for writing is shorter than the output",
     "a record of the text is missing, is of no shape there, or names a fault twice in the same sense",
@@ -37,7 +38,7 @@ static const char *const words[] = {
 
 int main(void)
 {
-    SAME(version(), 4);
+    SAME(version(), 5);
     SAME(sizeof words / sizeof words[0], 26);
     for (uint64_t i = 0; i < 26; i++) {
         same(__LINE__, words[i], strcmp(refusal(i), words[i]) == 0, 1);

@@ -54,11 +54,7 @@ impl Table<'_> {
 
     /// What stays of its ways, each tested against each: those that say nothing new are left out.
     pub fn staying(&self) -> Clauses {
-        let mut kept = Clauses {
-            set: [0; 2],
-            present: 0,
-            absent: 0,
-        };
+        let mut kept = Clauses::of_set([0; 2]);
         for way in self.rows() {
             if !self.rows().any(|other| other.outdoes(&way)) {
                 kept.add(way.number);
@@ -68,18 +64,29 @@ impl Table<'_> {
     }
 }
 
-/// The ways of a leaf: those of a table with these numbers, less the fixed faults.
+/// The ways of a leaf: those of a table with these numbers, less the faults fixed present, fixed absent and taken out.
 #[derive(Clone, Copy)]
 pub struct Clauses {
     pub set: [u64; 2],
     pub present: u64,
     pub absent: u64,
+    pub out: u64,
 }
 
 impl Clauses {
+    /// The ways of these numbers as the table has them.
+    pub fn of_set(set: [u64; 2]) -> Clauses {
+        Clauses {
+            set,
+            present: 0,
+            absent: 0,
+            out: 0,
+        }
+    }
+
     /// The ways in number order, each read off the table when its turn comes.
     pub fn ways<'a>(&self, table: &'a Table) -> impl Iterator<Item = Way> + 'a {
-        let fixed = self.present | self.absent;
+        let dropped = self.present | self.absent | self.out;
         let [mut low, mut high] = self.set;
         std::iter::from_fn(move || {
             let number = if low != 0 {
@@ -95,8 +102,8 @@ impl Clauses {
             };
             Some(Way {
                 number,
-                present: table.present[number] & !fixed,
-                absent: table.absent[number] & !fixed,
+                present: table.present[number] & !dropped,
+                absent: table.absent[number] & !dropped,
             })
         })
     }
@@ -122,10 +129,29 @@ impl Clauses {
     /// The same numbers with more faults fixed.
     fn fixing(self, present: u64, absent: u64) -> Clauses {
         Clauses {
-            set: self.set,
             present: self.present | present,
             absent: self.absent | absent,
+            ..self
         }
+    }
+
+    /// The same numbers with more faults taken out.
+    pub fn without(self, faults: u64) -> Clauses {
+        Clauses {
+            out: self.out | faults,
+            ..self
+        }
+    }
+
+    /// The first way alone, less all that it names besides these faults.
+    pub fn first_within(self, table: &Table, faults: u64) -> Clauses {
+        let way = self.ways(table).next().unwrap_or_default();
+        let mut first = Clauses {
+            set: [0; 2],
+            ..self
+        };
+        first.add(way.number);
+        first.without(way.faults() & !faults)
     }
 
     /// What remains with more faults fixed.
@@ -280,6 +306,21 @@ pub fn group_faults(table: &Table, ways: &Clauses) -> u64 {
 /// The word leaves a way untouched.
 pub fn leaves_one(table: &Table, ways: &Clauses, word: u64) -> bool {
     ways.ways(table).any(|way| way.faults() & word == 0)
+}
+
+/// The common part, as a word of faults: those that all ways name in the same sense. It is left as soon as it is empty.
+pub fn common_faults(table: &Table, ways: &Clauses) -> u64 {
+    let mut ways = ways.ways(table);
+    let Some(first) = ways.next() else { return 0 };
+    let (mut present, mut absent) = (first.present, first.absent);
+    for way in ways {
+        present &= way.present;
+        absent &= way.absent;
+        if present | absent == 0 {
+            return 0;
+        }
+    }
+    present | absent
 }
 
 /// The fault that most ways name, the lowest number if several are.

@@ -79,6 +79,10 @@ fn choose(table: &Table, ways: &Clauses) -> Kind {
     if leaves_one(table, ways, word) {
         return Kind::IndependentOr(word);
     }
+    let word = common_faults(table, ways);
+    if word != 0 {
+        return Kind::IndependentAnd(word);
+    }
     Kind::Shannon(most_named(table, ways))
 }
 

@@ -10,6 +10,8 @@ pub struct Shape {
     pub named: (usize, usize),
     /// The faults lie in so many groups, and a way names faults of one group alone.
     pub groups: usize,
+    /// The first so many faults are present in every way, besides what it names by itself.
+    pub common: usize,
     pub heaviest: u32,
     pub allowance: u64,
     pub budget: u64,
@@ -33,8 +35,8 @@ impl Random {
         let from = width * self.below(shape.groups as u64) as usize;
         let (least, most) = shape.named;
         let named = least + self.below((most - least + 1) as u64) as usize;
-        let (mut present, mut absent) = (0u64, 0u64);
-        while ((present | absent).count_ones() as usize) < named.min(width) {
+        let (mut present, mut absent) = ((1u64 << shape.common) - 1, 0u64);
+        while ((present | absent).count_ones() as usize) < (shape.common + named).min(width) {
             let bit = 1 << (from + self.below(width as u64) as usize);
             if (present | absent) & bit == 0 {
                 if self.below(3) == 0 {
@@ -98,6 +100,7 @@ pub fn families() -> Vec<(&'static str, Shape)> {
         ways: 128,
         named: (2, 4),
         groups: 1,
+        common: 0,
         heaviest: 100_000_000,
         allowance: 0,
         budget: 255,
@@ -153,6 +156,13 @@ pub fn families() -> Vec<(&'static str, Shape)> {
             Shape {
                 named: (20, 40),
                 heaviest: 900_000_000,
+                ..largest
+            },
+        ),
+        (
+            "common",
+            Shape {
+                common: 1,
                 ..largest
             },
         ),

@@ -8,6 +8,7 @@ pub const BLANK: u64 = 0;
 pub const LEAF: u64 = 1;
 pub const INDEPENDENT_OR: u64 = 2;
 pub const SHANNON: u64 = 3;
+pub const INDEPENDENT_AND: u64 = 4;
 
 #[repr(C)]
 #[derive(Clone, Copy, PartialEq, Eq)]
@@ -20,6 +21,7 @@ pub struct Node {
     pub ways: [u64; 2],
     pub present: u64,
     pub absent: u64,
+    pub out: u64,
     pub low: u64,
     pub high: u64,
     pub own_low: u64,
@@ -37,6 +39,8 @@ pub struct Tree {
 pub enum Kind {
     /// With the faults of the first group.
     IndependentOr(u64),
+    /// With the faults of the common part.
+    IndependentAnd(u64),
     Shannon(usize),
 }
 
@@ -49,6 +53,7 @@ const NO_NODE: Node = Node {
     ways: [0; 2],
     present: 0,
     absent: 0,
+    out: 0,
     low: 0,
     high: 0,
     own_low: 0,
@@ -73,6 +78,7 @@ fn leaf(table: &Table, ways: &Clauses, parent: usize) -> Node {
         ways: ways.set,
         present: ways.present,
         absent: ways.absent,
+        out: ways.out,
         low,
         high,
         own_low: low,
@@ -133,12 +139,9 @@ impl Tree {
     /// The remaining ways of a record.
     pub fn ways(&self, table: &Table, at: usize) -> Clauses {
         let node = &self.nodes[at];
-        let set = Clauses {
-            set: node.ways,
-            present: 0,
-            absent: 0,
-        };
+        let set = Clauses::of_set(node.ways);
         set.restrict(table, node.present, node.absent)
+            .without(node.out)
     }
 
     /// Refines the leaf at a record, whose ways are handed over, and joins the intervals up to the root.
@@ -148,6 +151,7 @@ impl Tree {
             Kind::IndependentOr(word) => {
                 [ways.part(table, word, true), ways.part(table, word, false)]
             }
+            Kind::IndependentAnd(word) => [ways.first_within(table, word), ways.without(word)],
             Kind::Shannon(fault) => {
                 let bit = 1 << fault;
                 let by_fault = ways.by_fault(table, bit);
@@ -159,6 +163,7 @@ impl Tree {
         let node = &mut self.nodes[at];
         match kind {
             Kind::IndependentOr(_) => node.kind = INDEPENDENT_OR,
+            Kind::IndependentAnd(_) => node.kind = INDEPENDENT_AND,
             Kind::Shannon(fault) => {
                 node.kind = SHANNON;
                 node.fault = fault as u64;
@@ -193,6 +198,9 @@ impl Tree {
                 S - up((S - l.low) * (S - r.low)),
                 S - down((S - l.high) * (S - r.high)),
             );
+        }
+        if node.kind == INDEPENDENT_AND {
+            return (down(l.low * r.low), up(l.high * r.high));
         }
         let w = u64::from(weights[node.fault as usize]);
         (
@@ -240,6 +248,7 @@ fn same_nodes(x: &[Node], y: &[Node]) -> bool {
         unlike |= x.ways[1] ^ y.ways[1];
         unlike |= x.present ^ y.present;
         unlike |= x.absent ^ y.absent;
+        unlike |= x.out ^ y.out;
         unlike |= x.low ^ y.low;
         unlike |= x.high ^ y.high;
         unlike |= x.own_low ^ y.own_low;
@@ -253,6 +262,10 @@ fn possible(told: &Node, table: &Table, ways: &Clauses) -> Option<Kind> {
     if told.kind == INDEPENDENT_OR {
         let word = group_faults(table, ways);
         return leaves_one(table, ways, word).then_some(Kind::IndependentOr(word));
+    }
+    if told.kind == INDEPENDENT_AND {
+        let word = common_faults(table, ways);
+        return (word != 0).then_some(Kind::IndependentAnd(word));
     }
     let fault = told.fault as usize;
     let occurs = fault < MOST_FAULTS && ways.ways(table).any(|way| way.faults() >> fault & 1 == 1);

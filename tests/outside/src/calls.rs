@@ -12,7 +12,7 @@ pub const RECORDS: usize = 511;
 pub const STACK: usize = 262_144;
 
 /// The version of the header.
-pub const VERSION: u64 = 4;
+pub const VERSION: u64 = 5;
 
 /// A record of a tree; its fields have one width, so that they can be told by number too.
 #[repr(C)]
@@ -27,24 +27,27 @@ pub struct Node {
     pub waysb: u64,
     pub present: u64,
     pub absent: u64,
+    pub out: u64,
     pub low: u64,
     pub high: u64,
     pub ownlow: u64,
     pub ownhigh: u64,
 }
 
-pub const FIELDS: usize = 13;
+pub const FIELDS: usize = 14;
 
 impl Node {
     pub fn fields(&self) -> [u64; FIELDS] {
-        let Node { kind, fault, live, parent, left, waysa, waysb, present, absent, low, high, ownlow, ownhigh } = *self;
-        [kind, fault, live, parent as u64, left as u64, waysa, waysb, present, absent, low, high, ownlow, ownhigh]
+        let Node { kind, fault, live, parent, left, waysa, waysb, present, absent, out, low, high, ownlow, ownhigh } =
+            *self;
+        let (parent, left) = (parent as u64, left as u64);
+        [kind, fault, live, parent, left, waysa, waysb, present, absent, out, low, high, ownlow, ownhigh]
     }
 
     pub fn of_fields(fields: [u64; FIELDS]) -> Node {
-        let [kind, fault, live, parent, left, waysa, waysb, present, absent, low, high, ownlow, ownhigh] = fields;
+        let [kind, fault, live, parent, left, waysa, waysb, present, absent, out, low, high, ownlow, ownhigh] = fields;
         let (parent, left) = (parent as usize, left as usize);
-        Node { kind, fault, live, parent, left, waysa, waysb, present, absent, low, high, ownlow, ownhigh }
+        Node { kind, fault, live, parent, left, waysa, waysb, present, absent, out, low, high, ownlow, ownhigh }
     }
 }
 
@@ -149,7 +152,7 @@ impl Figure {
 
 // The header asserts the same.
 const _: () = {
-    assert!(size_of::<Node>() == 104 && size_of::<Tree>() == 53_152);
+    assert!(size_of::<Node>() == 112 && size_of::<Tree>() == 57_240);
     assert!(size_of::<Answer>() == 48 && size_of::<Spot>() == 16);
     assert!(size_of::<Head>() == 40 && size_of::<Entry>() == 40 && size_of::<Inside>() == 2_336);
     assert!(size_of::<Fraction>() == 24 && size_of::<Figure>() == 16);

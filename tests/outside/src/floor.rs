@@ -1,4 +1,5 @@
-//! The least that all families together must have met: every number of every call that it concerns, and every verdict.
+//! The least that all families together must have met: every number of every call that it concerns, every verdict, and
+//! every kind of refinement.
 //! The least comparisons of a family stand beside its name (`families`).
 
 use crate::tally::{Call, Tally};
@@ -29,6 +30,9 @@ const NUMBERS: [(Call, u64, &[u64]); 17] = [
 /// The verdicts of runs, and how often each must have been given.
 const VERDICTS: [(u64, u64); 4] = [(MET, 1000), (DONE, 1000), (FULL, 50), (SPENT, 1000)];
 
+/// The kinds of refinement, and at how many places each must have been compared.
+const REFINED: [(&str, u64); 3] = [("independence", 1), ("common part", 1), ("fault", 1)];
+
 /// Whether all of it was met often enough; what was not is printed.
 pub fn is_met(tally: &Tally) -> bool {
     let mut enough = true;
@@ -45,6 +49,9 @@ pub fn is_met(tally: &Tally) -> bool {
     }
     for (verdict, least) in VERDICTS {
         judge(format!("verdict {verdict}"), tally.met_verdict(verdict), least);
+    }
+    for (kind, least) in REFINED {
+        judge(format!("places refined by {kind}"), tally.met_refined(kind), least);
     }
     enough
 }

@@ -50,6 +50,7 @@ fn state(node: &Node) -> Option<State> {
         (1, 1) => Some(State::Open),
         (2, 0) => Some(State::Refined(Act::Independence)),
         (3, 0) => Some(State::Refined(Act::Fault(node.fault))),
+        (4, 0) => Some(State::Refined(Act::Common)),
         _ => None,
     }
 }
@@ -119,6 +120,7 @@ fn figures(table: &Table, entry: &Entry) -> Node {
         State::Open => (1, 0, 1),
         State::Refined(Act::Independence) => (2, 0, 0),
         State::Refined(Act::Fault(fault)) => (3, fault, 0),
+        State::Refined(Act::Common) => (4, 0, 0),
     };
     let own = leaf_interval(&table.weights, &entry.ways);
     let numbers = entry.ways.iter().fold(0u128, |set, way| set | 1 << way.number);
@@ -128,6 +130,7 @@ fn figures(table: &Table, entry: &Entry) -> Node {
         live,
         waysa: numbers as u64,
         waysb: (numbers >> 64) as u64,
+        out: entry.out.iter().fold(0, |word, fault| word | 1 << fault),
         low: entry.interval.low,
         high: entry.interval.high,
         ownlow: own.low,

@@ -1,6 +1,7 @@
 //! How many comparisons were made, and how often each call of the library gave each number and each verdict.
 
-use reference::NONE;
+use reference::tree::State;
+use reference::{Act, NONE};
 use std::collections::BTreeMap;
 
 /// The functions of the library.
@@ -54,6 +55,7 @@ pub struct Tally {
     pub compared: u64,
     numbers: BTreeMap<(Call, u64), u64>,
     verdicts: BTreeMap<u64, u64>,
+    refined: BTreeMap<&'static str, u64>,
 }
 
 impl Tally {
@@ -64,10 +66,22 @@ impl Tally {
         }
     }
 
+    /// A place that was compared.
+    pub fn stood(&mut self, state: State) {
+        let kind = match state {
+            State::Refined(Act::Independence) => "independence",
+            State::Refined(Act::Common) => "common part",
+            State::Refined(Act::Fault(_)) => "fault",
+            State::Open | State::Closed => return,
+        };
+        *self.refined.entry(kind).or_default() += 1;
+    }
+
     pub fn add(&mut self, other: &Tally) {
         self.compared += other.compared;
         other.numbers.iter().for_each(|(&met, times)| *self.numbers.entry(met).or_default() += times);
         other.verdicts.iter().for_each(|(&met, times)| *self.verdicts.entry(met).or_default() += times);
+        other.refined.iter().for_each(|(&met, times)| *self.refined.entry(met).or_default() += times);
     }
 
     /// How often a call gave a number.
@@ -80,7 +94,12 @@ impl Tally {
         self.verdicts.get(&verdict).copied().unwrap_or(0)
     }
 
-    /// The answers by call and number, and by verdict.
+    /// How often a place refined so was compared.
+    pub fn met_refined(&self, kind: &str) -> u64 {
+        self.refined.get(kind).copied().unwrap_or(0)
+    }
+
+    /// The answers by call and number, and by verdict, and the places that were refined.
     pub fn answers(&self) -> String {
         let mut text = String::from("answers");
         let mut last = None;
@@ -92,6 +111,8 @@ impl Tally {
         }
         text += "\n  verdicts";
         self.verdicts.iter().for_each(|(verdict, times)| text += &format!("  {verdict}: {times}"));
+        text += "\n  refined by";
+        self.refined.iter().for_each(|(kind, times)| text += &format!("  {kind}: {times}"));
         text
     }
 }

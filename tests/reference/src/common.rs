@@ -3,6 +3,7 @@
 //! only the faults taken out give away; and trees of tables with common parts, drawn at random.
 
 use crate::figures::Figures;
+use crate::leaf::Way;
 use crate::paper::{p4, H, Q, THIRD};
 use crate::random::Random;
 use crate::scripts::{drawn_and_shown, hand, handed, lined, told, Call, Damage, Line, Script};
@@ -153,9 +154,31 @@ pub fn cases() -> Vec<Case> {
     ]
 }
 
+/// The typed ways of a place.
+pub fn ways_of(ways: &[(usize, &[i64])]) -> Vec<Way> {
+    let named = |&literal: &i64| match literal {
+        0.. => (literal as usize, true),
+        _ => (!literal as usize, false),
+    };
+    let way = |&(number, literals): &(usize, &[i64])| {
+        let faults: Vec<(usize, bool)> = literals.iter().map(named).collect();
+        Way::naming(number, &faults)
+    };
+    ways.iter().map(way).collect()
+}
+
 /// The tables as the cues 1 to 8 of one sheet, each with faults of its own.
 pub fn sheet() -> Sheet {
     of_tables(cases().into_iter().map(|case| case.figures.1), 255)
+}
+
+/// The largest table with a common part, which takes all 255 refinements: 63 faults in a ring, each paired with the next
+/// two, two of them with the third too, and fault 63 in every way.
+pub fn repeater() -> Table {
+    let next = (0..63).flat_map(|a| [[a, (a + 1) % 63, 63], [a, (a + 2) % 63, 63]]);
+    let ways: Vec<[i64; 3]> = next.chain([[0, 3, 63], [1, 4, 63]]).collect();
+    let ways: Vec<&[i64]> = ways.iter().map(|way| &way[..]).collect();
+    Table::of(&[THIRD / 3; MOST_FAULTS], &ways)
 }
 
 /// A leaf 64 steps from the root, always to the right. Way k, up to 30, names the faults 0 to k and 31 + k; ways 31 and 32

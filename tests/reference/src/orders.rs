@@ -7,6 +7,8 @@ use crate::scripts::{any_call, lined, Call, Line, Script};
 use crate::tree::{open, Entry, State};
 use crate::vectors::make;
 use crate::{Act, Table, Tree, S};
+use std::collections::HashSet;
+use std::mem::discriminant;
 
 const SEED: u64 = 2023;
 const SMALL: usize = 8;
@@ -21,7 +23,8 @@ pub fn orders_of_refinement() -> Vec<Script> {
         (most_named(), run(6)),
         (widest(), run(7)),
     ];
-    lists.extend((0..SMALL).map(|_| drawn(&mut random)));
+    lists.extend((0..SMALL).map(|_| drawn(&mut random, |random| random.table_within(9, 12), 1)));
+    lists.extend((0..SMALL).map(|_| drawn(&mut random, |random| random.common_table(9, 12), 3)));
     let mut scripts: Vec<Script> = lists
         .into_iter()
         .flat_map(|(table, calls)| several_orders(&mut random, table, calls))
@@ -30,10 +33,10 @@ pub fn orders_of_refinement() -> Vec<Script> {
     scripts
 }
 
-/// A table and calls that leave some refinements and an open leaf.
-fn drawn(random: &mut Random) -> (Table, Vec<Call>) {
+/// A table and calls that leave some refinements, of so many kinds at least, and an open leaf.
+fn drawn(random: &mut Random, table: fn(&mut Random) -> Table, kinds: usize) -> (Table, Vec<Call>) {
     loop {
-        let table = random.table_within(9, 12);
+        let table = table(random);
         let mut tree = open(&table).1;
         let mut calls = Vec::new();
         for _ in 0..random.between(4, 9) {
@@ -45,10 +48,20 @@ fn drawn(random: &mut Random) -> (Table, Vec<Call>) {
             calls.push(call);
         }
         let open = |entry: &Entry| entry.state == State::Open;
-        if tree.refinements() >= 3 && tree.places(&table).iter().any(open) {
+        if tree.refinements() >= 3
+            && kinds_of(&table, &tree) >= kinds
+            && tree.places(&table).iter().any(open)
+        {
             return (table, calls);
         }
     }
+}
+
+/// How many kinds of refinements a tree has.
+pub fn kinds_of(table: &Table, tree: &Tree) -> usize {
+    let acts = refined(table, tree).into_iter().map(|(_, act)| act);
+    let kinds: HashSet<_> = acts.map(|act| discriminant(&act)).collect();
+    kinds.len()
 }
 
 /// The first list, one by hand alone and one with runs, each with all places and with further runs, refused ones included.

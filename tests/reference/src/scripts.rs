@@ -76,7 +76,7 @@ pub fn scripts() -> Vec<Script> {
     scripts.extend(handed_on());
     scripts.extend((0..RANDOM).map(|_| drawn(&mut random, |random| random.table_within(8, 10))));
     scripts.extend((0..RANDOM_ANY_SIZE).map(|_| drawn(&mut random, Random::table)));
-    scripts.push(largest());
+    scripts.extend(largest());
     scripts.extend(figures());
     scripts.extend(damages());
     scripts.extend(orders_of_refinement());
@@ -294,6 +294,7 @@ pub fn full() -> Script {
 fn cut_in_two(random: &mut Random) -> Vec<Script> {
     let mut tables = vec![widest(), most_named(), p4(), ring()];
     tables.extend((0..6).map(|_| random.table_within(8, 10)));
+    tables.extend((0..4).map(|_| mostly_open(random, |random| random.common_table(8, 10))));
     tables
         .into_iter()
         .flat_map(|table| {
@@ -424,6 +425,6 @@ fn by((place, act): (Vec<u8>, Act)) -> Call {
     Call::Hand(place, act)
 }
 
-fn largest() -> Script {
-    told(largest_ring(), &[(Call::Run(0, 255), 0, FULL)])
+fn largest() -> [Script; 2] {
+    [largest_ring(), common::repeater()].map(|table| told(table, &[(Call::Run(0, 255), 0, FULL)]))
 }

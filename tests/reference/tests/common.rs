@@ -1,10 +1,10 @@
 //! The common part taken out: E1 to E8 with what stands at each place, the sheet that has them as cues, the request's words
 //! held to every place of random trees, and a count over all assignments beside trees of all three kinds.
 
-use reference::common::{cases, nested, only_out_differs, sheet, PRINTED};
+use reference::common::{cases, nested, only_out_differs, repeater, sheet, ways_of, PRINTED};
 use reference::files::{stored, stored_text};
 use reference::leaf::{leaf_interval, Interval, Way};
-use reference::paper::p4;
+use reference::paper::{p4, THIRD};
 use reference::random::Random;
 use reference::report::{enclosing_lines, report};
 use reference::run::{pick, run};
@@ -13,7 +13,7 @@ use reference::sheet::{cue_table, encode};
 use reference::table::{Count, MOST_COUNTED};
 use reference::tree::{common, open, refine_by_hand, split, Entry, State};
 use reference::vectors::make;
-use reference::{Act, Answer, Table, Tree, S};
+use reference::{Act, Answer, Table, Tree, FULL, S};
 use std::collections::{BTreeMap, BTreeSet};
 
 /// What a way names: a fault, and whether it is present.
@@ -71,15 +71,7 @@ fn the_figures_e1_to_e8() {
         }
         let entries = tree.places(&table);
         let typed = case.below.iter().map(|&(place, ways, out)| {
-            let way = |&(number, literals): &(usize, &[i64])| {
-                let way = Table::of(&table.weights, &[literals]).way(0);
-                Way {
-                    number,
-                    ..way.expect("the one way")
-                }
-            };
-            let ways: Vec<Way> = ways.iter().map(way).collect();
-            (place.to_vec(), ways, out.iter().copied().collect())
+            (place.to_vec(), ways_of(ways), out.iter().copied().collect())
         });
         let told = |entry: &Entry| (entry.place.clone(), entry.ways.clone(), entry.out.clone());
         let typed: Vec<_> = typed.collect();
@@ -317,6 +309,22 @@ fn a_leaf_64_steps_down_through_common_parts() {
         refine_by_hand(&table, &mut tree, &place, Act::Common).number,
         18
     );
+}
+
+#[test]
+fn the_largest_table_with_a_common_part_takes_all_refinements() {
+    let table = repeater();
+    assert_eq!((table.faults(), table.present.len()), (64, 128));
+    let mut tree = open(&table).1;
+    let answer = run(&table, &mut tree, 0, 255);
+    assert_eq!(
+        (answer.number, answer.count, answer.verdict),
+        (0, 255, FULL)
+    );
+    let places = tree.places(&table);
+    assert_eq!(places[0].state, State::Refined(Act::Common));
+    // The exact chance is at most that of the repeater.
+    assert!(answer.low < answer.high && answer.high <= u64::from(THIRD / 3));
 }
 
 /// 16 looks at the faults taken out too: all else that a tree has is the same by both tables.

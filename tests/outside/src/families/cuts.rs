@@ -19,6 +19,11 @@ pub fn cuts(bench: &mut Bench) -> Outcome {
         let parts = parts(random, 20);
         cut(session, random, table, &parts)
     })?;
+    bench.cases("common parts", 200, |session, random| {
+        let table = mostly_open(random, |random| random.common_table(9, 14));
+        let parts = parts(random, 20);
+        cut(session, random, table, &parts)
+    })?;
     bench.cases("64 faults", 3, |session, random| {
         let table = mostly_open(random, |random| random.table_within(64, 20));
         let parts = parts(random, 6);

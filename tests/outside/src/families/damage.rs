@@ -7,20 +7,20 @@ use crate::calls::{Node, Tree, FIELDS, RECORDS};
 use crate::records::{history, layout, Refinement};
 use crate::session::{Outcome, Session};
 use crate::step::{Field, Step};
-use reference::paper::{cases, p3, p4};
+use reference::paper::{cases, p3, p4, p6};
 use reference::random::Random;
 use reference::scripts::{any_call, mostly_open};
 use reference::{Act, Table, S};
 
 pub fn sixteen(bench: &mut Bench) -> Outcome {
-    bench.case("every field of P4's tree", |session, random| {
+    bench.case("every field of P4's tree, a common part and independence", |session, random| {
         session.opened(p4())?;
         session.run(0, 255)?;
         let records = [0, 1, 2, 3, 4, 5, RECORDS - 1];
         records.iter().try_for_each(|&record| every_field(session, random, record))?;
         every_use(session, random)
     })?;
-    bench.case("a closed leaf refined, every figure right", |session, _| closed_refined(session))?;
+    bench.case("no refinement of the table, every figure right", |session, _| impossible(session))?;
     bench.cases("any field of any tree", 80, |session, random| {
         grown(session, random)?;
         for _ in 0..6 {
@@ -49,7 +49,10 @@ pub fn sixteen(bench: &mut Bench) -> Outcome {
 
 /// A small tree, grown by a few calls.
 pub(super) fn grown(session: &mut Session, random: &mut Random) -> Outcome {
-    let table = mostly_open(random, |random| random.table_within(6, 8));
+    let table = mostly_open(random, |random| match random.below(3) {
+        0 => random.common_table(6, 8),
+        _ => random.table_within(6, 8),
+    });
     session.opened(table)?;
     for _ in 0..random.between(1, 4) {
         let call = any_call(random, session.table(), session.tree());
@@ -64,7 +67,8 @@ pub(super) fn judged(session: &mut Session, random: &mut Random) -> Outcome {
         return session.run(random.between(0, S as usize) as u64, random.between(0, 3) as u64);
     }
     let place = vec![0; random.below(3)];
-    session.refine(place, Act::Fault(random.below(8) as u64))
+    let act = if random.one_in(4) { Act::Common } else { Act::Fault(random.below(8) as u64) };
+    session.refine(place, act)
 }
 
 /// Each field of a record takes other values in turn, and then its own again.
@@ -156,8 +160,9 @@ fn reordered(session: &mut Session, random: &mut Random) -> Outcome {
     told_number(session, 0)
 }
 
-/// P9's root is closed, and so is P3's with its one way: no series refines them.
-fn closed_refined(session: &mut Session) -> Outcome {
+/// P9's root is closed, and so is P3's with its one way: no series refines them. P6's ways have nothing in common: taken
+/// out of both, nothing leaves the right child as the root is, beside a left child that always happens.
+fn impossible(session: &mut Session) -> Outcome {
     let leaf = |waysa, present, absent, low, high| Node {
         kind: 1,
         waysa,
@@ -171,9 +176,21 @@ fn closed_refined(session: &mut Session) -> Outcome {
     };
     let inner = |kind, root: Node| Node { kind, left: 1, ..root };
     let third = 333_333_333;
+    let both = (111_111_110, 111_111_111);
+    let half = 500_000_000;
+    let open = Node { live: 1, ..leaf(3, 0, 0, half, S) };
     let trees = [
         (p9(), [inner(2, leaf(3, 0, 0, S, S)), leaf(1, 0, 0, 0, 0), leaf(2, 0, 0, S, S)]),
-        (p3(), [inner(3, leaf(1, 0, 0, 111_111_110, 111_111_111)), leaf(1, 1, 0, third, third), leaf(0, 0, 1, 0, 0)]),
+        (p3(), [inner(3, leaf(1, 0, 0, both.0, both.1)), leaf(1, 1, 0, third, third), leaf(0, 0, 1, 0, 0)]),
+        (
+            p3(),
+            [
+                inner(4, leaf(1, 0, 0, both.0, both.1)),
+                leaf(1, 0, 0, both.0, both.1),
+                Node { out: 3, ..leaf(1, 0, 0, S, S) },
+            ],
+        ),
+        (p6(), [inner(4, leaf(3, 0, 0, half, S)), Node { out: 1, ..leaf(1, 0, 0, S, S) }, open]),
     ];
     for (table, nodes) in trees {
         let mut tree = Box::<Tree>::default();
@@ -212,12 +229,18 @@ pub fn foreign(bench: &mut Bench) -> Outcome {
 fn neighbour(random: &mut Random, table: &Table) -> Table {
     let mut table = table.clone();
     let fault = random.below(table.weights.len());
-    match random.below(6) {
+    match random.below(7) {
         0 => table.weights.push(random.between(0, S as usize) as u32),
-        1 => table.weights[fault] = table.weights[fault].saturating_sub(1),
-        2 => table.weights[fault] = random.between(0, S as usize) as u32,
-        3 => drop(table.weights.pop()),
-        4 if table.present.len() > 1 => {
+        1 if !table.present.is_empty() => {
+            // A fault that is certain, which a way names or not.
+            let row = random.below(table.present.len());
+            table.present[row] |= 1 << table.weights.len();
+            table.weights.push(S as u32);
+        }
+        2 => table.weights[fault] = table.weights[fault].saturating_sub(1),
+        3 => table.weights[fault] = random.between(0, S as usize) as u32,
+        4 => drop(table.weights.pop()),
+        5 if table.present.len() > 1 => {
             let (one, other) = (random.below(table.present.len()), random.below(table.present.len()));
             table.present.swap(one, other);
             table.absent.swap(one, other);

@@ -75,9 +75,9 @@ fn likely(random: &mut Random, table: &Table) -> Box<Tree> {
 
 /// A record without links, its numbers such as an inner node or a leaf may have.
 fn likely_record(random: &mut Random, table: &Table, inner: bool) -> Node {
-    let [fault, present, absent] = [0; 3].map(|_| random.below(table.faults()) as u64);
+    let [fault, present, absent, out] = [0; 4].map(|_| random.below(table.faults()) as u64);
     let [low, high, ownlow, ownhigh] = [0; 4].map(|_| random.below(S as usize + 1) as u64);
-    let (kind, fault) = if inner { random.one_of(&[(2, 0), (3, fault)]) } else { (1, 0) };
+    let (kind, fault) = if inner { random.one_of(&[(2, 0), (3, fault), (4, 0)]) } else { (1, 0) };
     Node {
         kind,
         fault,
@@ -85,6 +85,7 @@ fn likely_record(random: &mut Random, table: &Table, inner: bool) -> Node {
         waysa: random.draw() & ((1 << table.present.len()) - 1),
         present: random.one_of(&[0, 0, 1 << present]),
         absent: random.one_of(&[0, 0, 1 << absent]),
+        out: random.one_of(&[0, 0, 1 << out]),
         low: random.one_of(&[low, 0]),
         high: random.one_of(&[high, S]),
         ownlow: random.one_of(&[ownlow, low]),

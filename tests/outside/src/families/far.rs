@@ -4,7 +4,7 @@
 use super::{open_leaf, run_told, told_number};
 use crate::bench::Bench;
 use crate::calls::Node;
-use crate::session::{Outcome, Session};
+use crate::session::{asked, Outcome, Session};
 use crate::step::Step;
 use reference::paper::{p3, p4, p7, ring, whole_sheet, H};
 use reference::random::Random;
@@ -151,11 +151,12 @@ fn records(session: &mut Session) -> Outcome {
     Ok(())
 }
 
-/// Neither independence nor a fault: 20 on P7, where both are possible, and after all that comes before it.
+/// None of the three: 20 on P7, where independence and a fault are possible, and on P4, where the common part and a fault
+/// are, and after all that comes before it.
 fn what(session: &mut Session) -> Outcome {
-    let others = CUTS.into_iter().flat_map(|cut| [cut, cut + 1]).chain([u64::MAX]);
-    let others: Vec<u64> = (2..=255).chain(others).collect();
-    for (table, place, number) in [(p7(), vec![], 20), (p7(), vec![0], 17), (p3(), vec![], 18)] {
+    let others = CUTS.into_iter().flat_map(|cut| [cut, cut + 1, cut + 2]).chain([u64::MAX]);
+    let others: Vec<u64> = (3..=255).chain(others).collect();
+    for (table, place, number) in [(p7(), vec![], 20), (p4(), vec![], 20), (p7(), vec![0], 17), (p3(), vec![], 18)] {
         session.opened(table)?;
         for &what in &others {
             session.make(Step::Refine(place.clone(), what, 0))?;
@@ -172,7 +173,7 @@ fn what(session: &mut Session) -> Outcome {
     Ok(())
 }
 
-/// 20 on P7, whose ways name fault 0 and fault 1; independence looks at no fault.
+/// 20 on P7, whose ways name fault 0 and fault 1; independence and the common part look at no fault.
 fn faults(session: &mut Session) -> Outcome {
     session.opened(p7())?;
     for fault in CUTS.into_iter().chain([64, 128]).flat_map(|cut| [cut, cut + 1]).chain([u64::MAX]) {
@@ -183,6 +184,9 @@ fn faults(session: &mut Session) -> Outcome {
         session.opened(p7())?;
         session.make(Step::Refine(vec![], 0, fault + 1))?;
         session.told(0, (840_000_000, 840_000_000), 1)?;
+        session.opened(p4())?;
+        session.make(Step::Refine(vec![], 2, fault + 1))?;
+        session.told(0, (300_000_000, 350_000_000), 1)?;
     }
     Ok(())
 }
@@ -238,10 +242,7 @@ fn any_of_them(session: &mut Session, random: &mut Random) -> Outcome {
     session.opened(table)?;
     for _ in 0..4 {
         let (place, act) = random.hand_refinement(session.table(), session.tree());
-        let (what, fault) = match act {
-            Act::Independence => (0, 0),
-            Act::Fault(fault) => (1, fault),
-        };
+        let (what, fault) = asked(act);
         session.make(Step::Refine(place, with_upper_bits(random, what), with_upper_bits(random, fault)))?;
         let (allowance, budget) = (random.allowance(), random.budget().min(20));
         session.run(with_upper_bits(random, allowance), with_upper_bits(random, budget))?;

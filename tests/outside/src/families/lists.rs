@@ -5,7 +5,7 @@ use super::{make, run_told};
 use crate::bench::Bench;
 use crate::session::{Outcome, Session};
 use crate::step::Step;
-use reference::orders::toward;
+use reference::orders::{kinds_of, toward};
 use reference::paper::fours;
 use reference::random::Random;
 use reference::scripts::{any_call, mostly_open};
@@ -41,6 +41,15 @@ pub fn pairs(bench: &mut Bench) -> Outcome {
         let table = mostly_open(random, |random| random.redundant_table(8, 12));
         let calls = random.between(3, 14);
         pair(session, random, table, calls)
+    })?;
+    bench.cases("common parts", 120, |session, random| {
+        let table = mostly_open(random, |random| random.common_table(8, 12));
+        let calls = random.between(3, 14);
+        pair(session, random, table, calls)
+    })?;
+    bench.cases("all three refinements", 120, |session, random| {
+        of_all_kinds(session, random)?;
+        again_and_on(session, random)
     })?;
     bench.cases("two tables in turn", 60, in_turn)?;
     bench.case("all 255 refinements", full)
@@ -83,6 +92,20 @@ fn pair(session: &mut Session, random: &mut Random, table: Table, calls: usize) 
     again_and_on(session, random)
 }
 
+/// A tree that has refinements by independence, by the common part and by a fault.
+fn of_all_kinds(session: &mut Session, random: &mut Random) -> Outcome {
+    loop {
+        session.opened(mostly_open(random, |random| random.common_table(9, 12)))?;
+        for _ in 0..random.between(3, 10) {
+            let call = any_call(random, session.table(), session.tree());
+            make(session, call)?;
+        }
+        if kinds_of(session.table(), session.tree()) == 3 {
+            return Ok(());
+        }
+    }
+}
+
 /// The same places refined on the other tree by another list, refused calls among them; then the same runs on both.
 fn again_and_on(session: &mut Session, random: &mut Random) -> Outcome {
     let with_runs = random.one_in(2);
@@ -109,7 +132,7 @@ fn again_and_on(session: &mut Session, random: &mut Random) -> Outcome {
     Ok(())
 }
 
-/// A call that refines nothing: a run that is refused or has no budget, or neither independence nor a fault by hand.
+/// A call that refines nothing: a run that is refused or has no budget, or by hand what is none of the three.
 fn idle(session: &mut Session, random: &mut Random) -> Outcome {
     match random.below(4) {
         0 => session.run(S + 1, 255),
@@ -117,7 +140,7 @@ fn idle(session: &mut Session, random: &mut Random) -> Outcome {
         2 => session.run(random.between(0, S as usize) as u64, 0),
         _ => {
             let (place, _) = random.hand_refinement(session.table(), session.tree());
-            session.make(Step::Refine(place, random.between(2, 255) as u64, 0))
+            session.make(Step::Refine(place, random.between(3, 255) as u64, 0))
         }
     }
 }

@@ -1,6 +1,7 @@
 //! The families of cases, in the order in which they are played, and what several of them share.
 
 mod captures;
+mod common;
 mod csv;
 mod cuts;
 mod damage;
@@ -38,7 +39,7 @@ pub struct Family {
     pub least: u64,
 }
 
-pub const FAMILIES: [Family; 28] = [
+pub const FAMILIES: [Family; 29] = [
     family("paper", paper::cases_on_paper, 113),
     family("tests", paper::run_in_the_tests, 135),
     family("wrong", named::easy_to_get_wrong, 11_290),
@@ -55,6 +56,7 @@ pub const FAMILIES: [Family; 28] = [
     family("drawn", drawn::drawn, 29_000),
     family("redundant", redundant::redundant, 20_000),
     family("distance", distance::distance, 30_000),
+    family("common", common::common, 1),
     family("sheets", reading::sheets, 53_000),
     family("bytes", reading::bytes, 90_000),
     family("reports", reading::reports, 4300),

@@ -103,7 +103,7 @@ pub fn orders(bench: &mut Bench) -> Outcome {
         session.opened(p4())?;
         let open = Field::Of { record: 0, number: 2 };
         session.make(Step::Poke(open, 0))?;
-        for (place, act) in [(vec![0; 65], Act::Fault(0)), (vec![], Act::Fault(9))] {
+        for (place, act) in [(vec![0; 65], Act::Fault(0)), (vec![], Act::Fault(9)), (vec![], Act::Common)] {
             session.refine(place, act)?;
             told_number(session, 16)?;
         }
@@ -115,20 +115,24 @@ pub fn orders(bench: &mut Bench) -> Outcome {
 /// On P4, whose right child is closed once fault 0 is fixed.
 fn by_hand(session: &mut Session) -> Outcome {
     session.opened(p4())?;
-    let steps: [(&[u8], u64, u64, u64); 14] = [
+    let steps: [(&[u8], u64, u64, u64); 18] = [
         (&[0; 65], 1, 9, 17),
         (&[0; 64], 1, 9, 17),
         (&[0], 1, 0, 17),
         (&[2], 1, 0, 17),
+        (&[0], 2, 0, 17),
         (&[], 0, 0, 20),
-        (&[], 2, 0, 20),
+        (&[], 3, 0, 20),
         (&[], 255, 0, 20),
         (&[], 1, 3, 20),
         (&[], 1, u64::MAX, 20),
         (&[], 1, 0, 0),
         (&[], 1, 1, 17),
+        (&[], 2, 0, 17),
         (&[1], 1, 9, 18),
+        (&[1], 2, 0, 18),
         (&[0], 1, 0, 20),
+        (&[0], 2, 0, 20),
         (&[0], 0, 7, 0),
     ];
     for (place, what, fault, number) in steps {

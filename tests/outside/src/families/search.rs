@@ -50,7 +50,7 @@ fn record(random: &mut Random, manner: usize) -> Node {
     };
     let anything: [u64; FIELDS] = array::from_fn(|_| random.draw());
     Node {
-        kind: random.one_of(&[1, 1, 1, 1, 0, 2, 3, u64::MAX]),
+        kind: random.one_of(&[1, 1, 1, 1, 0, 2, 3, 4, u64::MAX]),
         live: random.one_of(&[1, 1, 1, 1, 0, 2, u64::MAX]),
         low: end(random),
         high: end(random),

@@ -8,6 +8,7 @@ use crate::calls::{Node, RECORDS};
 use crate::session::{Outcome, Session};
 use crate::step::Step;
 use reference::captures::{Fraction, MOST_JUDGED};
+use reference::common::repeater;
 use reference::paper::{every_fault_named, largest_ring, stairs, H};
 use reference::random::Random;
 use reference::sheet::{encode, Sheet};
@@ -36,6 +37,10 @@ fn trees(session: &mut Session) -> Outcome {
     let (place, act) = open_leaf(session);
     session.refine(place, act)?;
     told_number(session, 19)?;
+    session.opened(repeater())?;
+    session.refine(vec![], Act::Common)?;
+    run_told(session, (0, 255), 0, FULL)?;
+    run_told(session, (0, 255), 0, FULL)?;
     session.make(Step::Widest(RECORDS))?;
     session.make(Step::Records(1 << 16, vec![Node { kind: 1, live: 1, high: 1, ..Node::default() }]))
 }

@@ -24,6 +24,11 @@ pub fn tables(bench: &mut Bench) -> Outcome {
         session.opened(table)?;
         calls(session, random, 8)
     })?;
+    bench.cases("common parts, up to 12 faults", 200, |session, random| {
+        let table = mostly_open(random, |random| random.common_table(12, 16));
+        session.opened(table)?;
+        calls(session, random, 6)
+    })?;
     bench.cases("of any size", 80, |session, random| {
         let table = mostly_open(random, Random::table);
         session.opened(table)?;

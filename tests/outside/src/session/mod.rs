@@ -108,10 +108,7 @@ impl Session {
     }
 
     pub fn refine(&mut self, place: Vec<u8>, act: Act) -> Outcome {
-        let (what, fault) = match act {
-            Act::Independence => (0, 0),
-            Act::Fault(fault) => (1, fault),
-        };
+        let (what, fault) = asked(act);
         self.make(Step::Refine(place, what, fault))
     }
 
@@ -214,6 +211,15 @@ impl Session {
         let due = [0, 1, 2, 3, 4, 5].map(|i| figures[i].unwrap_or(got[i]));
         self.tally.compared += u64::from(figures.iter().all(Option::is_some));
         must("the figures", &due, &got)
+    }
+}
+
+/// What cue_refine is asked for, and the fault.
+pub fn asked(act: Act) -> (u64, u64) {
+    match act {
+        Act::Independence => (0, 0),
+        Act::Fault(fault) => (1, fault),
+        Act::Common => (2, 0),
     }
 }
 

@@ -77,6 +77,7 @@ impl Session {
         let act = match what {
             0 => Act::Independence,
             1 => Act::Fault(fault),
+            2 => Act::Common,
             _ => Act::Fault(u64::MAX), // as a fault that occurs nowhere
         };
         let stack = self.stack;
@@ -155,6 +156,7 @@ impl Session {
         must("the number of places", &entries.len(), &seen.len())?;
         for (entry, seen) in entries.iter().zip(&seen) {
             self.same("a place", &Seen::from(entry), seen)?;
+            self.tally.stood(seen.state);
             self.encloses(entry, seen)?;
         }
         if entries.is_empty() {
