@@ -31,7 +31,10 @@ const NUMBERS: [(Call, u64, &[u64]); 17] = [
 const VERDICTS: [(u64, u64); 4] = [(MET, 1000), (DONE, 1000), (FULL, 50), (SPENT, 1000)];
 
 /// The kinds of refinement, and at how many places each must have been compared.
-const REFINED: [(&str, u64); 3] = [("independence", 1), ("common part", 1), ("fault", 1)];
+const REFINED: [(&str, u64); 3] = [("independence", 40_000), ("common part", 10_000), ("fault", 40_000)];
+
+/// The numbers of a common part asked for by hand, and how often each must have been given.
+const COMMON: [(u64, u64); 6] = [(0, 300), (16, 300), (17, 300), (18, 300), (19, 2), (20, 300)];
 
 /// Whether all of it was met often enough; what was not is printed.
 pub fn is_met(tally: &Tally) -> bool {
@@ -49,6 +52,9 @@ pub fn is_met(tally: &Tally) -> bool {
     }
     for (verdict, least) in VERDICTS {
         judge(format!("verdict {verdict}"), tally.met_verdict(verdict), least);
+    }
+    for (number, least) in COMMON {
+        judge(format!("a common part by hand with {number}"), tally.met_common(number), least);
     }
     for (kind, least) in REFINED {
         judge(format!("places refined by {kind}"), tally.met_refined(kind), least);

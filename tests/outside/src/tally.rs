@@ -56,6 +56,7 @@ pub struct Tally {
     numbers: BTreeMap<(Call, u64), u64>,
     verdicts: BTreeMap<u64, u64>,
     refined: BTreeMap<&'static str, u64>,
+    common: BTreeMap<u64, u64>,
 }
 
 impl Tally {
@@ -64,6 +65,11 @@ impl Tally {
         if verdict != NONE {
             *self.verdicts.entry(verdict).or_default() += 1;
         }
+    }
+
+    /// A common part that was asked for by hand.
+    pub fn asked_common(&mut self, number: u64) {
+        *self.common.entry(number).or_default() += 1;
     }
 
     /// A place that was compared.
@@ -82,6 +88,7 @@ impl Tally {
         other.numbers.iter().for_each(|(&met, times)| *self.numbers.entry(met).or_default() += times);
         other.verdicts.iter().for_each(|(&met, times)| *self.verdicts.entry(met).or_default() += times);
         other.refined.iter().for_each(|(&met, times)| *self.refined.entry(met).or_default() += times);
+        other.common.iter().for_each(|(&met, times)| *self.common.entry(met).or_default() += times);
     }
 
     /// How often a call gave a number.
@@ -99,7 +106,12 @@ impl Tally {
         self.refined.get(kind).copied().unwrap_or(0)
     }
 
-    /// The answers by call and number, and by verdict, and the places that were refined.
+    /// How often a common part asked for by hand was given a number.
+    pub fn met_common(&self, number: u64) -> u64 {
+        self.common.get(&number).copied().unwrap_or(0)
+    }
+
+    /// The answers by call and number, for the common part by hand too, and by verdict, and the places that were refined.
     pub fn answers(&self) -> String {
         let mut text = String::from("answers");
         let mut last = None;
@@ -111,6 +123,8 @@ impl Tally {
         }
         text += "\n  verdicts";
         self.verdicts.iter().for_each(|(verdict, times)| text += &format!("  {verdict}: {times}"));
+        text += "\n  a common part by hand";
+        self.common.iter().for_each(|(number, times)| text += &format!("  {number}: {times}"));
         text += "\n  refined by";
         self.refined.iter().for_each(|(kind, times)| text += &format!("  {kind}: {times}"));
         text

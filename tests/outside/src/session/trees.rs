@@ -85,7 +85,11 @@ impl Session {
             Call::Refine,
             |tree, table| stack.make(Call::Refine, || calls::refine(tree, table, place, what, fault)),
             |tree, table| refine_by_hand(table, tree, place, act),
-        )
+        )?;
+        if act == Act::Common {
+            self.tally.asked_common(self.answer().number);
+        }
+        Ok(())
     }
 
     pub(super) fn make_run(&mut self, allowance: u64, budget: u64) -> Outcome {
