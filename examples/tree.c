@@ -126,10 +126,22 @@ static void print_heading(unsigned cue, CueAnswer a)
 
 static void print_kind(const CueNode *n)
 {
-    if (n->kind == CUE_SHANNON) {
-        printf("fault %" PRIu64, n->fault);
-    } else {
-        fputs(n->kind != CUE_LEAF ? "independence" : n->live ? "open leaf" : "closed leaf", stdout);
+    switch (n->kind) {
+    case CUE_SHANNON: printf("fault %" PRIu64, n->fault); break;
+    case CUE_INDEPENDENT_OR: printf("independence"); break;
+    case CUE_INDEPENDENT_AND: printf("common part"); break;
+    default: printf(n->live ? "open leaf" : "closed leaf");
+    }
+}
+
+/* The class of its box, which has the colour. */
+static const char *class_of(const CueNode *n)
+{
+    switch (n->kind) {
+    case CUE_SHANNON: return "fault";
+    case CUE_INDEPENDENT_OR: return "apart";
+    case CUE_INDEPENDENT_AND: return "common";
+    default: return n->live ? "open" : "closed";
     }
 }
 
@@ -153,7 +165,7 @@ static const char style[] =
     ".present,.absent{font:italic 10.5px sans-serif;fill:#44546a}.present{text-anchor:start}.absent{text-anchor:end}\n"
     "path{fill:none;stroke:#8a94a0;shape-rendering:crispEdges}rect{fill:#fff}\n"
     ".fault rect{fill:#e6effa;stroke:#38679c}.apart rect{fill:#e7f4e6;stroke:#3a7d44}\n"
-    ".closed rect{fill:#f5f5f5;stroke:#8a8a8a}\n"
+    ".common rect{fill:#f2e8f9;stroke:#77479c}.closed rect{fill:#f5f5f5;stroke:#8a8a8a}\n"
     ".open rect{fill:#fff0cc;stroke:#b86e00;stroke-width:2;stroke-dasharray:5 3}</style>\n";
 
 /* The height of the boxes of a level: what was done, low, high and the lines of the path. */
@@ -178,8 +190,7 @@ static void draw_node(int x, size_t i)
 {
     const CueNode *n = &tree.nodes[i];
     int y = top[seats[i].depth], middle = x + seats[i].middle;
-    const char *leaf = n->live ? "open" : "closed", *inner = n->kind == CUE_SHANNON ? "fault" : "apart";
-    printf("<g class=\"%s\">", n->kind == CUE_LEAF ? leaf : inner);
+    printf("<g class=\"%s\">", class_of(n));
     printf("<rect x=\"%d\" y=\"%d\" width=\"%d\" height=\"%d\" rx=\"6\"/><text class=\"kind\" x=\"%d\" y=\"%d\">",
            middle - BOX / 2, y, BOX, box_height(seats[i].depth), middle, y + LINE + 1);
     print_kind(n);

@@ -31,7 +31,8 @@ cc $strict tests/picture/wellformed.c -o "$built/wellformed"
 shown() {
     sed -n 's/^<g class="\([a-z]*\)">/\1/p' "$1" | sed 's/<[^>]*>/|/g; s/||*/|/g; s/|$//' | awk -F'|' '
         $1 == "open" && $2 == "open leaf" || $1 == "closed" && $2 == "closed leaf" || $1 == "fault" && $2 ~ /^fault / ||
-        $1 == "apart" && $2 == "independence" { path = ""; for (i = 5; i <= NF; i++) path = path $i; print path, $2, $3, $4 }' | sort
+        $1 == "apart" && $2 == "independence" || $1 == "common" && $2 == "common part" {
+            path = ""; for (i = 5; i <= NF; i++) path = path $i; print path, $2, $3, $4 }' | sort
 }
 
 # No two boxes of a page on one level overlap, and every node but the root has its line.
@@ -88,6 +89,21 @@ headed "Cue 12: about 77469685 billionths, 77396690 to 77542680, after 8 refinem
 cmp "$built/page.svg" docs/finale.svg
 headed "Cue 12: about 76586114 billionths, 75598492 to 77573737, after 6 refinements, met" samples/near.sheet 12 20
 
+# How many boxes of the last page are common parts. Usage: common_parts COUNT.
+common_parts() {
+    [ "$(grep -c '^<g class="common">' "$built/page.svg")" = "$1" ] || fail "not $1 common parts"
+}
+
+# The cues whose ways have faults in common, as samples/README.md tells them: all but cue 5 take them out first.
+for cue in 1 2 3 4 5 6 7 8; do
+    for budget in 0 1 2 255; do
+        drawn samples/common.sheet $cue $budget
+    done
+    common_parts $((cue != 5))
+done
+headed "Cue 6: about 533333333 billionths, 533333332 to 533333334, after 2 refinements, done" samples/common.sheet 6 255
+headed "Cue 8: about 281250000 billionths, 250000000 to 312500000, after 2 refinements, spent" samples/common.sheet 8 2
+
 # Five faults of 0.5 in a row, each two neighbours a way: of the 32 combinations 19 have two neighbours. With an allowance of 0.1
 # fewer refinements are made.
 sheet 100000000 5 500000000 3 6 12 24 > "$built/five.sheet"
@@ -114,6 +130,17 @@ for ((i = 0; i < 64; i++)); do
 done
 sheet 0 64 500000000 "${singles[@]}" > "$built/singles.sheet"
 drawn "$built/singles.sheet" 9 255
+[ "$(cut -d' ' -f1 "$built/nodes.txt" | awk 'length > n { n = length } END { print n }')" = 63 ] || fail "the paths are short"
+
+# Way k, up to 30, has the faults 0 to k and 31 + k, the last two have 0 to 30 and 62 or 63: the common part and independence in turn.
+nested=()
+for ((k = 0; k < 31; k++)); do
+    nested+=($(((2 << k) - 1 | 1 << 31 + k)))
+done
+nested+=($(((1 << 31) - 1 | 1 << 62)) $(((1 << 31) - 1 | 1 << 63)))
+sheet 0 64 900000000 "${nested[@]}" > "$built/nested.sheet"
+drawn "$built/nested.sheet" 9 255
+common_parts 31
 [ "$(cut -d' ' -f1 "$built/nodes.txt" | awk 'length > n { n = length } END { print n }')" = 63 ] || fail "the paths are short"
 
 # Pages that are not well-formed: cut short, a tag gone, a quote gone, a mark in the text, an attribute twice, two elements.

@@ -30,6 +30,7 @@ static void print_node(size_t i)
     case 1: printf(n->live == 1 ? "open leaf" : "closed leaf"); break;
     case 2: printf("independence"); break;
     case 3: printf("fault %" PRIu64, n->fault); break;
+    case 4: printf("common part"); break;
     default: printf("kind %" PRIu64, n->kind);
     }
     printf(" %" PRIu64 " %" PRIu64 "\n", n->low, n->high);
