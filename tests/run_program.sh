@@ -1,6 +1,6 @@
 #!/bin/bash
 # Compares the built programs with the reference, byte for byte, in a stack of 2 MiB. The report: seeded sheets, sound and damaged ones,
-# every beginning of three sheets, and inputs of 0 to 60,000 bytes that are no sheets. Import and export: the typed and the stored texts,
+# every beginning of four sheets, and inputs of 0 to 60,000 bytes that are no sheets. Import and export: the typed and the stored texts,
 # every beginning of the show, seeded texts and sheets, sound and damaged ones, both ways, and the longest of all. Weights: the typed logs
 # and seeded lists of logs, each in two orders. Then inputs of other kinds, the README's line that puts a text right, and logs of billions
 # of packets. Usage: tests/run_program.sh [COUNT [ROUNDS [LISTS]]]; COUNT is the number of seeded sheets for the report, ROUNDS that of

@@ -3,6 +3,7 @@
 //! the same. The input that fails is left in the file FAILED.
 
 use reference::child::{written, Written};
+use reference::common::repeater;
 use reference::distances::{self, Case};
 use reference::files::stored;
 use reference::paper::{done_and_full, ring, whole_sheet};
@@ -127,6 +128,9 @@ fn main() -> io::Result<()> {
         "redundant",
         &stored("samples/redundant.sheet"),
     )?;
+    cut(&mut program, "common", &stored("samples/common.sheet"))?;
+    let repeater = encode(&of_one_cue(repeater(), 255));
+    program.check("a repeater in 128 ways", &repeater)?;
     for (name, sheet, text) in distances::cases().into_iter().map(Case::printed) {
         let bytes = encode(&sheet);
         assert_eq!(report(&bytes), text, "{name}");
