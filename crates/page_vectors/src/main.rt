@@ -159,7 +159,7 @@ fn paper() {
     open(&weights, &present, &absent, &mut tree);
     // 0: the root leaf, from 250000000 to 350000000.
     print(widest_of(loaded(&tree)));
-    // 1: by fault 0; the left child has {1} {2}, from 600000000 to 700000000, and the right one no way left.
+    // 2: fault 0 is common; the left child has it alone, the right one {1} {2}, from 600000000 to 700000000.
     grown(&weights, &present, &absent, &mut tree);
     // none: by independence; both new leaves have one way.
     grown(&weights, &present, &absent, &mut tree);
