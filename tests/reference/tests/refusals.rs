@@ -178,10 +178,21 @@ fn by_hand_18_and_20() {
     for fault in [3, 63, 64, 255, u64::MAX] {
         assert_eq!(hand(&mut tree, &[], Act::Fault(fault)), 20);
     }
+    let mut other = tree.clone();
     assert_eq!(hand(&mut tree, &[], Act::Fault(0)), 0);
     assert_eq!(hand(&mut tree, &[1], Act::Fault(0)), 18, "no ways remain");
+    assert_eq!(hand(&mut tree, &[1], Act::Common), 18);
     assert_eq!(hand(&mut tree, &[0], Act::Fault(0)), 20, "fault 0 is fixed");
+    assert_eq!(hand(&mut tree, &[0], Act::Common), 20, "{{1}} {{2}}");
     assert_eq!(hand(&mut tree, &[0], Act::Independence), 0);
+    assert_eq!(hand(&mut other, &[], Act::Common), 0);
+    assert_eq!(hand(&mut other, &[0], Act::Common), 18, "one way");
+    assert_eq!(
+        hand(&mut other, &[1], Act::Fault(0)),
+        20,
+        "fault 0 is taken out"
+    );
+    assert_eq!(hand(&mut other, &[1], Act::Common), 20);
 }
 
 /// A tree with all 255 refinements, an open leaf and a closed one.
@@ -222,6 +233,10 @@ fn by_hand_19() {
         refine_by_hand(&table, &mut tree, &[], Act::Fault(64)),
         Answer::refused(17)
     );
+    for (place, number) in [(&open.place[..], 19), (&closed.place, 18), (&[], 17)] {
+        let answer = refine_by_hand(&table, &mut tree, place, Act::Common);
+        assert_eq!(answer, Answer::refused(number));
+    }
     assert_eq!(tree, before);
 }
 
