@@ -3,6 +3,7 @@
 //! All of it for weights that 9 and 10 accept.
 
 use crate::S;
+use std::collections::BTreeSet;
 
 /// A way with its number in the table and the faults it still names.
 #[derive(Clone, Copy, Debug, PartialEq, Eq)]
@@ -26,6 +27,13 @@ impl Way {
     pub fn says(&self, fault: usize, present: bool) -> bool {
         let word = if present { self.present } else { self.absent };
         fault < 64 && word >> fault & 1 == 1
+    }
+
+    /// What it names: each fault, and whether it is present.
+    pub fn named(&self) -> BTreeSet<(usize, bool)> {
+        let each = (0..64).flat_map(|fault| [(fault, true), (fault, false)]);
+        each.filter(|&(fault, present)| self.says(fault, present))
+            .collect()
     }
 
     /// The way that names these faults, each present or absent, and no other.

@@ -1,5 +1,5 @@
-//! The common part taken out: E1 to E8 with what stands at each place, the sheet that has them as cues, the request's words
-//! held to every place of random trees, and a count over all assignments beside trees of all three kinds.
+//! The common part taken out: E1 to E8 with what stands at each place, the sheet that has them as cues, every place of random
+//! trees held to the words of the rules, and a count over all assignments beside trees of all three kinds.
 
 use reference::common::{cases, nested, only_out_differs, repeater, sheet, ways_of, PRINTED};
 use reference::files::{stored, stored_text};
@@ -9,7 +9,7 @@ use reference::random::Random;
 use reference::report::{enclosing_lines, report};
 use reference::run::{pick, run};
 use reference::scripts::{any_call, mostly_open, Call};
-use reference::sheet::{cue_table, encode};
+use reference::sheet::{encode, of_one_cue};
 use reference::table::{Count, MOST_COUNTED};
 use reference::tree::{common, open, refine_by_hand, split, Entry, State};
 use reference::vectors::make;
@@ -19,19 +19,9 @@ use std::collections::{BTreeMap, BTreeSet};
 /// What a way names: a fault, and whether it is present.
 type Named = BTreeSet<(usize, bool)>;
 
-fn named(way: &Way) -> Named {
-    let word = |word: u64, present| {
-        let faults = (0..64).filter(move |fault| word >> fault & 1 == 1);
-        faults.map(move |fault| (fault, present))
-    };
-    word(way.present, true)
-        .chain(word(way.absent, false))
-        .collect()
-}
-
 /// What all ways name in the same sense: what the first names, less what any other does not.
 fn in_all(ways: &[Way]) -> Named {
-    let mut sets = ways.iter().map(named);
+    let mut sets = ways.iter().map(Way::named);
     let first = sets.next().unwrap_or_default();
     sets.fold(first, |part, set| &part & &set)
 }
@@ -92,30 +82,42 @@ fn the_stored_sheet_has_them_as_cues() {
     assert!(stored_text("samples/README.md").contains(PRINTED));
 }
 
-/// The sheet has more faults than are counted; each cue names few of them.
+/// The sheet has more faults than are counted, so that each cue stands here alone.
 #[test]
 fn each_line_encloses_the_count_over_the_cues_own_faults() {
-    let sheet = sheet();
-    for (position, case) in cases().into_iter().enumerate() {
+    for (case, line) in cases().into_iter().zip(PRINTED.lines().skip(1)) {
         let (name, table, ..) = case.figures;
-        let alone = reference::sheet::of_one_cue(table.clone(), 255);
-        let line = PRINTED.lines().nth(position + 1).expect("a line a cue");
-        let (_, rest) = line.split_once(' ').expect("a cue's number");
-        let text = format!("cue low high steps verdict\n1 {rest}\n");
-        let bytes = encode(&alone);
+        let (_, figures) = line.split_once(' ').expect("a cue's number");
+        let text = format!("cue low high steps verdict\n1 {figures}\n");
+        let bytes = encode(&of_one_cue(table, 255));
         assert_eq!(report(&bytes), text, "{name}");
         assert_eq!(enclosing_lines(&bytes, &text), Ok(1), "{name}");
-        let ways = cue_table(&sheet, position).expect("a cue").present.len();
-        assert_eq!(ways, table.present.len(), "{name}");
     }
 }
 
-/// Every refined place of the tree is what the words of the rules say of its kind.
+/// The faults fixed on the path to a place.
+fn fixed(entries: &BTreeMap<Vec<u8>, Entry>, place: &[u8]) -> BTreeSet<usize> {
+    let above = (0..place.len()).map(|steps| entries[&place[..steps]].state);
+    let by_fault = above.filter_map(|state| match state {
+        State::Refined(Act::Fault(fault)) => Some(fault as usize),
+        _ => None,
+    });
+    by_fault.collect()
+}
+
+/// Every refined place of the tree is what the words of the rules say of its kind, and at every place a way names what it
+/// names in the table, without the faults fixed or taken out on the path.
 fn assert_as_written(table: &Table, tree: &Tree, kinds: &mut BTreeMap<&'static str, u64>) {
     let entries = by_place(table, tree);
     for (place, entry) in &entries {
         let part = in_all(&entry.ways);
         assert_eq!(common(&entry.ways).into_iter().collect::<Named>(), part);
+        let dropped = &fixed(&entries, place) | &entry.out;
+        for way in &entry.ways {
+            let mut told = table.way(way.number).expect("a way").named();
+            told.retain(|(fault, _)| !dropped.contains(fault));
+            assert_eq!(way.named(), told, "{entry:?} of {table:?}");
+        }
         let State::Refined(act) = entry.state else {
             continue;
         };
@@ -125,7 +127,7 @@ fn assert_as_written(table: &Table, tree: &Tree, kinds: &mut BTreeMap<&'static s
         assert!(own.low <= low && high <= own.high);
         let named_at = |entry: &Entry| -> Vec<(usize, Named)> {
             let ways = entry.ways.iter();
-            ways.map(|way| (way.number, named(way))).collect()
+            ways.map(|way| (way.number, way.named())).collect()
         };
         match act {
             Act::Common => {
@@ -137,15 +139,15 @@ fn assert_as_written(table: &Table, tree: &Tree, kinds: &mut BTreeMap<&'static s
                 let without = named_at(entry).into_iter();
                 let without = without.map(|(number, set)| (number, &set - &part));
                 assert_eq!(named_at(&right), without.collect::<Vec<_>>());
-                // What is left out of the ways on the path: what each child lacks that its ways had here.
-                let first = faults(&(&named(&entry.ways[0]) - &part));
+                // Taken out is what a child's ways named here and name no more.
+                let first = faults(&(&entry.ways[0].named() - &part));
                 assert_eq!(left.out, &entry.out | &first);
                 assert_eq!(right.out, &entry.out | &faults(&part));
                 // Nothing is left in common, no way is empty, and none says nothing new.
                 assert!(in_all(&right.ways).is_empty());
                 assert!(right.ways.iter().all(|way| !way.is_empty()));
                 assert_eq!(right.ways, right.before);
-                // Rounded in both directions, less than one billionth more than the products.
+                // The product of the ends, the low one rounded down and the high one up, within the node's own interval.
                 let (l, r) = (left.interval, right.interval);
                 let product = |a: u64, b: u64| u128::from(a) * u128::from(b);
                 let combined_low = (product(l.low, r.low) / u128::from(S)) as u64;
@@ -198,8 +200,14 @@ fn every_place_is_as_the_rules_word_it() {
     );
 }
 
-/// For tables of up to 12 faults, at every place after every call; and at a node whose common part was taken out, the sum
-/// of its own ways is the product of its children's, the weights of all other faults apart.
+/// Whether some way happens in an assignment: bit i says that fault i is present.
+fn happens(ways: &[Way], assignment: u64) -> bool {
+    let so = |way: &Way| way.present & !assignment == 0 && way.absent & assignment == 0;
+    ways.iter().any(so)
+}
+
+/// For tables of up to 12 faults, at every place after every call. Where the common part was taken out, a node's ways happen
+/// in just those assignments in which both children's do, and the children share no fault.
 #[test]
 fn every_place_encloses_the_count_over_all_assignments() {
     let mut random = Random::new(42);
@@ -229,15 +237,11 @@ fn every_place_encloses_the_count_over_all_assignments() {
                 }
                 refined += 1;
                 let [left, right] = [0, 1].map(|step| below(&entries, place, step).ways);
-                let both: Vec<Way> = right
-                    .iter()
-                    .map(|way| Way {
-                        number: way.number,
-                        present: way.present | left[0].present,
-                        absent: way.absent | left[0].absent,
-                    })
-                    .collect();
-                assert_eq!(both, entry.ways);
+                for assignment in 0..1 << table.faults() {
+                    let both = happens(&left, assignment) && happens(&right, assignment);
+                    assert_eq!(happens(&entry.ways, assignment), both, "{table:?}");
+                }
+                assert!(right.iter().all(|way| way.faults() & left[0].faults() == 0));
             }
         }
     }

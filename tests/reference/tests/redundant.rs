@@ -10,27 +10,15 @@ use reference::sheet::encode;
 use reference::table::Count;
 use reference::tree::{open, State};
 use reference::Table;
-use std::collections::BTreeSet;
 
 fn numbers(ways: &[Way]) -> Vec<usize> {
     ways.iter().map(|way| way.number).collect()
 }
 
-/// A way as the set of what it names: a fault, and whether it is present.
-fn named(way: &Way) -> BTreeSet<(usize, bool)> {
-    let word = |word: u64, present| {
-        let faults = (0..64).filter(move |fault| word >> fault & 1 == 1);
-        faults.map(move |fault| (fault, present))
-    };
-    word(way.present, true)
-        .chain(word(way.absent, false))
-        .collect()
-}
-
 /// For each pair of ways: the one that names every fault of the other, in the same sense, is left out; of equal ways the
 /// higher numbered.
 fn pairwise(ways: &[Way]) -> Vec<Way> {
-    let sets: Vec<_> = ways.iter().map(named).collect();
+    let sets: Vec<_> = ways.iter().map(Way::named).collect();
     let left_out = |i: usize| {
         (0..ways.len()).any(|j| match sets[i] == sets[j] {
             true => ways[j].number < ways[i].number,
