@@ -29,10 +29,10 @@
  * RECORDS
  * Record 0 holds the root, records 2k - 1 and 2k the left and the right child of the k-th refinement that was made; so
  * `used` is 1 + 2 * refinements, and all records behind are blank, all zero. A way of a node names what it names in the
- * table, without the faults that are fixed or taken out there. Of a node refined by the common part the left child has
- * the lowest numbered way alone, and all that this way names besides is taken out; the right child has all ways, and
- * the common part is taken out. Every other child has out as its parent has it. The record of an inner node keeps the
- * ways, the faults fixed and taken out and the own interval of the leaf that it was; low and high are the overlap of
+ * table, without the faults that are fixed or left out there. Of a node refined by the common part the left child has
+ * the lowest numbered way alone, and all that this way names besides is left out; the right child has all ways, and
+ * the common part is left out. Every other child has out as its parent has it. The record of an inner node keeps the
+ * ways, the faults fixed and left out and the own interval of the leaf that it was; low and high are the overlap of
  * that interval with what the children combine to, and live is 0. Refusal 16 accepts this order and these figures
  * alone: read records, do not write them. A tree has no pointers; it may be copied, stored and lent again, with its
  * table.
@@ -149,7 +149,7 @@ typedef struct CueNode {
     uint64_t waysb;   /* bit i: way 64 + i stays */
     uint64_t present; /* bit f: fault f is fixed present on the path here */
     uint64_t absent;  /* bit f: fixed absent */
-    uint64_t out;     /* bit f: fault f is taken out of the ways on the path here */
+    uint64_t out;     /* bit f: fault f is left out of the ways on the path here */
     uint64_t low;     /* the node's interval */
     uint64_t high;
     uint64_t ownlow;  /* its interval as a leaf */
