@@ -296,8 +296,7 @@ impl Situation {
     fn children(&self, act: Act) -> Option<(Situation, Situation)> {
         match act {
             Act::Independence => {
-                let (left, _) = split(&self.ways)?;
-                let (left, right) = self.ways.iter().partition(|way| left.contains(&way.number));
+                let (left, right) = groups(&self.ways)?;
                 Some((self.child(left), self.child(right)))
             }
             Act::Common => {
@@ -364,10 +363,15 @@ fn without(way: Way, fixed: &(usize, bool)) -> Option<Way> {
     })
 }
 
-/// The numbers of the ways grouped with the first, and of all others; none if the ways
-/// hang together. Faults named by one way are united, so ways are in one group just when
-/// their faults have one head. An empty way shares no fault and is a group of its own.
+/// The numbers of the ways grouped with the first, and of all others; none if the ways hang together.
 pub fn split(ways: &[Way]) -> Option<(Vec<usize>, Vec<usize>)> {
+    let (left, right) = groups(ways)?;
+    Some((numbers(&left), numbers(&right)))
+}
+
+/// The ways grouped with the first, and all others; none if the ways hang together. Faults named by one way are united,
+/// so ways are in one group just when their faults have one head. An empty way shares no fault and is a group of its own.
+fn groups(ways: &[Way]) -> Option<(Vec<Way>, Vec<Way>)> {
     let mut above: Vec<usize> = (0..64).collect();
     fn head(above: &[usize], fault: usize) -> usize {
         if above[fault] == fault {
@@ -376,24 +380,23 @@ pub fn split(ways: &[Way]) -> Option<(Vec<usize>, Vec<usize>)> {
             head(above, above[fault])
         }
     }
-    let named = |way: &Way| {
-        (0..64)
-            .filter(|&fault| way.names(fault))
-            .collect::<Vec<_>>()
-    };
     for way in ways {
-        for pair in named(way).windows(2) {
+        let named: Vec<usize> = (0..64).filter(|&fault| way.names(fault)).collect();
+        for pair in named.windows(2) {
             let (a, b) = (head(&above, pair[0]), head(&above, pair[1]));
             above[a.max(b)] = a.min(b);
         }
     }
-    let group = |way: &Way| named(way).first().map(|&fault| head(&above, fault));
-    let first = ways.first()?;
-    let with_first = |way: &Way| {
-        way.number == first.number || (group(way).is_some() && group(way) == group(first))
+    let group = |way: &Way| {
+        let lowest = (0..64).find(|&fault| way.names(fault));
+        lowest.map(|fault| head(&above, fault))
     };
+    let first = ways.first()?;
+    let of_first = group(first);
+    let with_first =
+        |way: &Way| way.number == first.number || (of_first.is_some() && group(way) == of_first);
     let (left, right): (Vec<Way>, Vec<Way>) = ways.iter().partition(|way| with_first(way));
-    (!right.is_empty()).then(|| (numbers(&left), numbers(&right)))
+    (!right.is_empty()).then_some((left, right))
 }
 
 fn numbers(ways: &[Way]) -> Vec<usize> {
