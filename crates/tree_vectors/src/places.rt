@@ -15,7 +15,7 @@ const LAST: usize = RECORDS - 1;
 /// The most records that wait: one more than were printed.
 const WAITING: usize = RECORDS + 1;
 
-/// Prints what stands at a place: leaf, independence or fault as 1, 2, 3, the fault, 1 for an open leaf, and the interval.
+/// Prints what stands at a place: leaf, independence, fault or common part as 1, 2, 3, 4, the fault, 1 for an open leaf, and the interval.
 fn print_place(n: Node) {
     print_field(n.kind, b' ');
     print_field(n.fault, b' ');

@@ -64,7 +64,7 @@ impl Table<'_> {
     }
 }
 
-/// The ways of a leaf: those of a table with these numbers, less the faults fixed present, fixed absent and taken out.
+/// The ways of a leaf: those of a table with these numbers, less the faults fixed present, fixed absent and left out.
 #[derive(Clone, Copy)]
 pub struct Clauses {
     pub set: [u64; 2],
@@ -135,7 +135,7 @@ impl Clauses {
         }
     }
 
-    /// The same numbers with more faults taken out.
+    /// The same numbers with more faults left out.
     pub fn without(self, faults: u64) -> Clauses {
         Clauses {
             out: self.out | faults,

@@ -162,6 +162,17 @@ pub fn families() -> Vec<(&'static str, Shape)> {
         (
             "common",
             Shape {
+                ways: 12,
+                named: (1, 2),
+                common: 4,
+                allowance: 0,
+                budget: 255,
+                ..typical
+            },
+        ),
+        (
+            "largest, common",
+            Shape {
                 common: 1,
                 ..largest
             },

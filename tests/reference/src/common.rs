@@ -1,6 +1,6 @@
 //! The common part taken out: tables E1 to E8 with figures typed by hand, each of which some wrong reading gets wrong, what
 //! stands at each place then, and the sheet that has them as its cues; a path of 64 steps with many common parts; trees that
-//! only the faults taken out give away; and trees of tables with common parts, drawn at random.
+//! only the faults left out give away; and trees of tables with common parts, drawn at random.
 
 use crate::figures::Figures;
 use crate::leaf::Way;
@@ -29,7 +29,7 @@ pub const PRINTED: &str = "cue low high steps verdict
 ";
 
 /// A place below the root: its remaining ways, each by number with what it names (f present, !f absent), and the faults
-/// taken out on the path.
+/// left out on the path.
 pub type Below = (
     &'static [u8],
     &'static [(usize, &'static [i64])],
@@ -213,7 +213,7 @@ pub fn deep() -> Script {
     told(nested(), &calls)
 }
 
-/// Two tables that give a tree the same places, sets of ways and intervals, but not the same faults taken out: of a fault
+/// Two tables that give a tree the same places, sets of ways and intervals, but not the same faults left out: of a fault
 /// that is certain it makes no difference to any figure whether a way names it.
 pub fn only_out_differs() -> [(Table, Table); 2] {
     let table = |ways: &[&[i64]]| Table::of(&[H, H, S as u32, H], ways);
@@ -247,11 +247,11 @@ pub fn handed_on() -> Vec<Script> {
         .collect()
 }
 
-/// The field of a record that has the faults taken out.
+/// The field of a record that has the faults left out.
 pub const OUT: u64 = 9;
 
-/// A record with a fault more taken out, where every figure is the same: a table whose root is refined by the common part,
-/// the record, its own faults taken out and the wrong ones.
+/// A record with a fault more left out, where every figure is the same: a table whose root is refined by the common part,
+/// the record, its own faults left out and the wrong ones.
 pub type Stored = (Table, u64, u64, u64);
 
 /// A fault that none of the record's ways names: way 0 on the left does not name fault 2, no way names fault 3 or 63.

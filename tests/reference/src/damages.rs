@@ -6,10 +6,10 @@
 //! - a parent: the root's is 0, and a child has its sibling's;
 //! - a kind: as many nodes are inner as there are pairs of children, so one that is a leaf stays
 //!   one; by a fault the left child has one fault more fixed than the node, by the common part the
-//!   right child has more faults taken out, by independence neither;
+//!   right child has more faults left out, by independence neither;
 //! - a fault: the one that the left child has fixed more, else 0;
 //! - a left link: the pair of children whose parent this record is, else 0;
-//! - ways, fixed faults and faults taken out: by those of the parent, what was done there and the
+//! - ways, fixed faults and faults left out: by those of the parent, what was done there and the
 //!   table, which gives the root's;
 //! - the own interval, and whether a leaf is open: by the table and the ways;
 //! - the interval: by the own one, what was done and the children's.

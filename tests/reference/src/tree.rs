@@ -23,7 +23,7 @@ pub enum State {
 }
 
 /// A place as the steps from the root, 0 left and 1 right, with what was done there, its interval, its remaining ways,
-/// those that remained before any was left out, and the faults taken out of the ways on the path.
+/// those that remained before any was left out, and the faults left out of the ways on the path.
 #[derive(Clone, Debug, PartialEq, Eq)]
 pub struct Entry {
     pub place: Vec<u8>,
@@ -35,7 +35,7 @@ pub struct Entry {
 }
 
 /// What a node has: the ways it is handed, with what they still name, those of them that stay, which are its remaining
-/// ways, and the faults taken out on the path.
+/// ways, and the faults left out on the path.
 #[derive(Clone, Debug)]
 struct Situation {
     before: Vec<Way>,
@@ -154,7 +154,7 @@ impl Tree {
     }
 
     /// Whether refusal 16 does not apply: some accepted refinements from this table's root
-    /// leaf give the same places, acts, sets, faults taken out and intervals, each node's own as a leaf too.
+    /// leaf give the same places, acts, sets, faults left out and intervals, each node's own as a leaf too.
     /// With the table the tree was grown by there is nothing to ask; with another, its
     /// refinements are made again.
     pub fn belongs_to(&self, table: &Table) -> bool {

@@ -106,7 +106,7 @@ fn fixed(entries: &BTreeMap<Vec<u8>, Entry>, place: &[u8]) -> BTreeSet<usize> {
 }
 
 /// Every refined place of the tree is what the words of the rules say of its kind, and at every place a way names what it
-/// names in the table, without the faults fixed or taken out on the path.
+/// names in the table, without the faults fixed or left out on the path.
 fn assert_as_written(table: &Table, tree: &Tree, kinds: &mut BTreeMap<&'static str, u64>) {
     let entries = by_place(table, tree);
     for (place, entry) in &entries {
@@ -331,7 +331,7 @@ fn the_largest_table_with_a_common_part_takes_all_refinements() {
     assert!(answer.low < answer.high && answer.high <= u64::from(THIRD / 3));
 }
 
-/// 16 looks at the faults taken out too: all else that a tree has is the same by both tables.
+/// 16 looks at the faults left out too: all else that a tree has is the same by both tables.
 #[test]
 fn a_tree_tells_which_faults_were_taken_out() {
     let but_out = |entry: &Entry| {

@@ -1,6 +1,6 @@
 //! The common part taken out: what stands below the root for E1 to E8, whose figures are among those easy to get wrong; the
 //! most levels and the largest table; calls on tables with common parts; 16 for records that tell the same ways otherwise,
-//! and for tables that only the faults taken out tell apart.
+//! and for tables that only the faults left out tell apart.
 
 use super::{make, run_told, scripts::play, tables, told_number};
 use crate::bench::Bench;
@@ -69,9 +69,9 @@ pub fn common(bench: &mut Bench) -> Outcome {
         session.make(Step::Sheet(encode(&sheet)))?;
         session.make(Step::Report(100))
     })?;
-    bench.case("a fault more taken out", |session, _| one_more_out(session))?;
+    bench.case("a fault more left out", |session, _| one_more_out(session))?;
     bench.case("the same ways told otherwise", |session, _| told_otherwise(session))?;
-    bench.case("tables that only the faults taken out tell apart", |session, _| apart_by_out(session))
+    bench.case("tables that only the faults left out tell apart", |session, _| apart_by_out(session))
 }
 
 fn drawn(random: &mut Random) -> reference::Table {
@@ -84,7 +84,7 @@ fn record_at<'a>(session: &'a Session, place: &[u8]) -> &'a Node {
     place.iter().fold(&nodes[0], |node, &step| &nodes[node.left + usize::from(step)])
 }
 
-/// The record at a place has just these ways, its faults fixed and taken out dropped from them, and has taken out these.
+/// The record at a place has just these ways, its faults fixed and left out dropped from them, and leaves out these.
 fn stands(session: &Session, &(place, ways, out): &Below) -> Outcome {
     let node = record_at(session, place);
     let numbers = u128::from(node.waysb) << 64 | u128::from(node.waysa);
@@ -95,7 +95,7 @@ fn stands(session: &Session, &(place, ways, out): &Below) -> Outcome {
     });
     must("the ways of a record", &ways_of(ways), &told.collect())?;
     let due = out.iter().fold(0u64, |word, fault| word | 1 << fault);
-    must("the faults taken out", &due, &node.out)
+    must("the faults left out", &due, &node.out)
 }
 
 /// By hand at the root, and then, as by a run alone, until it is full.
@@ -127,7 +127,7 @@ fn one_more_out(session: &mut Session) -> Outcome {
         session.opened(table)?;
         session.refine(vec![], Act::Common)?;
         let out = Field::Of { record: record as usize, number: TAKEN };
-        must("the faults taken out", &own, &session.field(out))?;
+        must("the faults left out", &own, &session.field(out))?;
         session.make(Step::Poke(out, wrong))?;
         sixteen(session)?;
     }
@@ -135,7 +135,7 @@ fn one_more_out(session: &mut Session) -> Outcome {
 }
 
 /// P4's root by the common part {0}. Left: way 1 without fault 2 is {0} too, and so is way 0 with fault 1 fixed. Right: with
-/// fault 0 fixed, or fixed and taken out, its ways are {1} and {2} too. Every figure is right, and 16 refuses each.
+/// fault 0 fixed, or fixed and left out, its ways are {1} and {2} too. Every figure is right, and 16 refuses each.
 fn told_otherwise(session: &mut Session) -> Outcome {
     let others: [(usize, &[(usize, u64)]); 4] = [
         (1, &[(WAYSA, 0b10), (TAKEN, 0b100)]),
