@@ -1,19 +1,18 @@
 -- The ways of a leaf that pass a test, kept by their numbers alone: the loop that takes the ways one by one.
 -- Said once over the test. Rests on Selected.antt and Pairs.antt, and on `rules`, Remaining, for faults dropped after others.
-use mathlib.Core.Path.{_≡_, refl, sym, ap, ap₂, _∙_}
+use mathlib.Core.Path.{_≡_, refl, sym, ap, _∙_}
 use mathlib.Core.Bool.{Bool, true, false, not, _&&_, _||_, Bool·beq}
 use mathlib.Core.List.{List, [], _∷_, map}
-use Prim.Native.Nat.{ℕ, _<_}
+use Prim.Native.Nat.{ℕ}
 use native.Mathlib.Omega.{arith}
-use lib.ListN.{length}
 use lib.Bits.{bitOr}
 use lib.Dec.{eqb}
-use borrow.Author.Tests.{eqb-true, eq-eqb}
+use borrow.Author.Tests.{eqb-true}
 use Rattle.rules.specs.declared.Way.{Way}
 use Rattle.rules.specs.Table.{bit, rows}
 use Rattle.rules.specs.Leaf.{select, contradicted, dropped, remaining}
 use Rattle.rules.specs.Group.{touches, part}
-use Rattle.rules.proofs.Booleans.{and-left, and-false, or-first, or-second}
+use Rattle.rules.proofs.Booleans.{and-left, and-false, or-second}
 use Rattle.rules.proofs.Bits.{bit-or, bits-ext}
 use Rattle.rules.proofs.Remaining.{dropped-twice}
 use Rattle.records.specs.Records.{inWords}

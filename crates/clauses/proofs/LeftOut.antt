@@ -64,7 +64,8 @@ module _ (ps qs : List ℕ) (c : Clauses) (t : Taken) (w : InTable ps qs c) (h :
     pub alone-ways : waysOf ps qs r ≡ t .way ∷ []
     unfolding waysOf n
     alone-ways =
-        ap (map (dropped (goneWord (r .gone)))) (select-first only ps qs (w .paired) (taken-there ps qs c t w h) ∙ ap (λ (vs : List Way). row ps qs n ∷ vs) none)
+        ap (map (dropped (goneWord (r .gone))))
+        (select-first only ps qs (w .paired) (taken-there ps qs c t w h) ∙ ap (λ (vs : List Way). row ps qs n ∷ vs) none)
         ∙ ap (λ (g : Gone). dropped (goneWord g) (row ps qs n) ∷ []) (one .1) ∙ ap (λ (v : Way). v ∷ []) (sym (h .way-is))
       where
         none : select (λ j. false) (rows 0 ps qs) ≡ []
@@ -74,4 +75,8 @@ module _ (ps qs : List ℕ) (c : Clauses) (t : Taken) (w : InTable ps qs c) (h :
     pub alone-within : InTable ps qs r
     unfolding n
     alone-within =
-        record { short = w .short; paired = w .paired; inside = λ i e. let q : i ≡ n = eqb-true i n (sym (one .0 i) ∙ e) in omega (arith, q, taken-there ps qs c t w h) }
+        record {
+          short = w .short;
+          paired = w .paired;
+          inside = λ i e. let q : i ≡ n = eqb-true i n (sym (one .0 i) ∙ e) in omega (arith, q, taken-there ps qs c t w h);
+        }

@@ -97,7 +97,8 @@ pub fn alone(c: Clauses, i: usize) -> Clauses
 
 /// The numbers of the first without those of the second.
 pub fn minus(c: Clauses, d: Clauses) -> Clauses
-    ensures { λ r. ⌜ ((i : ℕ) → inWords (r .waysa) (r .waysb) i ≡ inWords (c .waysa) (c .waysb) i && not (inWords (d .waysa) (d .waysb) i)) × (r .gone ≡ c .gone) ⌝ }
+    ensures { λ r. ⌜ ((i : ℕ) → inWords (r .waysa) (r .waysb) i ≡ inWords (c .waysa) (c .waysb) i && not (inWords (d .waysa) (d .waysb) i))
+        × (r .gone ≡ c .gone) ⌝ }
 {
     let gone = c.gone;
     Clauses {

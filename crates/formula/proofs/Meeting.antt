@@ -3,7 +3,7 @@
 use mathlib.Core.Path.{_≡_, refl, sym, ap, ap₂, _∙_}
 use mathlib.Core.List.{List, [], _∷_}
 use Prim.Native.Nat.{ℕ}
-use lib.Bits.{bitAnd, bitOr, and-zero-l}
+use lib.Bits.{bitOr, and-zero-l}
 use Rattle.rules.specs.declared.Way.{Way}
 use Rattle.rules.specs.Common.{meetFrom, meet, shared}
 use Rattle.rules.proofs.Bits.{or-zero}

@@ -8,13 +8,13 @@ use lib.Dec.{eqb, ltb}
 use lib.Bits.{bitAnd, bitOr, and-comm}
 use borrow.Author.Tests.{eqb-true, eq-eqb, not-false}
 use Rattle.rules.specs.Table.{bit, Way, faults}
-use Rattle.rules.specs.Leaf.{any, without, dropped, contradicted, remaining, subsumes, outdoes, redundant, Lean}
+use Rattle.rules.specs.Leaf.{any, dropped, contradicted, remaining, subsumes, outdoes, redundant, Lean}
 use Rattle.rules.specs.Group.{touches, part}
-use Rattle.rules.proofs.Booleans.{and-left, and-right, and-both, and-false, or-first, or-second, or-left, or-right, is-false, same-test}
-use Rattle.rules.proofs.Bits.{bit-zero, bit-and, bit-or, bit-without, bit-pow, bits-zero, apart-bit}
+use Rattle.rules.proofs.Booleans.{and-both, and-false, or-first, or-second, or-left, or-right, is-false, same-test}
+use Rattle.rules.proofs.Bits.{bit-zero, bit-and, bit-or, bit-pow, bits-zero, apart-bit}
 use Rattle.rules.proofs.Remaining.{meets-pow}
 use Rattle.rules.proofs.Members.{In}
-use Rattle.rules.proofs.Groups.{Subword, none-passes}
+use Rattle.rules.proofs.Groups.{none-passes}
 use Rattle.rules.proofs.Minimal.{less, drop-both, undrop, subsumes-inside, inside-subsumes, outdone, lean-none}
 
 -- ---- one fault fixed

@@ -6,7 +6,7 @@ use mathlib.Core.List.{List, [], _∷_}
 use mathlib.Core.Option.{some, Option·some-injective, Option·none-ne-some}
 use Prim.Native.Nat.{ℕ}
 use lib.ListN.{length}
-use Rattle.rules.specs.Table.{Way, Table, ways}
+use Rattle.rules.specs.Table.{Table, ways}
 use Rattle.rules.specs.Leaf.{hasNumber, remaining, redundant, minimal, Lean}
 use Rattle.rules.specs.Tree.{rootWays, possible, Side, left, right, Place, DTree, leaf, inner, Refinement}
 use Rattle.rules.specs.Tree.{tree, Node, Subtree, childNode, descend, subtree, root, series}

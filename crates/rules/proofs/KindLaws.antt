@@ -113,7 +113,8 @@ pub record Settled (n : ℕ) (vs : List Way) : Type 0 where
 -- The laws of a kind.
 pub record Laws (k : Kind) : Type 0 where
   -- Bounds on the exact sums of the children combine to a bound on the node's.
-  pub bound : (d : Dir) (ws : List ℕ) → Weights ws → (vs : List Way) → namesBeyond (length ws) vs ≡ false → namesBoth vs ≡ false → possible k vs ≡ true → (x y : ℕ)
+  pub bound : (d : Dir) (ws : List ℕ) → Weights ws → (vs : List Way) → namesBeyond (length ws) vs ≡ false → namesBoth vs ≡ false
+      → possible k vs ≡ true → (x y : ℕ)
       → Le d (x * S ^ length ws) (S * mass ws (happens (child k left vs))) → Le d (y * S ^ length ws) (S * mass ws (happens (child k right vs)))
       → Le d (combine k d ws x y * S ^ length ws) (S * mass ws (happens vs))
   -- No end moves outwards when those of the children do not.

@@ -1,6 +1,6 @@
 -- `alone` meets its contract: one number more than none.
 -- Rests on Pairs.antt and the contract of `with_number`.
-use mathlib.Core.Path.{_≡_, refl, ap, _∙_}
+use mathlib.Core.Path.{_≡_, refl, _∙_}
 use mathlib.Core.Bool.{Bool, true, false, _||_}
 use lib.Dec.{eqb}
 use borrow.Author.Needs.{needs}

@@ -1,14 +1,12 @@
 -- `staying_rows` meets its contract. The loop's invariant: the numbers kept, and those left whose ways no way of the table outdoes, are all of those.
 -- Rests on Filter.antt, Loops.antt, Rows.antt and the contracts of `whole`, `taken`, `outdone` and `with_number`.
-use mathlib.Core.Path.{refl, sym, ap, ap₂, _∙_}
+use mathlib.Core.Path.{refl, sym, ap, _∙_}
 use mathlib.Core.Bool.{Bool, true, false, not}
-use Prim.Native.Nat.{ℕ}
 use borrow.Author.Needs.{needs}
-use lib.Bits.{bitOr}
 use lib.ListN.{length}
 use Rattle.rules.specs.declared.Way.{Way}
 use Rattle.rules.specs.Table.{rows}
-use Rattle.rules.specs.Leaf.{dropped, sift, redundant, minimal}
+use Rattle.rules.specs.Leaf.{sift, redundant, minimal}
 use Rattle.clauses.specs.Leaves.{waysOf}
 use Rattle.clauses.proofs.Filter.{Sifting, begun, turn, ended}
 use Rattle.clauses.proofs.Loops.{numbered, fewer, some-left, no-more}

@@ -8,7 +8,7 @@ use borrow.Author.Needs.{needs}
 use lib.Bits.{bitOr, or-zero-l, or-zero-r}
 use Rattle.rules.specs.declared.Way.{Way}
 use Rattle.rules.specs.declared.Kind.{Kind}
-use Rattle.rules.specs.declared.Kind.the-variants.{IndependentOr, IndependentAnd, Shannon}
+use Rattle.rules.specs.declared.Kind.the-variants.{IndependentOr, Shannon}
 use Rattle.rules.specs.Leaf.{remaining, minimal}
 use Rattle.rules.specs.Group.{part, groupFaults}
 use Rattle.rules.specs.Tree.{Side, left, right, child, childFixed, childOut}

@@ -1,11 +1,10 @@
 -- `take_out` meets its contract: the left child is the first way without what it names besides the common part, the right child all ways without it.
 -- Rests on `clauses`, LeftOut and Loops, and on the contracts of what it calls.
-use mathlib.Core.Path.{_≡_, refl, sym, ap, _∙_, subst}
+use mathlib.Core.Path.{_≡_, sym, ap, _∙_, subst}
 use mathlib.Core.List.{List, []}
 use Prim.Native.Nat.{ℕ}
 use lib.Bits.{or-zero-r}
 use borrow.Author.Needs.{needs}
-use Rattle.rules.specs.declared.Way.{Way}
 use Rattle.rules.specs.declared.Kind.the-variants.{IndependentAnd}
 use Rattle.rules.specs.Table.{faults}
 use Rattle.rules.specs.Leaf.{without, dropAll}
@@ -97,7 +96,8 @@ returns-2 c =
     let w = m .before .before .before .before .before .pre in
     record {
       on-left =
-          left-part _ _ _ w _ (t .taken .ensures) _ (m .common-part .ensures) _ (a .alone .ensures) _ (c .before .before .faults-besides .ensures) _ (c .before .leaving-out .ensures);
+          left-part _ _ _ w _ (t .taken .ensures) _ (m .common-part .ensures) _ (a .alone .ensures)
+          _ (c .before .before .faults-besides .ensures) _ (c .before .leaving-out .ensures);
       on-right = right-part _ _ _ w _ (t .taken .ensures) _ (m .common-part .ensures) _ (c .leaving-out2 .ensures);
     }
 
