@@ -121,8 +121,8 @@ pub record Laws (k : Kind) : Type 0 where
   pub monotone : (d : Dir) (ws : List ℕ) (x x′ y y′ : ℕ) → Le d x x′ → Le d y y′ → Le d (combine k d ws x y) (combine k d ws x′ y′)
   -- A stable test that no way of the node passes, no way of a child passes.
   pub keeps : (h : Way → Bool) → Stable h → (b : Side) (vs : List Way) → any h vs ≡ false → any h (child k b vs) ≡ false
-  -- Some fault that occurs in a node of two ways or more, none of them empty, does not occur in a child. That nothing is left to leave out is needed:
-  -- of the ways {0} and {0} the common part would take out neither side's fault.
+  -- Some fault that occurs in a node of two ways or more, none of them empty, does not occur in a child. That the node is lean is needed for the common
+  -- part: of the ways {0} and {0} its left child would lose no fault.
   pub removes : (n : ℕ) (b : Side) (vs : List Way) → Settled n vs → any isEmpty vs ≡ false → 2 ≤ length vs → possible k vs ≡ true
       → (g : ℕ) × (g < n) × (occurs g vs ≡ true) × (occurs g (child k b vs) ≡ false)
   -- The children of a lean node are lean.

@@ -93,8 +93,8 @@ child-fewer : (k : Kind) (b : Side) (vs : List Way) → Fewer (child k b vs) vs
 unfolding occurs
 child-fewer k b vs g e = laws k .keeps (λ v. bit g (faults v)) (λ m v. unnamed-stays g m v) b vs e
 
--- A REFINEMENT REMOVES A FAULT FROM BOTH SIDES: fewer faults occur in either child. For the common part this rests on what stays (RULES 3.4): of the
--- ways {0} and {0, 1}, were both to stay, the right child would have an empty way and the left child lose no fault but 1.
+-- A REFINEMENT REMOVES A FAULT FROM BOTH SIDES: fewer faults occur in either child. For the common part this rests on what stays (RULES 3.4): were the
+-- ways {0} and {0} both to stay, the left child would lose no fault.
 pub child-less : (k : Kind) (n : ℕ) (b : Side) (ws : List ℕ) (vs : List Way) → Settled n vs → isOpen ws vs ≡ true → possible k vs ≡ true
     → span n (child k b vs) < span n vs
 child-less k n b ws vs h o p =
