@@ -9,10 +9,10 @@ use Prim.Native.Nat.{ℕ, _+_, _-_, _*_, _/_, _≤_}
 use lib.ListN.{set}
 use Rattle.rules.specs.Rounding.{S}
 use Rattle.rules.specs.Table.{Table, ways, Encloses, Near}
-use Rattle.rules.specs.Leaf.{ofSet, remaining, dropAll, minimal}
+use Rattle.rules.specs.Leaf.{minimal}
 use Rattle.rules.specs.Refusals.{tableNumber, Accepted}
 use Rattle.rules.specs.Answers.{Reply, refused, answerReply, runReply, runVerdict, runFigure}
-use Rattle.rules.specs.Tree.{left, right, Place, Subtree, subtree, kindAt, Interval, interval, intervalAt, tree, onPath}
+use Rattle.rules.specs.Tree.{left, right, Place, Subtree, subtree, remains, kindAt, Interval, interval, intervalAt, tree, onPath}
 use Rattle.rules.specs.Calls.{openAnswer, handNumber, runNumber, Call, byHand, byRun, Outcome, handed, ran, reply, placeOf}
 use Rattle.rules.specs.declared.Way.{Way}
 use Rattle.rules.specs.declared.Kind.{Kind}
@@ -38,10 +38,9 @@ pub record Certain (t : Table) (y : Tree) (r : Reply) : Type 0 where
 
 -- ---- every place of a tree that a call leaves
 
--- All ways that remain where x stands: those of its set that no fixed fault contradicts, without the fixed faults and those left out. No way is left
--- out yet.
+-- All ways of its set that remain where x stands. None is left out yet.
 abbrev pub allRemaining : Table → Subtree → List Way
-allRemaining t x = dropAll (x .node .out) (remaining (x .node .present) (x .node .absent) (ofSet (x .node .set) (ways t)))
+allRemaining t x = remains (ways t) (x .node) (x .node .set)
 
 -- What the interval i is that the records of the tree y show at place p.
 pub record Stored (t : Table) (y : Tree) (p : Place) (i : Interval) : Type 0 where

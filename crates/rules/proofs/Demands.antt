@@ -14,7 +14,7 @@ use Rattle.rules.specs.Table.{bit, Way, Table, ways, Assignment, happens
 use Rattle.rules.specs.Leaf.{dropAll, isOpen, Lean}
 use Rattle.rules.specs.Common.{shared, lowest}
 use Rattle.rules.specs.Tree.{Side, left, right, Place, DTree, possible, child, combine, inners, nodes, Refinement, refine, tree, leafAt, onPath, kindAt}
-use Rattle.rules.specs.Tree.{Subtree, subtree, root, intervalAt, Interval, interval, acceptable, series, low, high}
+use Rattle.rules.specs.Tree.{Subtree, subtree, root, remains, intervalAt, Interval, interval, acceptable, series, low, high}
 use Rattle.rules.specs.Run.{next, picks, verdict, ran}
 use Rattle.rules.specs.Refusals.{namesBoth, Accepted}
 use Rattle.rules.specs.declared.Kind.{Kind}
@@ -25,7 +25,7 @@ use Rattle.rules.specs.declared.Verdict.the-variants.{Met}
 use Rattle.rules.specs.Calls.{handNumber, runNumber, runAnswer, Call, callNumber, noted}
 use Rattle.rules.specs.Sheet.{Cue, Sheet, Lists, tableOf, Within, AllBelow, encode, listsIn, decode, readNumber, writeNumber, written}
 use Rattle.rules.proofs.Common.{InOneSense, shared-exactly, commonPart, left-common, both-happen}
-use Rattle.rules.proofs.KindLaws.{remains, Handed}
+use Rattle.rules.proofs.KindLaws.{Handed}
 use Rattle.rules.proofs.Places.{refined-kind, refined-leaves, refined-inners, nodes-inners, subtree-has, elsewhere}
 use Rattle.rules.proofs.Members.{In}
 use Rattle.rules.proofs.Series.{Same, acceptable-leaf, places-differ}

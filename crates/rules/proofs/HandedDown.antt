@@ -9,12 +9,12 @@ use lib.ListN.{length}
 use Rattle.rules.specs.Table.{Table, ways}
 use Rattle.rules.specs.Leaf.{hasNumber, remaining, redundant, minimal, Lean}
 use Rattle.rules.specs.Tree.{rootWays, possible, Side, left, right, Place, DTree, leaf, inner, Refinement}
-use Rattle.rules.specs.Tree.{tree, Node, Subtree, childNode, descend, subtree, root, series}
+use Rattle.rules.specs.Tree.{tree, Node, remains, Subtree, childNode, descend, subtree, root, series}
 use Rattle.rules.specs.Refusals.{Accepted}
 use Rattle.rules.specs.declared.Kind.{Kind}
 use Rattle.rules.proofs.Remaining.{fix-none, drop-none}
 use Rattle.rules.proofs.Sets.{Rising, ways-rising, part-told, whole-set}
-use Rattle.rules.proofs.KindLaws.{laws, Settled, remains, ByNumbers, Handed, told-rising}
+use Rattle.rules.proofs.KindLaws.{laws, Settled, ByNumbers, Handed, told-rising}
 use Rattle.rules.proofs.Settled.{child-settled, root-settled}
 use Rattle.rules.proofs.Series.{Sound, series-sound}
 

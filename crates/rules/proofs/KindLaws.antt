@@ -18,7 +18,7 @@ use Rattle.rules.specs.Table.{bit, Way, faults, Assignment, happens}
 use Rattle.rules.specs.Leaf.{any, hasNumber, ofSet, without, dropped, remaining, dropAll, sift, minimal, Lean, isEmpty}
 use Rattle.rules.specs.Group.{groupFaults, part, group, others, nonempty, fallApart}
 use Rattle.rules.specs.Common.{shared, lowest, spare}
-use Rattle.rules.specs.Tree.{Side, left, right, occurs, possible, child, combine, Node, childSet, childFixed, childOut, childNode}
+use Rattle.rules.specs.Tree.{Side, left, right, occurs, possible, child, combine, Node, remains, childSet, childFixed, childOut, childNode}
 use Rattle.rules.specs.Refusals.{namesBeyond, namesBoth}
 use Rattle.rules.specs.declared.Kind.{Kind}
 use Rattle.rules.specs.declared.Kind.the-variants.{IndependentOr, IndependentAnd, Shannon}
@@ -78,16 +78,11 @@ some-occurs n (v ∷ vs) h e o =
 
 -- ---- the laws of a kind
 
--- What remains of the table's ways with the numbers of a list, by a node's fixed faults, and without the faults that it leaves out.
-abbrev pub remains : List Way → Node → List Way → List Way
-remains all x us = dropAll (x .out) (remaining (x .present) (x .absent) (ofSet us all))
-
 -- A node's ways by their own numbers, as a record tells them, whatever the table.
 abbrev pub ByNumbers : List Way → Node → Type 0
 ByNumbers all x = remains all x (x .ways) ≡ x .ways
 
--- A node's ways by its set (RULES 3.2 to 3.5, 4.16): what stays of the table's ways in the set that no fixed fault contradicts, without the fixed faults
--- and those left out.
+-- A node's ways by its set (RULES 3.2 to 3.5, 4.16): what stays of what remains of the table's ways in the set.
 abbrev pub Handed : List Way → Node → Type 0
 Handed all x = x .ways ≡ minimal (remains all x (x .set))
 

@@ -9,7 +9,7 @@ use lib.Dec.{eqb, ltb}
 use lib.Bits.{bitOr}
 use Rattle.rules.specs.Rounding.{S, Dir, down, up, over}
 use Rattle.rules.specs.Table.{bit, Way, Table, ways, faults}
-use Rattle.rules.specs.Leaf.{any, remaining, dropAll, minimal, either, leafEnd, isOpen}
+use Rattle.rules.specs.Leaf.{any, ofSet, remaining, dropAll, minimal, either, leafEnd, isOpen}
 use Rattle.rules.specs.Group.{group, others, fallApart}
 use Rattle.rules.specs.Common.{shared, lowest, spare}
 use Rattle.rules.specs.declared.Kind.{Kind}
@@ -171,6 +171,11 @@ pub record Node : Type 0 where
   pub absent : ℕ
   pub out : ℕ
   pub ways : List Way
+
+-- What remains at a node of the ways with the numbers of a list (RULES 3.2, 4.16): those that no fixed fault contradicts, without the fixed faults and
+-- those left out.
+abbrev pub remains : List Way → Node → List Way → List Way
+remains all x us = dropAll (x .out) (remaining (x .present) (x .absent) (ofSet us all))
 
 -- A child's set, which counts by its numbers: its own ways; under a fault, what stays at its parent, so that a way left out there does not come back.
 unfoldable pub childSet : Kind → Side → List Way → List Way → List Way
