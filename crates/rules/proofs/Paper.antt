@@ -1,6 +1,6 @@
 -- The cases on paper (RULES 11): P1 to P9 as one list with one claim about the list, the runs that RULES 11.6 names, A1 to A10 on ways that
--- say nothing new (RULES 3.4), C1 to C11 on the allowance as a distance (RULES 5.7, 5.16), E1 to E8 on the common part (RULES 4.15, 4.16), and the
--- whole sheet of RULES 11.7 with its lines.
+-- say nothing new (RULES 3.4), C1 to C11 on the allowance as a distance (RULES 5.7, 5.16), E1 to E8 on the common part (RULES 4.15, 4.16), F1 to F4
+-- on the kept ways (RULES 3.10), and the whole sheet of RULES 11.7 with its lines.
 -- Each list of cases stands above the claim that settles it.
 -- The checker computes all of them from the definitions. Rests on Computing.antt, which names those.
 use mathlib.Core.Path.{_≡_, refl}
@@ -339,6 +339,38 @@ commons =
 pub commons-on-paper : AllEqual commons
 unfolding of-lists
 commons-on-paper = (refl, (refl, (refl, (refl, (refl, (refl, (refl, (refl, tt))))))))
+
+-- ---- the kept ways: F1 to F4 (RULES 11.14)
+
+-- Each table with a run, and what is stated of them.
+abbrev picks : List (Worked × Worked)
+picks =
+    -- F1: the second way is not kept, so the third may share a fault with it; were its faults taken too, the low end would be 250000000.
+    (
+      worked (table (half ∷ half ∷ half ∷ half ∷ []) (3 ∷ 6 ∷ 12 ∷ []) (0 ∷ 0 ∷ 0 ∷ [])) (run ∷ []) [],
+      answers 437500000 750000000 (ran (ended Met half half 2 half) ∷ []),
+    )
+    -- F2: the second way names absent what the first names present; were absent faults not tested, the low end would be 437500000.
+    ∷ (
+      worked (table (half ∷ half ∷ half ∷ []) (3 ∷ 4 ∷ []) (0 ∷ 2 ∷ [])) (run ∷ []) [],
+      answers quarter half (ran (ended Met half half 1 half) ∷ []),
+    )
+    -- F3: the first way names absent what the second names present; were absent faults not taken, the low end would be 437500000.
+    ∷ (
+      worked (table (half ∷ half ∷ half ∷ []) (1 ∷ 6 ∷ []) (2 ∷ 0 ∷ [])) (run ∷ []) [],
+      answers quarter half (ran (ended Met half half 1 half) ∷ []),
+    )
+    -- F4: as F1, but the way that is not kept names the first way's fault absent; were its faults taken too, the low end would be 500000000.
+    ∷ (
+      worked (table (half ∷ half ∷ half ∷ []) (2 ∷ 1 ∷ 5 ∷ []) (0 ∷ 2 ∷ 0 ∷ [])) (run ∷ []) [],
+      answers 625000000 S (ran (ended Met 750000000 750000000 3 750000000) ∷ []),
+    )
+    ∷ []
+
+-- F1 TO F4 HOLD.
+pub picks-on-paper : AllEqual picks
+unfolding of-lists
+picks-on-paper = (refl, (refl, (refl, (refl, tt))))
 
 -- ---- the whole sheet
 
