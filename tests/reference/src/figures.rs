@@ -3,6 +3,7 @@
 
 use crate::common;
 use crate::distances::{self, Case};
+use crate::kept;
 use crate::paper::{
     chain, done_and_full, equal_ways, most_named, one_division, one_pass, own_high, own_interval,
     p3, p4, p6, p7, p8, skipped, widest, with_empty_way, H,
@@ -21,8 +22,9 @@ pub fn typed() -> Vec<Figures> {
     let redundant = redundant::cases().into_iter().map(|case| case.figures);
     let distances = distances::cases().into_iter().map(Case::figures);
     let common = common::cases().into_iter().map(|case| case.figures);
-    let more = redundant.chain(distances).chain(common).collect();
-    [roots_and_widths(), stops(), more].concat()
+    let kept = kept::cases().into_iter().map(|case| case.figures);
+    let more = redundant.chain(distances).chain(common).chain(kept);
+    [roots_and_widths(), stops(), more.collect()].concat()
 }
 
 /// All of them as scripts, every place shown at the end.

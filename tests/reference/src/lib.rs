@@ -10,6 +10,7 @@ pub mod damages;
 pub mod distances;
 pub mod figures;
 pub mod files;
+pub mod kept;
 pub mod leaf;
 pub mod natural;
 pub mod orders;

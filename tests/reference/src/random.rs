@@ -5,6 +5,7 @@ use crate::run::pick;
 use crate::sheet::{encode, length, Sheet};
 use crate::tree::{common, split, Act, Entry, State};
 use crate::{Table, Tree, LONGEST_PLACE, LONGEST_SHEET, MOST_CUES, MOST_FAULTS, MOST_WAYS, S};
+use std::mem::swap;
 
 /// Splitmix64: the same seed gives the same inputs everywhere.
 #[derive(Clone, Debug)]
@@ -220,6 +221,17 @@ impl Random {
             for row in rows {
                 let way = (table.present[row], table.absent[row]);
                 (table.present[row], table.absent[row]) = naming_too(way, part);
+            }
+        }
+        table
+    }
+
+    /// A sound table of which about every other way has its senses exchanged: ways often share a fault in different senses.
+    pub fn opposed_table(&mut self, most_faults: usize, most_ways: usize) -> Table {
+        let mut table = self.table_within(most_faults, most_ways);
+        for (present, absent) in table.present.iter_mut().zip(&mut table.absent) {
+            if self.one_in(2) {
+                swap(present, absent);
             }
         }
         table

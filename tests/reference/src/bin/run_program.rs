@@ -129,6 +129,7 @@ fn main() -> io::Result<()> {
         &stored("samples/redundant.sheet"),
     )?;
     cut(&mut program, "common", &stored("samples/common.sheet"))?;
+    cut(&mut program, "kept", &stored("samples/kept.sheet"))?;
     let repeater = encode(&of_one_cue(repeater(), 255));
     program.check("a repeater in 128 ways", &repeater)?;
     for (name, sheet, text) in distances::cases().into_iter().map(Case::printed) {
