@@ -2,9 +2,8 @@
 //! most levels and the largest table; calls on tables with common parts; 16 for records that tell the same ways otherwise,
 //! and for tables that only the faults left out tell apart.
 
-use super::{make, run_told, scripts::play, tables, told_number};
+use super::{make, record_at, run_told, scripts::play, tables, told_number};
 use crate::bench::Bench;
-use crate::calls::Node;
 use crate::session::{must, Outcome, Session};
 use crate::step::{Field, Step};
 use reference::common::{
@@ -76,12 +75,6 @@ pub fn common(bench: &mut Bench) -> Outcome {
 
 fn drawn(random: &mut Random) -> reference::Table {
     mostly_open(random, |random| random.common_table(10, 14))
-}
-
-/// The record at a place, by the links.
-fn record_at<'a>(session: &'a Session, place: &[u8]) -> &'a Node {
-    let nodes = &session.records().nodes;
-    place.iter().fold(&nodes[0], |node, &step| &nodes[node.left + usize::from(step)])
 }
 
 /// The record at a place has just these ways, its faults fixed and left out dropped from them, and leaves out these.

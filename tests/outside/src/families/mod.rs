@@ -8,6 +8,7 @@ mod damage;
 mod distance;
 mod drawn;
 mod far;
+mod kept;
 mod lists;
 mod named;
 mod paper;
@@ -20,6 +21,7 @@ mod tables;
 mod writing;
 
 use crate::bench::Bench;
+use crate::calls::Node;
 use crate::session::{Outcome, Session};
 use crate::step::Step;
 use reference::random::Random;
@@ -39,12 +41,12 @@ pub struct Family {
     pub least: u64,
 }
 
-pub const FAMILIES: [Family; 29] = [
+pub const FAMILIES: [Family; 30] = [
     family("paper", paper::cases_on_paper, 113),
     family("tests", paper::run_in_the_tests, 135),
     family("wrong", named::easy_to_get_wrong, 11_400),
     family("orders", named::orders, 165),
-    family("scripts", scripts::scripts, 157_631),
+    family("scripts", scripts::scripts, 157_690),
     family("edges", tables::edges, 1400),
     family("tables", tables::tables, 47_000),
     family("refused", tables::refused, 17_000),
@@ -57,6 +59,7 @@ pub const FAMILIES: [Family; 29] = [
     family("redundant", redundant::redundant, 20_000),
     family("distance", distance::distance, 30_000),
     family("common", common::common, 34_000),
+    family("kept", kept::kept, 11_700),
     family("sheets", reading::sheets, 53_000),
     family("bytes", reading::bytes, 90_000),
     family("reports", reading::reports, 4300),
@@ -99,6 +102,12 @@ fn open_leaf(session: &Session) -> (Vec<u8>, Act) {
     let open = entries.into_iter().find(|entry| entry.state == State::Open).expect("an open leaf");
     let act = pick(&open.ways);
     (open.place, act)
+}
+
+/// The record at a place, by the links.
+fn record_at<'a>(session: &'a Session, place: &[u8]) -> &'a Node {
+    let nodes = &session.records().nodes;
+    place.iter().fold(&nodes[0], |node, &step| &nodes[node.left + usize::from(step)])
 }
 
 /// A length at an output's own, one less, or a little more, or none at all.
