@@ -62,15 +62,18 @@ fn found_by(s: Search) -> Found
     Found::Nothing
 }
 
-/// The search at another record.
+/// The search at another record. Every field is written: a copy of the whole would carry the bytes between the fields along at each step.
 fn moved(s: Search, at: usize, down: bool) -> Search
     ensures { λ r. ⌜ view r ≡ came at down (view s .best) ⌝ }
 {
-    let mut r = s;
-    r.at = at;
-    r.down = down;
-    r.over = false;
-    r
+    Search {
+        at,
+        down,
+        over: false,
+        some: s.some,
+        leaf: s.leaf,
+        width: s.width,
+    }
 }
 
 /// The search after it has entered the leaf n, which it takes if it is open and wider. A leaf that is as wide comes too late: it lies to the right.
@@ -110,9 +113,14 @@ fn onward(s: Search, n: Node, p: Node) -> Search
         return moved(s, n.left + LEFT, true);
     }
     if s.at == 0 {
-        let mut r = s;
-        r.over = true;
-        return r;
+        return Search {
+            at: s.at,
+            down: false,
+            over: true,
+            some: s.some,
+            leaf: s.leaf,
+            width: s.width,
+        };
     }
     if p.left == s.at {
         return moved(s, p.left + RIGHT, true);

@@ -1,7 +1,7 @@
 -- `onward` meets its contract: its tests are those of the definition, in the same order.
 -- Rests on the contracts of `entered` and `moved`.
-use mathlib.Core.Path.{_≡_, ap, _∙_}
-use mathlib.Core.Bool.{Bool, true, false}
+use mathlib.Core.Path.{_≡_, refl, ap, _∙_}
+use mathlib.Core.Bool.{true, false}
 use Prim.Native.Nat.{ℕ, _+_}
 use native.Mathlib.Nat.{add-zero}
 use native.Mathlib.Numerals.{add-one}
@@ -63,8 +63,7 @@ returns-3 : tie.Need-returns-3
 returns-3 c =
     let k = c .before .before in
     let a = k .before .args in
-    at-root (view (a .s)) (a .n) (a .p) (k .if1 .left) (c .if3 .taken)
-    (ap (λ (b : Bool). record { at = a .s .at; down = b; over = true; best = view (a .s) .best }) (k .if1 .left))
+    at-root (view (a .s)) (a .n) (a .p) (k .if1 .left) (c .if3 .taken) refl
 
 add-moved-2 : tie.Need-add-moved-2
 add-moved-2 c = search needs
