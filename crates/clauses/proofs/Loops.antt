@@ -1,11 +1,12 @@
 -- Loops over the ways of a leaf, which take them off one by one: one turn, the end, how many turns there are; and the words of their numbers.
 -- Rests on Selected.antt and Pairs.antt, and on `records`, Words, for the words of some ways.
-use mathlib.Core.Path.{_≡_, refl, sym, ap, _∙_}
-use mathlib.Core.Bool.{Bool, true, false, not, _&&_}
+use mathlib.Core.Path.{_≡_, refl, sym, ap, ap₂, _∙_}
+use mathlib.Core.Bool.{Bool, true, false, not, _&&_, true≢false}
 use mathlib.Core.List.{List, [], _∷_, map}
 use Prim.Native.Nat.{ℕ, _≤_, _<_, _^_}
 use native.Mathlib.Omega.{arith}
 use lib.ListN.{length, length-map}
+use lib.Bits.{bitOr}
 use lib.Dec.{eqb}
 use borrow.Author.Tests.{eqb-true, eq-eqb, not-true, not-false}
 use Rattle.rules.specs.declared.Way.{Way}
@@ -85,3 +86,13 @@ module _ (ps qs : List ℕ) (c : Clauses) where
   -- And so is the high one.
   pub high-back : InTable ps qs c → c .waysb < 2 ^ 64 → highWord (waysOf ps qs c) ≡ c .waysb
   high-back w h = same-high (lowWord (waysOf ps qs c)) (highWord (waysOf ps qs c)) (c .waysa) (c .waysb) (same-numbers w)
+
+  -- Where a number is left, there is a way with it.
+  pub some-way : InTable ps qs c → c .waysa < 2 ^ 64 → c .waysb < 2 ^ 64 → noneLeft c ≡ false → 0 < length (waysOf ps qs c)
+  unfolding lowWord highWord
+  some-way w a b h = go (waysOf ps qs c) refl
+    where
+      go : (vs : List Way) → waysOf ps qs c ≡ vs → 0 < length (waysOf ps qs c)
+      go [] e =
+          absurd (true≢false (sym (eq-eqb _ 0 (ap₂ bitOr (sym (low-back w a) ∙ ap lowWord e) (sym (high-back w b) ∙ ap highWord e))) ∙ h))
+      go (v ∷ vs) e = omega (arith, ap length e)

@@ -1,3 +1,4 @@
 -- What the contracts of this crate cite besides the definitions of `rules` and `clauses`.
 -- Rests on those.
 pub mod Leaves
+pub mod Picking

@@ -15,6 +15,13 @@ pub struct Ends {
     pub live: u64,
 }
 
+/// What picking has made of some ways of a leaf: the faults that the kept ones name, as a word, and the leaf's two ends with these ways.
+struct Picked {
+    held: u64,
+    low: u64,
+    high: u64,
+}
+
 /// The ways of the two children of a refined leaf.
 pub struct Children {
     pub left: Clauses,
