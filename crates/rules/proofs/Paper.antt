@@ -343,8 +343,8 @@ commons-on-paper = (refl, (refl, (refl, (refl, (refl, (refl, (refl, (refl, tt)))
 -- ---- the kept ways: F1 to F4 (RULES 11.14)
 
 -- Each table with a run, and what is stated of them.
-abbrev picks : List (Worked × Worked)
-picks =
+abbrev keptOnes : List (Worked × Worked)
+keptOnes =
     -- F1: the second way is not kept, so the third may share a fault with it; were its faults taken too, the low end would be 250000000.
     (
       worked (table (half ∷ half ∷ half ∷ half ∷ []) (3 ∷ 6 ∷ 12 ∷ []) (0 ∷ 0 ∷ 0 ∷ [])) (run ∷ []) [],
@@ -368,9 +368,9 @@ picks =
     ∷ []
 
 -- F1 TO F4 HOLD.
-pub picks-on-paper : AllEqual picks
+pub kept-on-paper : AllEqual keptOnes
 unfolding of-lists
-picks-on-paper = (refl, (refl, (refl, (refl, tt))))
+kept-on-paper = (refl, (refl, (refl, (refl, tt))))
 
 -- ---- the whole sheet
 

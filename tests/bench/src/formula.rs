@@ -250,39 +250,25 @@ fn chance<const UP: bool>(weights: &[u32], way: &Way) -> u64 {
     chance
 }
 
-/// Leaf low: each way against the ways kept before it, left by the label at the first shared fault.
-pub fn leaf_low(table: &Table, ways: &Clauses) -> u64 {
-    let mut kept = [0u64; MOST_WAYS];
-    let mut count = 0;
-    let mut low = 0;
-    'ways: for way in ways.ways(table) {
-        let faults = way.faults();
-        for other in &kept[..count] {
-            if faults & other != 0 {
-                continue 'ways;
-            }
+/// Both ends of a leaf in one pass: a way is kept for the low end if it names none of the faults already taken, which one word
+/// holds, and once the high end is S no further chance is worked out for it.
+pub fn ends(table: &Table, ways: &Clauses) -> (u64, u64) {
+    let (mut held, mut low, mut high) = (0, 0, 0);
+    for way in ways.ways(table) {
+        if high != S {
+            high = S.min(high + chance::<true>(table.weights, &way));
         }
-        kept[count] = faults;
-        count += 1;
-        low = S - up((S - low) * (S - chance::<false>(table.weights, &way)));
+        if held & way.faults() == 0 {
+            held |= way.faults();
+            low = S - up((S - low) * (S - chance::<false>(table.weights, &way)));
+        }
     }
-    low
+    (low, high)
 }
 
-pub fn leaf_high(table: &Table, ways: &Clauses) -> u64 {
-    let chance = |way: Way| chance::<true>(table.weights, &way);
-    ways.ways(table).map(chance).sum::<u64>().min(S)
-}
-
-/// Open: low below high, two or more ways, none of them empty.
-pub fn is_open(table: &Table, ways: &Clauses, low: u64, high: u64) -> bool {
-    let mut count = 0;
-    low < high
-        && ways.ways(table).all(|way| {
-            count += 1;
-            way.faults() != 0
-        })
-        && count >= 2
+/// Open: low below high, and two ways or more. With a way that names no fault low is S.
+pub fn is_open(ways: &Clauses, low: u64, high: u64) -> bool {
+    low < high && ways.set.iter().map(|word| word.count_ones()).sum::<u32>() >= 2
 }
 
 /// The faults of the group of the first way: passes over the ways until one changes nothing.

@@ -67,12 +67,11 @@ const NO_NODES: Tree = Tree {
 };
 
 fn leaf(table: &Table, ways: &Clauses, parent: usize) -> Node {
-    let low = leaf_low(table, ways);
-    let high = leaf_high(table, ways);
+    let (low, high) = ends(table, ways);
     Node {
         kind: LEAF,
         fault: 0,
-        live: u64::from(is_open(table, ways, low, high)),
+        live: u64::from(is_open(ways, low, high)),
         parent,
         left: 0,
         ways: ways.set,

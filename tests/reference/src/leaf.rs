@@ -118,14 +118,12 @@ pub fn high_chance(weights: &[u32], way: &Way) -> u64 {
     chance(weights, way, up)
 }
 
-/// The ways kept for the low end: to share no fault with any kept way is to name none
-/// of the faults that the kept ways name together.
+/// The ways kept for the low end: each way beside every way kept before it, with which it must share no fault.
 pub fn kept(ways: &[Way]) -> Vec<Way> {
-    let mut taken = 0;
-    let mut kept = Vec::new();
+    let mut kept: Vec<Way> = Vec::new();
     for way in ways {
-        if way.faults() & taken == 0 {
-            taken |= way.faults();
+        let shares = |other: &Way| way.faults() & other.faults() != 0;
+        if !kept.iter().any(shares) {
             kept.push(*way);
         }
     }
