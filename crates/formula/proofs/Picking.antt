@@ -113,8 +113,8 @@ module _ (ws : List ℕ) where
 
   module _ (us : List Way) (v : Way) where
     -- What is held then, by whether the word touched the way.
-    abbrev with-faults : Bool → ℕ
-    with-faults b = elim b as (λ b. ℕ) [ true ↦ held us | false ↦ bitOr (held us) (faults v) ]
+    abbrev by-test : Bool → ℕ
+    by-test b = elim b as (λ b. ℕ) [ true ↦ held us | false ↦ bitOr (held us) (faults v) ]
 
     -- Leaf low, where the way is passed over and where it is kept.
     low-passed : touches (held us) v ≡ true → leafLow ws (us ++ (v ∷ [])) ≡ leafLow ws us
@@ -133,15 +133,16 @@ module _ (ws : List ℕ) where
     passed p h e t q =
         let t′ : touches (held us) v ≡ true = rw e at t in
         rw (q, e)
-        (λ i. record { held = sym (held-is us v ∙ ap with-faults t′) i; low = sym (low-passed t′) i; high = sym high-more i })
+        (λ i. record { held = sym (held-is us v ∙ ap by-test t′) i; low = sym (low-passed t′) i; high = sym high-more i })
 
-    -- And where it is kept: m has its faults, x its low chance, y the low end with it.
-    pub taken-up : (p : Picked) (h m x y : ℕ) → p ≡ picked ws us → touches (p .held) v ≡ false → h ≡ min S (p .high + chance up ws v) → m ≡ faults v
-        → x ≡ chance down ws v → y ≡ either down (p .low) x → _≡_ {A = Picked} (record { held = bitOr (p .held) m; low = y; high = h }) (picked ws (us ++ (v ∷ [])))
+    -- And where it is kept: m is the word with its faults, x its low chance, y the low end with it.
+    pub taken-up : (p : Picked) (h m x y : ℕ) → p ≡ picked ws us → touches (p .held) v ≡ false → h ≡ min S (p .high + chance up ws v)
+        → m ≡ bitOr (p .held) (faults v) → x ≡ chance down ws v → y ≡ either down (p .low) x
+        → _≡_ {A = Picked} (record { held = m; low = y; high = h }) (picked ws (us ++ (v ∷ [])))
     taken-up p h m x y e t q f k l =
         let t′ : touches (held us) v ≡ false = rw e at t in
         rw (q, l, k, f, e)
-        (λ i. record { held = sym (held-is us v ∙ ap with-faults t′) i; low = sym (low-kept t′) i; high = sym high-more i })
+        (λ i. record { held = sym (held-is us v ∙ ap by-test t′) i; low = sym (low-kept t′) i; high = sym high-more i })
 
 -- ---- a way that names no fault
 

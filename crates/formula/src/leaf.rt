@@ -4,9 +4,11 @@ ghost use mathlib.Core.Path.{_≡_};
 ghost use mathlib.Core.Bool.{false};
 ghost use mathlib.Core.List.{List, [], _∷_, _++_};
 ghost use Prim.Native.Nat.{_+_, _≤_, min};
+ghost use lib.Bits.{bitOr};
 ghost use lib.Dec.{leb};
 ghost use lib.ListN.{length};
 ghost use Rattle.rules.specs.Rounding.{S, up};
+ghost use Rattle.rules.specs.Table;
 ghost use Rattle.rules.specs.Leaf;
 ghost use Rattle.rules.specs.Refusals.{overweight};
 ghost use Rattle.clauses.specs.Leaves.{waysOf, InTable};
@@ -38,6 +40,13 @@ fn raised(weights: &[u32], high: u64, v: Way) -> u64
     if sum < S { sum } else { S }
 }
 
+/// The word with a way's faults.
+fn with_faults(m: u64, v: Way) -> u64
+    ensures { λ r. ⌜ r ≡ bitOr m (Table.faults v) ⌝ }
+{
+    m | faults(v)
+}
+
 /// One way more: it is kept if it names none of the faults that are held, which then has its faults too. Whatever ways were picked before, what is
 /// held afterwards is what the kept ones name, and both ends are those of a leaf with these ways.
 fn pick(weights: &[u32], p: Picked, v: Way) -> Picked
@@ -57,7 +66,7 @@ fn pick(weights: &[u32], p: Picked, v: Way) -> Picked
     }
     let low = either(false, p.low, chance(false, weights, v.present, v.absent));
     Picked {
-        held: p.held | faults(v),
+        held: with_faults(p.held, v),
         low,
         high,
     }

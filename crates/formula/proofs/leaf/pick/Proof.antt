@@ -1,5 +1,5 @@
 -- `pick` meets its contract, by whether the word touches the way.
--- Rests on Picking.antt and on the contracts of `raised`, `touches`, `faults`, `chance` and `either`.
+-- Rests on Picking.antt and on the contracts of `raised`, `touches`, `with_faults`, `chance` and `either`.
 use mathlib.Core.Path.{sym, _∙_}
 use native.Mathlib.Omega.{arith}
 use borrow.Author.Needs.{needs}
@@ -29,15 +29,15 @@ chance-requires c κs = search needs
 either-requires : tie.Need-either-requires
 either-requires c κs = search needs
 
-faults-requires : tie.Need-faults-requires
-faults-requires c κs = search needs
+with-faults-requires : tie.Need-with-faults-requires
+with-faults-requires c κs = search needs
 
 returns-2 : tie.Need-returns-2
 returns-2 c =
-    let f = c .before .faults in
-    let e = c .before .before .either in
-    let x = c .before .before .before .chance in
-    let i = c .before .before .before .before in
+    let f = c .with-faults in
+    let e = c .before .either in
+    let x = c .before .before .chance in
+    let i = c .before .before .before in
     let h = i .before .before .raised in
     let s = i .before .before .before .before in (
       (λ us q. taken-up _ us _ (s .args .p) (h .result) (f .result) (x .result) (e .result) q (sym (i .before .touches .ensures) ∙ i .if1 .left)
@@ -55,5 +55,5 @@ pick-spec =
     returns
     chance-requires
     either-requires
-    faults-requires
+    with-faults-requires
     returns-2)
