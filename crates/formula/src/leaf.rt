@@ -47,8 +47,8 @@ fn with_faults(m: u64, v: Way) -> u64
     m | faults(v)
 }
 
-/// One way more: it is kept if it names none of the faults that are held, which then has its faults too. Whatever ways were picked before, what is
-/// held afterwards is what the kept ones name, and both ends are those of a leaf with these ways.
+/// One way more: it is kept if it names none of the faults held, and then its own are held too. Whatever ways were picked before, what is held
+/// afterwards is just what the kept ones name, and both ends are those of a leaf with these ways.
 fn pick(weights: &[u32], p: Picked, v: Way) -> Picked
     requires { ⌜ length (now weights) ≤ 64 ⌝ }
     requires { ⌜ overweight (now weights) ≡ false ⌝ }
