@@ -8,4 +8,5 @@ pub mod Loops
 mod Pairs
 mod Rows
 mod Selected
+pub mod SomeWays
 mod Words

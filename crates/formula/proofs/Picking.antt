@@ -4,7 +4,7 @@
 use mathlib.Core.Path.{_≡_, refl, sym, ap, ap₂, _∙_}
 use mathlib.Core.Bool.{Bool, true, false, not, _&&_, _||_, true≢false}
 use mathlib.Core.List.{List, [], _∷_, _++_}
-use Prim.Native.Nat.{ℕ, zero, suc, _+_, _-_, _*_, min}
+use Prim.Native.Nat.{ℕ, zero, suc, _+_, _-_, min}
 use native.Mathlib.Nat.{mul-zero, zero-mul}
 use native.Mathlib.Omega.{arith}
 use lib.Bits.{bitAnd, bitOr, and-zero-l, and-zero-r, or-zero-l, or-zero-r, and-comm}

@@ -2,3 +2,4 @@
 -- Rests on those.
 pub mod Leaves
 pub mod Picking
+pub mod Sweeps

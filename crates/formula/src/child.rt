@@ -14,10 +14,10 @@ use super::Children;
 use super::common::common_part;
 use super::common::take_out;
 use super::group::falls_apart;
-use super::group::group_faults;
+use super::group::other_ways;
 use chances::chance::has;
 use clauses::Clauses;
-use clauses::keeping::part;
+use clauses::sets::minus;
 use clauses::sets::one_bit;
 use clauses::staying::by_fault;
 use clauses::staying::staying;
@@ -36,9 +36,8 @@ pub fn children(present: &[u64], absent: &[u64], c: Clauses, k: Kind) -> Childre
 {
     match k {
         Kind::IndependentOr => {
-            let m = group_faults(present, absent, c);
-            let left = part(present, absent, c, m, true);
-            let right = part(present, absent, c, m, false);
+            let right = other_ways(present, absent, c);
+            let left = minus(c, right);
             Children { left, right }
         }
         Kind::IndependentAnd => take_out(present, absent, c),

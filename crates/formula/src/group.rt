@@ -1,81 +1,68 @@
-//! The group of the lowest numbered way, as the word of its faults, and whether the ways fall apart. Rests on `rules`, Group.
-//! The word grows by passes over the ways until a pass changes nothing.
+//! The ways outside the group of the lowest numbered way, and whether there are any: then the ways fall apart. Rests on `rules`, Group.
+//! The word of the group's faults grows by sweeps over the ways that are not yet in the group, until a sweep changes nothing.
 ghost use mathlib.Core.Path.{_≡_};
-ghost use mathlib.Core.Bool.{false};
+ghost use mathlib.Core.Bool.{not};
 ghost use Rattle.rules.specs.Group;
-ghost use Rattle.rules.specs.Group.{groupFaults, part, nonempty, fallApart};
-ghost use Rattle.clauses.specs.Leaves.{waysOf, InTable};
+ghost use Rattle.rules.specs.Group.{groupFaults, others, fallApart};
+ghost use Rattle.clauses.specs.Leaves.{waysOf, InTable, Keeps};
+ghost use Rattle.formula.specs.Sweeps.{Sweeps};
 use clauses::Clauses;
 use clauses::keeping::touches;
+use clauses::sets::alone;
+use clauses::sets::minus;
 use clauses::taking::faults;
 use clauses::taking::none_left;
 use clauses::taking::taken;
-use rules::Way;
 
-/// The most ways of a table, and so the most passes that a word needs to come to rest.
-const MOST_WAYS: usize = 128;
-
-/// The word with the faults of a way that it touches.
-fn absorb(m: u64, v: Way) -> u64
-    ensures { λ r. ⌜ r ≡ Group.absorb m v ⌝ }
-{
-    if touches(m, v) { m | faults(v) } else { m }
+/// How far a group has come: the word of its faults, and the ways that are not in it.
+struct Swept {
+    word: u64,
+    rest: Clauses,
 }
 
-/// One pass: every way that the word touches adds its faults.
-fn pass(present: &[u64], absent: &[u64], c: Clauses, m: u64) -> u64
+/// One sweep over ways: each that the word touches adds its faults and is taken out, the others are left.
+fn sweep(present: &[u64], absent: &[u64], c: Clauses, m: u64) -> Swept
     requires { ⌜ InTable (now present) (now absent) c ⌝ }
-    ensures { λ r. ⌜ r ≡ Group.pass m (waysOf (now (present .entry)) (now (absent .entry)) c) ⌝ }
+    ensures { λ r. ⌜ Sweeps (now (present .entry)) (now (absent .entry)) c m r ⌝ }
 {
     let mut word = m;
+    let mut rest = c;
     let mut left = c;
     while !none_left(left) {
         let t = taken(present, absent, left);
         let v = t.way;
         left = t.others;
-        word = absorb(word, v);
+        if touches(word, v) {
+            word = word | faults(v);
+            rest = minus(rest, alone(rest, v.number));
+        }
     }
-    word
+    Swept { word, rest }
 }
 
-/// The faults of the group of the lowest numbered way. A pass that changes nothing is the last: any further one would change nothing.
-pub fn group_faults(present: &[u64], absent: &[u64], c: Clauses) -> u64
+/// The ways outside the group of the lowest numbered way. It sweeps over all ways at first: a way that names no fault is outside its own group.
+pub fn other_ways(present: &[u64], absent: &[u64], c: Clauses) -> Clauses
     requires { ⌜ InTable (now present) (now absent) c ⌝ }
-    ensures { λ r. ⌜ r ≡ groupFaults (waysOf (now (present .entry)) (now (absent .entry)) c) ⌝ }
+    ensures { λ r. ⌜ (waysOf (now (present .entry)) (now (absent .entry)) r ≡ others (waysOf (now (present .entry)) (now (absent .entry)) c))
+        × InTable (now (present .entry)) (now (absent .entry)) r × (r .gone ≡ c .gone)
+        × Keeps (now (present .entry)) (now (absent .entry))
+        (λ v. not (Group.touches (groupFaults (waysOf (now (present .entry)) (now (absent .entry)) c)) v)) c r ⌝ }
 {
     if none_left(c) {
-        return 0;
+        return c;
     }
     let t = taken(present, absent, c);
     let first = t.way;
     let mut word = faults(first);
-    let mut left = MOST_WAYS;
-    while 0 < left {
-        let before = word;
-        word = pass(present, absent, c, before);
-        if word == before {
-            return word;
+    let mut outside = c;
+    loop {
+        let s = sweep(present, absent, outside, word);
+        outside = s.rest;
+        if s.word == word {
+            return outside;
         }
-        left -= 1;
+        word = s.word;
     }
-    word
-}
-
-/// The word leaves a way untouched.
-fn leaves_one(present: &[u64], absent: &[u64], c: Clauses, m: u64) -> bool
-    requires { ⌜ InTable (now present) (now absent) c ⌝ }
-    ensures { λ r. ⌜ r ≡ nonempty (part false m (waysOf (now (present .entry)) (now (absent .entry)) c)) ⌝ }
-{
-    let mut left = c;
-    while !none_left(left) {
-        let t = taken(present, absent, left);
-        let v = t.way;
-        left = t.others;
-        if !touches(m, v) {
-            return true;
-        }
-    }
-    false
 }
 
 /// The ways fall apart into two groups or more.
@@ -83,5 +70,5 @@ pub fn falls_apart(present: &[u64], absent: &[u64], c: Clauses) -> bool
     requires { ⌜ InTable (now present) (now absent) c ⌝ }
     ensures { λ r. ⌜ r ≡ fallApart (waysOf (now (present .entry)) (now (absent .entry)) c) ⌝ }
 {
-    leaves_one(present, absent, c, group_faults(present, absent, c))
+    !none_left(other_ways(present, absent, c))
 }

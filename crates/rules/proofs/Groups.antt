@@ -64,7 +64,7 @@ abbrev pub Subword : ℕ → ℕ → Type 0
 Subword x y = (i : ℕ) → bit i x ≡ true → bit i y ≡ true
 
 -- What a word touches, a larger one touches.
-touches-within : (m n : ℕ) (v : Way) → Subword m n → touches m v ≡ true → touches n v ≡ true
+pub touches-within : (m n : ℕ) (v : Way) → Subword m n → touches m v ≡ true → touches n v ≡ true
 touches-within m n v s h = let c = common-fault m (faults v) h in common-test (c .0) n (faults v) (s (c .0) (c .1)) (c .2)
 
 -- ---- a part of a list
@@ -154,7 +154,7 @@ absorb-cases {P} m v i f g = go (touches m v) refl
     go false e h = f h
 
 -- A pass keeps the faults of the word.
-pass-within : (m : ℕ) (vs : List Way) → Subword m (pass m vs)
+pub pass-within : (m : ℕ) (vs : List Way) → Subword m (pass m vs)
 pass-within m [] i h = h
 pass-within m (v ∷ vs) i h = pass-within (absorb m v) vs i (absorb-within m v i h)
 
@@ -176,7 +176,7 @@ abbrev pub AtRest : ℕ → List Way → Type 0
 AtRest m vs = (v : Way) → In v vs → touches m v ≡ true → Subword (faults v) m
 
 -- From within a word that is at rest, a pass stays within it.
-pass-rests : (m n : ℕ) (vs : List Way) → AtRest n vs → Subword m n → Subword (pass m vs) n
+pub pass-rests : (m n : ℕ) (vs : List Way) → AtRest n vs → Subword m n → Subword (pass m vs) n
 pass-rests m n [] r s = s
 pass-rests m n (v ∷ vs) r s =
     pass-rests (absorb m v) n vs (λ u p. r u (List·Memᴰ·tail p))

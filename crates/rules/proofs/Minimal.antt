@@ -162,7 +162,7 @@ least (suc m) (suc n) vs v i l k =
 -- ---- parts of a list
 
 -- A way that passes is in the part.
-sift-in : (g : Way → Bool) (vs : List Way) (v : Way) → In v vs → g v ≡ true → In v (sift g vs)
+pub sift-in : (g : Way → Bool) (vs : List Way) (v : Way) → In v vs → g v ≡ true → In v (sift g vs)
 unfolding sift
 sift-in g (u ∷ vs) v (List·Memᴰ·head e) h = rw (ap g (sym e) ∙ h, sift) (List·Memᴰ·head e)
 sift-in g (u ∷ vs) v (List·Memᴰ·tail i) h = by (g u) (sift-in g vs v i h)
@@ -172,7 +172,7 @@ sift-in g (u ∷ vs) v (List·Memᴰ·tail i) h = by (g u) (sift-in g vs v i h)
     by false k = k
 
 -- A way of the part is one of the list, and passes.
-in-sift : (g : Way → Bool) (vs : List Way) (v : Way) → In v (sift g vs) → In v vs × (g v ≡ true)
+pub in-sift : (g : Way → Bool) (vs : List Way) (v : Way) → In v (sift g vs) → In v vs × (g v ≡ true)
 unfolding sift
 in-sift g (u ∷ vs) v i = by (g u) refl (λ k. in-sift g vs v k) i
   where

@@ -1,7 +1,7 @@
 -- `children` meets its contract, by the kind.
--- Rests on the contracts of `group_faults`, `part`, `take_out`, `one_bit`, `by_fault` and `staying`.
+-- Rests on `clauses`, SomeWays, and the contracts of `other_ways`, `minus`, `take_out`, `one_bit`, `by_fault` and `staying`.
 use mathlib.Core.Path.{_≡_, refl, sym, ap, _∙_, subst}
-use mathlib.Core.Bool.{true, false}
+use mathlib.Core.Bool.{true, not, _&&_}
 use mathlib.Core.List.{List}
 use Prim.Native.Nat.{ℕ, _^_, _<_}
 use borrow.Author.Needs.{needs}
@@ -10,12 +10,13 @@ use Rattle.rules.specs.declared.Way.{Way}
 use Rattle.rules.specs.declared.Kind.{Kind}
 use Rattle.rules.specs.declared.Kind.the-variants.{IndependentOr, Shannon}
 use Rattle.rules.specs.Leaf.{remaining, minimal}
-use Rattle.rules.specs.Group.{part, groupFaults}
+use Rattle.rules.specs.Group.{touches, groupFaults, others}
 use Rattle.rules.specs.Tree.{Side, left, right, child, childFixed, childOut}
 use Rattle.clauses.specs.declared.ByFault.{ByFault}
 use Rattle.clauses.specs.declared.Clauses.{Clauses}
 use Rattle.clauses.specs.declared.Gone.{Gone}
-use Rattle.clauses.specs.Leaves.{fixMore, waysOf, InTable, Divided}
+use Rattle.clauses.specs.Leaves.{fixMore, waysOf, InTable, Keeps, Divided}
+use Rattle.clauses.proofs.SomeWays.{has, less-failing, kept-part}
 use Rattle.formula.specs.declared.Children.{Children}
 use Rattle.formula.specs.Leaves.{FaultFits, childGone, Part, Parts}
 use Rattle.formula.proofs.child.children.Statement.{statement}
@@ -37,14 +38,17 @@ module _ (ps qs : List ℕ) (c : Clauses) where
   one k b d m e f = record { ways-are = m .0 ∙ e; gone-is = m .2 ∙ f; within = m .1 }
 
   module _ (x y : Clauses) where
-    -- Both, by independence, where m is the group's faults.
-    by-groups : (m : ℕ) → m ≡ groupFaults (waysOf ps qs c) → Made x (part true m (waysOf ps qs c)) (c .gone)
-        → Made y (part false m (waysOf ps qs c)) (c .gone) → Parts ps qs c IndependentOr (record { left = x; right = y })
+    -- Both, by independence: the right child has the others, and the left one the rest of the ways.
+    by-groups : InTable ps qs c → Made y (others (waysOf ps qs c)) (c .gone) → Keeps ps qs (λ v. not (touches (groupFaults (waysOf ps qs c)) v)) c y
+        → ((i : ℕ) → has x i ≡ has c i && not (has y i)) → x .gone ≡ c .gone → Parts ps qs c IndependentOr (record { left = x; right = y })
     unfolding child childFixed childOut
-    by-groups m e s t =
+    by-groups w t k h g =
+        let m = groupFaults (waysOf ps qs c) in
+        let a = kept-part ps qs c w x g true m (less-failing ps qs (touches m) c y x k h) in
         record {
-          on-left = one IndependentOr left x s (ap (λ (n : ℕ). part true n (waysOf ps qs c)) e) refl;
-          on-right = one IndependentOr right y t (ap (λ (n : ℕ). part false n (waysOf ps qs c)) e) refl;
+          on-left =
+              one IndependentOr left x (a .0, a .1, g) refl refl;
+          on-right = one IndependentOr right y t refl refl;
         }
 
     -- And by the fault f, whose word is m.
@@ -73,14 +77,11 @@ module _ (ps qs : List ℕ) (c : Clauses) where
 enum-told : tie.Need-enum-told
 enum-told c = search needs
 
-group-faults-requires : tie.Need-group-faults-requires
-group-faults-requires c κs = search needs
+other-ways-requires : tie.Need-other-ways-requires
+other-ways-requires c κs = search needs
 
-part-requires : tie.Need-part-requires
-part-requires c κs = search needs
-
-part-requires-2 : tie.Need-part-requires-2
-part-requires-2 c κs = search needs
+minus-requires : tie.Need-minus-requires
+minus-requires c κs = search needs
 
 enum-told-2 : tie.Need-enum-told-2
 enum-told-2 c = search needs
@@ -116,10 +117,10 @@ staying-requires-2 c κs =
 
 returns : tie.Need-returns
 returns c =
-    let l = c .before .part .ensures in
-    let r = c .part2 .ensures in
-    of-kind _ _ _ (c .before .before .before .enum-told .given .1)
-    (by-groups _ _ _ _ _ _ (c .before .before .group-faults .ensures) (l .0, l .1, l .2) (r .0, r .1, r .2))
+    let o = c .before .other-ways .ensures in
+    let b = c .before .before .before .before .before .before in
+    let m = c .minus .ensures in
+    of-kind _ _ _ (c .before .before .enum-told .given .1) (by-groups _ _ _ _ _ (b .pre .1 .0) (o .0, o .1, o .2) (o .3) (m .0) (m .1))
 
 returns-2 : tie.Need-returns-2
 returns-2 c = of-kind _ _ _ (c .before .enum-told2 .given .1) (c .take-out .ensures)
@@ -134,9 +135,8 @@ children-spec =
     tie.close
     (tie.spec
     enum-told
-    group-faults-requires
-    part-requires
-    part-requires-2
+    other-ways-requires
+    minus-requires
     enum-told-2
     take-out-requires
     enum-known-k

@@ -8,7 +8,7 @@ use native.Mathlib.Omega.{arith}
 use borrow.Author.Needs.{needs}
 use borrow.Author.Tests.{lt-ltb, le-ltb}
 use lib.ListN.{length}
-use lib.Dec.{leb, ltb}
+use lib.Dec.{leb}
 use Rattle.rules.specs.declared.Way.{Way}
 use Rattle.rules.specs.Table.{indicator}
 use Rattle.rules.specs.Leaf.{any, isEmpty, leafLow, leafHigh, isOpen}
