@@ -160,8 +160,12 @@ impl Clauses {
             .fixing(present, absent)
     }
 
+    pub fn is_none(&self) -> bool {
+        self.set == [0; 2]
+    }
+
     /// Those numbers that the other has not.
-    fn minus(&self, other: &Clauses) -> Clauses {
+    pub fn minus(&self, other: &Clauses) -> Clauses {
         let set = [0, 1].map(|word| self.set[word] & !other.set[word]);
         Clauses { set, ..*self }
     }
@@ -187,7 +191,7 @@ impl Clauses {
     }
 
     /// The ways that the word of faults touches, or those that it does not.
-    pub fn part(&self, table: &Table, word: u64, touched: bool) -> Clauses {
+    fn part(&self, table: &Table, word: u64, touched: bool) -> Clauses {
         self.keep(table, |way| (word & way.faults() != 0) == touched)
     }
 }
@@ -271,27 +275,23 @@ pub fn is_open(ways: &Clauses, low: u64, high: u64) -> bool {
     low < high && ways.set.iter().map(|word| word.count_ones()).sum::<u32>() >= 2
 }
 
-/// The faults of the group of the first way: passes over the ways until one changes nothing.
-pub fn group_faults(table: &Table, ways: &Clauses) -> u64 {
+/// The ways outside the group of the first way: sweeps over those that are not yet in it, until one changes nothing.
+pub fn other_ways(table: &Table, ways: &Clauses) -> Clauses {
     let mut word = ways.ways(table).next().map_or(0, |way| way.faults());
+    let mut outside = *ways;
     loop {
-        let mut next = word;
-        for way in ways.ways(table) {
-            let faults = way.faults();
-            if next & faults != 0 {
-                next |= faults;
+        let before = word;
+        outside = outside.keep(table, |way| {
+            let touched = word & way.faults() != 0;
+            if touched {
+                word |= way.faults();
             }
+            !touched
+        });
+        if word == before {
+            return outside;
         }
-        if next == word {
-            return word;
-        }
-        word = next;
     }
-}
-
-/// The word leaves a way untouched.
-pub fn leaves_one(table: &Table, ways: &Clauses, word: u64) -> bool {
-    ways.ways(table).any(|way| way.faults() & word == 0)
 }
 
 /// The common part, as a word of faults: those that all ways name in the same sense. It is left as soon as it is empty.

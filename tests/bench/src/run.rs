@@ -75,9 +75,9 @@ pub fn open(tree: &mut Tree, table: &Table) -> Answer {
 }
 
 fn choose(table: &Table, ways: &Clauses) -> Kind {
-    let word = group_faults(table, ways);
-    if leaves_one(table, ways, word) {
-        return Kind::IndependentOr(word);
+    let others = other_ways(table, ways);
+    if !others.is_none() {
+        return Kind::IndependentOr(others);
     }
     let word = common_faults(table, ways);
     if word != 0 {

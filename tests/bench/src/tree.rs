@@ -37,8 +37,8 @@ pub struct Tree {
 
 #[derive(Clone, Copy)]
 pub enum Kind {
-    /// With the faults of the first group.
-    IndependentOr(u64),
+    /// With the ways outside the first group.
+    IndependentOr(Clauses),
     /// With the faults of the common part.
     IndependentAnd(u64),
     Shannon(usize),
@@ -147,9 +147,7 @@ impl Tree {
     pub fn grow(&mut self, table: &Table, at: usize, ways: &Clauses, kind: Kind) {
         let left = self.used;
         let children = match kind {
-            Kind::IndependentOr(word) => {
-                [ways.part(table, word, true), ways.part(table, word, false)]
-            }
+            Kind::IndependentOr(others) => [ways.minus(&others), others],
             Kind::IndependentAnd(word) => [ways.first_within(table, word), ways.without(word)],
             Kind::Shannon(fault) => {
                 let bit = 1 << fault;
@@ -259,8 +257,8 @@ fn same_nodes(x: &[Node], y: &[Node]) -> bool {
 /// What a record says was done, if it can be done with these ways.
 fn possible(told: &Node, table: &Table, ways: &Clauses) -> Option<Kind> {
     if told.kind == INDEPENDENT_OR {
-        let word = group_faults(table, ways);
-        return leaves_one(table, ways, word).then_some(Kind::IndependentOr(word));
+        let others = other_ways(table, ways);
+        return (!others.is_none()).then_some(Kind::IndependentOr(others));
     }
     if told.kind == INDEPENDENT_AND {
         let word = common_faults(table, ways);
