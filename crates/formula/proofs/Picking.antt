@@ -1,5 +1,5 @@
--- Picking ways with one word of the faults already taken. After every way it holds exactly the faults that the kept ways name (`held-is`), and a
--- way is kept exactly if it names none of them (`kept-if`).
+-- Picking ways with one word of the faults already taken. After every way it holds exactly the faults that the kept ways name (`held-exactly`,
+-- `held-is`), and a way is kept exactly if it names none of them (`kept-if`).
 -- Rests on the definitions of `rules`, Leaf and Group, and on its laws of bits (Bits) and of Boolean tests (Booleans).
 use mathlib.Core.Path.{_≡_, refl, sym, ap, ap₂, _∙_}
 use mathlib.Core.Bool.{Bool, true, false, not, _&&_, _||_, true≢false}
@@ -15,7 +15,7 @@ use Rattle.rules.specs.Rounding.{S, down, up, over}
 use Rattle.rules.specs.Table.{bit, faults}
 use Rattle.rules.specs.Leaf.{any, sharesAny, shares, keep, kept, chance, chanceFrom, either, eitherAll, leafLow, chances, leafHigh, isEmpty}
 use Rattle.rules.specs.Group.{touches}
-use Rattle.rules.proofs.Bits.{bit-and, bit-or, bits-ext, or-assoc, or-zero}
+use Rattle.rules.proofs.Bits.{bit-zero, bit-and, bit-or, bits-ext, or-assoc, or-zero}
 use Rattle.rules.proofs.Booleans.{and-false, or-cases}
 use Rattle.formula.specs.declared.Picked.{Picked}
 use Rattle.formula.specs.Picking.{union, held, picked}
@@ -54,6 +54,12 @@ union-more : (us vs : List Way) → union (us ++ vs) ≡ bitOr (union us) (union
 union-more [] vs = sym (or-zero-l (union vs))
 union-more (u ∷ us) vs = ap (bitOr (faults u)) (union-more us vs) ∙ sym (or-assoc (faults u) (union us) (union vs))
 
+-- It has the faults that one of them names, present or absent, and no other.
+union-exactly : (us : List Way) (i : ℕ) → bit i (union us) ≡ any (λ v. bit i (v .present) || bit i (v .absent)) us
+unfolding any
+union-exactly [] i = bit-zero i
+union-exactly (u ∷ us) i = bit-or i (faults u) (union us) ∙ ap₂ (λ (x y : Bool). x || y) (bit-or i (u .present) (u .absent)) (union-exactly us i)
+
 -- ---- one way more
 
 -- What is kept of one way: it, unless it is passed over.
@@ -86,11 +92,15 @@ keep-more before (u ∷ us) v = go (sharesAny u before) (keep-more before us v) 
         ap (λ (ks : List Way). u ∷ ks) q
         ∙ ap (λ (b : Bool). u ∷ (keep (u ∷ before) us ++ unless b v)) (or-between (shares v u) (sharesAny v before) (sharesAny v (keep (u ∷ before) us)))
 
+-- A FAULT IS HELD EXACTLY IF A KEPT WAY NAMES IT, PRESENT OR ABSENT.
+pub held-exactly : (us : List Way) (i : ℕ) → bit i (held us) ≡ any (λ v. bit i (v .present) || bit i (v .absent)) (kept us)
+held-exactly us i = union-exactly (kept us) i
+
 -- A WAY IS KEPT EXACTLY IF IT NAMES NONE OF THE FAULTS THAT ARE HELD.
 pub kept-if : (us : List Way) (v : Way) → kept (us ++ (v ∷ [])) ≡ kept us ++ unless (touches (held us) v) v
 kept-if us v = keep-more [] us v ∙ ap (λ (b : Bool). kept us ++ unless b v) (shares-word v (kept us))
 
--- AFTER EVERY WAY THE WORD HOLDS EXACTLY THE FAULTS THAT THE KEPT WAYS NAME: it stays where the way is passed over, and has its faults too where not.
+-- SO ONE WAY MORE LEAVES THE WORD AS IT IS, WHERE IT IS PASSED OVER, OR ADDS ITS FAULTS.
 pub held-is : (us : List Way) (v : Way) → held (us ++ (v ∷ [])) ≡ elim (touches (held us) v) as (λ b. ℕ) [ true ↦ held us | false ↦ bitOr (held us) (faults v) ]
 held-is us v = ap union (kept-if us v) ∙ union-more (kept us) (unless (touches (held us) v) v) ∙ go (touches (held us) v)
   where
