@@ -3,10 +3,10 @@
 //! text's intervals beside the count over all assignments.
 
 use crate::run::{run, verdict_word};
-use crate::sheet::{cue_table, decode, lay, Sheet};
+use crate::sheet::{cue_table, decode, encode, lay, of_one_cue, Sheet};
 use crate::table::{Count, MOST_COUNTED};
 use crate::tree::open;
-use crate::Answer;
+use crate::{Answer, Table};
 
 pub fn report(bytes: &[u8]) -> String {
     let sheet = match decode(bytes) {
@@ -48,6 +48,18 @@ pub fn enclosing_lines(bytes: &[u8], text: &str) -> Result<usize, String> {
         }
     }
     Ok(sheet.cues.len())
+}
+
+/// A cue's line of a sheet with budget 255: its figures are printed for a sheet that has the cue's table alone too, and enclose
+/// the chance that is counted over all assignments of the table's own faults.
+pub fn encloses_alone(table: Table, line: &str) -> Result<(), String> {
+    let (_, figures) = line.split_once(' ').unwrap_or_default();
+    let text = format!("cue low high steps verdict\n1 {figures}\n");
+    let bytes = encode(&of_one_cue(table, 255));
+    if report(&bytes) != text || enclosing_lines(&bytes, &text)? != 1 {
+        return Err(format!("{text:?} is not printed, or not counted"));
+    }
+    Ok(())
 }
 
 /// The text at the front of the space, the rest left as it was; refused 22 if the space is shorter.
