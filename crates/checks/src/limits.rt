@@ -1,16 +1,9 @@
 //! Tests on a run's limits. Rests on the definitions of `rules`, Refusals.
 //! The limits are words, judged as they are handed over.
 ghost use Rattle.std.specs.Prelude.{◌≡◌};
-ghost use Rattle.rules.specs.Refusals.{first, limit_refusals, mode_above, allowance_above, budget_above};
+ghost use Rattle.rules.specs.Refusals.{first, limit_refusals, allowance_above, budget_above};
 
 use rules::{Limits, S};
-
-/// 3: the mode is above 1.
-pub fn mode_above(m: Limits) -> bool
-    ensures { result ≡ mode_above m }
-{
-    1 < m.mode
-}
 
 /// 14: the allowance is above S.
 fn allowance_above(m: Limits) -> bool
@@ -26,7 +19,7 @@ fn budget_above(m: Limits) -> bool
     255 < m.budget
 }
 
-/// 14, 15 or 0.
+/// The number of the limits: 14, 15 or 0.
 pub fn limit_number(m: Limits) -> u8
     ensures { result ≡ first (limit_refusals m) }
 {

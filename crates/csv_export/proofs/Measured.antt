@@ -18,7 +18,7 @@ use Rattle.rules.proofs.Decimal.{decimal-one}
 use Rattle.decimal.specs.Numerals.{digits_in}
 use Rattle.decimal.specs.declared.Digits.{Digits}
 use Rattle.csv_text.specs.declared.Fault.{Fault}
-use Rattle.csv_text.specs.Texts.{faults_from, mode_fields, further_fields}
+use Rattle.csv_text.specs.Texts.{faults_from, further_fields}
 use Rattle.csv_export.specs.Parts.{named_text, faults_text, way_text, ways_text, front_text}
 use Rattle.csv_export.proofs.Putting.{decimal-two, named_none, named-absent, named-present}
 use Rattle.csv_export.proofs.Naming.{fields_from, one_place, some_way}
@@ -136,20 +136,12 @@ weights-left ws i h =
 -- Their words and ends take 14 bytes; the rest are their numbers, a comma before each.
 pub front_length : (m : Limits) (ws : List ℕ)
     → length (front_text m ws)
-    ≡ 14 + (length (44 ∷ decimal m.allowance) + length (44 ∷ decimal m.budget)) + length (further_fields (mode_fields m.mode))
-    + length (further_fields (map decimal ws))
+    ≡ 14 + (length (44 ∷ decimal m.allowance) + length (44 ∷ decimal m.budget)) + length (further_fields (map decimal ws))
 unfolding front_text bytes
 front_length m ws =
     let a : List ℕ = decimal m.allowance in
     let b : List ℕ = decimal m.budget in
-    let mode : List ℕ = further_fields (mode_fields m.mode) in
     let fields : List ℕ = further_fields (map decimal ws) in
     let last : List ℕ = fields ++ (13 ∷ 10 ∷ []) in
     let rest : List ℕ = 13 ∷ 10 ∷ (bytes "weights" ++ last) in
-    omega (
-      arith,
-      length-append a (44 ∷ (b ++ (mode ++ rest))),
-      length-append b (mode ++ rest),
-      length-append mode rest,
-      length-append fields (13 ∷ 10 ∷ []),
-    )
+    omega (arith, length-append a (44 ∷ (b ++ rest)), length-append b rest, length-append fields (13 ∷ 10 ∷ []))

@@ -2,7 +2,7 @@
 -- Rests on the definitions of Parts, and on `sheet`, Entries, for the words of an entry.
 use mathlib.Core.Path.{◌≡◌, refl, sym, ap, ◌∙◌}
 use mathlib.Core.List.{List, [], ◌∷◌, ◌++◌, append-nil, append_assoc, map}
-use Prim.Native.Nat.{ℕ, zero, suc, ◌+◌, ◌*◌, ◌<◌}
+use Prim.Native.Nat.{ℕ, ◌+◌, ◌*◌, ◌<◌}
 use native.Mathlib.Numerals.{add-one}
 use native.Mathlib.Omega.{arith}
 use lib.ListN.{length, get_or, drop}
@@ -11,7 +11,7 @@ use Rattle.rules.specs.Sheet.{field, column}
 use Rattle.rules.specs.Text.{decimal}
 use Rattle.rules.proofs.Bytes.{length-column}
 use Rattle.sheet.proofs.Entries.{column_get_d}
-use Rattle.csv_text.specs.Texts.{way_record, way_records, or_alone, mode_fields, further_fields, record_text, rendered}
+use Rattle.csv_text.specs.Texts.{way_record, way_records, or_alone, further_fields, record_text, rendered}
 use Rattle.csv_export.specs.Parts.{faults_text, way_text, ways_text, cue_text}
 
 -- What is left at i: the way at i comes first.
@@ -39,17 +39,6 @@ next-weight ws i h = rw (add-one, drop-cons ws i 0 h)
 pub no-weights : {ws : List ℕ} → ws ≡ [] → further_fields (map decimal ws) ≡ []
 unfolding further_fields
 no-weights e = rw e refl
-
--- The mode by a distance takes no field.
-pub no_mode : (k : ℕ) → k ≡ 0 → further_fields (mode_fields k) ≡ []
-unfolding mode_fields further_fields
-no_mode k e = rw e refl
-
--- Any other is a field.
-pub mode-field : (k : ℕ) → (k ≡ 0 → ⊥) → further_fields (mode_fields k) ≡ 44 ∷ decimal k
-unfolding mode_fields further_fields
-mode-field zero h = absurd (h refl)
-mode-field (suc k) h = ap (λ (t : List ℕ). 44 ∷ t) (append-nil (decimal (suc k)))
 
 -- Without words there are no ways.
 pub no-ways : (d qs : List ℕ) {ps : List ℕ} → ps ≡ [] → ways_text d ps qs ≡ []

@@ -4,7 +4,7 @@
 use mathlib.Core.Path.{◌≡◌, refl, sym, ap, ap₂, ◌∙◌}
 use mathlib.Core.Bool.{true, false, ◌||◌}
 use mathlib.Core.List.Memᴰ
-use mathlib.Core.List.{List, [], ◌∷◌, ◌++◌, append_assoc, map}
+use mathlib.Core.List.{List, [], ◌∷◌, ◌++◌, append-nil, append_assoc, map}
 use Prim.Native.Nat.{ℕ, zero, suc, ◌/◌, ◌^◌, ◌<◌, ◌≤◌}
 use native.Mathlib.Nat.{pow-suc}
 use native.Mathlib.Omega.{arith}
@@ -16,7 +16,7 @@ use Rattle.rules.specs.Table.{odd, rows, ways}
 use Rattle.rules.specs.Leaf.{any}
 use Rattle.rules.specs.Refusals.{names_beyond, Accepted}
 use Rattle.rules.specs.Sheet.{AllBelow, Cue, Sheet, table_of, read_number, decode}
-use Rattle.rules.specs.Text.{decimal}
+use Rattle.rules.specs.Text.{bytes, decimal}
 use Rattle.rules.proofs.Accepted.{paired_words, inside}
 use Rattle.rules.proofs.Booleans.{or_split}
 use Rattle.rules.proofs.CueTables.{read-cue-accepted}
@@ -74,7 +74,11 @@ cues-same ws h (c ∷ cs) ok =
 -- The two records in front, and the others.
 whole_parts : (s : Sheet) → rendered (run_record s.limits ∷ weights_record s.weights ∷ cue_records 64 s.cues) ≡ whole_text s
 unfolding whole_text front_text cues_text rendered record_text run_record weights_record further_fields
-whole_parts s = simp append_assoc
+whole_parts s =
+    let a : List ℕ = decimal s.limits.allowance in
+    let b : List ℕ = 44 ∷ decimal s.limits.budget in
+    let rest : List ℕ = 13 ∷ 10 ∷ (bytes "weights" ++ (further_fields (map decimal s.weights) ++ 13 ∷ 10 ∷ rendered (cue_records 64 s.cues))) in
+    simp (append_assoc, append-nil) (ap (λ (t : List ℕ). bytes "run" ++ 44 ∷ t) (append_assoc a b rest))
 
 -- THE TEXT of an accepted sheet is the whole of the parts.
 pub text-whole : (bs : List ℕ) → AllBelow 256 bs → read_number bs ≡ 0 → csv_of (decode bs) ≡ whole_text (decode bs)

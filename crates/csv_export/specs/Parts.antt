@@ -8,7 +8,7 @@ use Rattle.rules.specs.declared.Entry.{Entry}
 use Rattle.rules.specs.declared.Limits.{Limits}
 use Rattle.rules.specs.Text.{bytes, decimal}
 use Rattle.csv_text.specs.declared.Fault.{Fault}
-use Rattle.csv_text.specs.Texts.{fault_text, mark, faults_from, or_zero, way_records, or_alone, cue_records, mode_fields, further_fields, rendered}
+use Rattle.csv_text.specs.Texts.{fault_text, mark, faults_from, or_zero, way_records, or_alone, cue_records, further_fields, rendered}
 
 -- A comma and a fault, if a test says so.
 unfoldable pub named_text : Bool → Fault → List ℕ
@@ -57,8 +57,7 @@ unfoldable pub front_text : Limits → List ℕ → List ℕ
 front_text m ws =
     bytes "run"
     ++ ((44 ∷ decimal m.allowance)
-    ++ ((44 ∷ decimal m.budget)
-    ++ (further_fields (mode_fields m.mode) ++ ((13 ∷ 10 ∷ bytes "weights") ++ (further_fields (map decimal ws) ++ (13 ∷ 10 ∷ []))))))
+    ++ ((44 ∷ decimal m.budget) ++ ((13 ∷ 10 ∷ bytes "weights") ++ (further_fields (map decimal ws) ++ (13 ∷ 10 ∷ [])))))
 
 -- The whole.
 unfoldable pub whole_text : Sheet → List ℕ

@@ -3,7 +3,7 @@
 ghost use Rattle.std.specs.Prelude.{◌≡◌, ◌∷◌, map, ◌≤◌, length};
 ghost use Rattle.rules.specs.Sheet.{read_number, decode};
 ghost use Rattle.rules.specs.Text.{decimal};
-ghost use Rattle.csv_text.specs.Texts.{mode_fields, further_fields, csv_of};
+ghost use Rattle.csv_text.specs.Texts.{further_fields, csv_of};
 ghost use Rattle.csv_export.specs.Parts.{faults_text, entry_text, cues_text, front_text};
 
 use super::entries::stated_entry;
@@ -19,16 +19,6 @@ fn field_length(n: u64) -> usize
 {
     let d = digits_of(n);
     21 - d.from
-}
-
-/// The mode: a comma and a number if it is not 0, else nothing.
-fn mode_length(mode: u64) -> usize
-    ensures { (result ≡ length (further_fields (mode_fields mode))) × (result ≤ 21) }
-{
-    if mode == 0 {
-        return 0;
-    }
-    field_length(mode)
 }
 
 /// What stands behind the cue: a comma before each fault, a minus before one that is absent,
@@ -100,10 +90,10 @@ fn weights_length(weights: &[u32]) -> usize
 /// The two records in front of the cues.
 fn front_length(limits: Limits, weights: &[u32]) -> usize
     requires { length weights.now ≤ 64 }
-    ensures { (result ≡ length (front_text limits weights.now)) × (result ≤ 1421) }
+    ensures { (result ≡ length (front_text limits weights.now)) × (result ≤ 1400) }
 {
-    let numbers = field_length(limits.allowance) + field_length(limits.budget);
-    14 + numbers + mode_length(limits.mode) + weights_length(weights)
+    let limits_length = field_length(limits.allowance) + field_length(limits.budget);
+    14 + limits_length + weights_length(weights)
 }
 
 /// The text of an accepted sheet.

@@ -4,7 +4,7 @@ ghost use Rattle.std.specs.Prelude.{◌≡◌, ◌∷◌, map, ◌≤◌};
 ghost use Rattle.rules.specs.Sheet.{read_number, decode};
 ghost use Rattle.rules.specs.Text.{decimal};
 ghost use Rattle.writer.specs.Pieces.{Room, Wrote};
-ghost use Rattle.csv_text.specs.Texts.{mode_fields, further_fields, csv_of};
+ghost use Rattle.csv_text.specs.Texts.{further_fields, csv_of};
 ghost use Rattle.csv_export.specs.Parts.{front_text, cues_text};
 
 use super::entries::stated_entry;
@@ -24,17 +24,6 @@ fn put_field(space: &mut [u8], at: usize, n: u64) -> usize
     let from = d.from;
     space[at] = 44;
     put_bytes(space, at + 1, &digits[from..])
-}
-
-/// The mode: a comma and a number if it is not 0, else nothing.
-fn put_mode(space: &mut [u8], at: usize, mode: u64) -> usize
-    requires { Room space.old at (further_fields (mode_fields mode)) }
-    ensures { Wrote space.old at (further_fields (mode_fields mode)) space.new result }
-{
-    if mode == 0 {
-        return at;
-    }
-    put_field(space, at, mode)
 }
 
 /// The weights, a comma before each.
@@ -59,7 +48,6 @@ fn put_front(space: &mut [u8], at: usize, limits: Limits, weights: &[u32]) -> us
     let next = put_bytes(space, at, b"run");
     let next = put_field(space, next, limits.allowance);
     let next = put_field(space, next, limits.budget);
-    let next = put_mode(space, next, limits.mode);
     let next = put_bytes(space, next, b"\r\nweights");
     let next = put_weights(space, next, weights);
     put_end(space, next)

@@ -9,7 +9,6 @@ use native.Mathlib.Omega.{arith}
 use lib.ListN.{length, take}
 use lib.Dec.{eqb, ltb}
 use borrow.Author.Tests.{lt-ltb, le-ltb, ltb-false}
-use Rattle.rules.specs.declared.Limits.{Limits}
 use Rattle.rules.specs.declared.WriteAnswer.{WriteAnswer}
 use Rattle.rules.specs.Rounding.{S}
 use Rattle.rules.specs.Table.{rows}
@@ -93,12 +92,12 @@ wide-beyond n ps qs few same wide =
     (sym wide
     ∙ or-neither _ _ (below_none (2 ^ n) 18446744073709551615 ps most below.0) (below_none (2 ^ n) 18446744073709551615 qs most below.1)))
 
--- ---- 2, 3, 5, 6 and 10
+-- ---- 2, 5, 6 and 10
 
 -- Cutting weights and counts changes none of these tests.
-front_cut : (ws ns ks : List ℕ) (m : Limits) → front_refusals (cut_all (suc S) ws) ns (cut_all 129 ks) m ≡ front_refusals ws ns ks m
+front_cut : (ws ns ks : List ℕ) → front_refusals (cut_all (suc S) ws) ns (cut_all 129 ks) ≡ front_refusals ws ns ks
 unfolding front_refusals crowded overweight
-front_cut ws ns ks m = rw (cut-length (suc S) ws, cut-length 129 ks, cut-same S ws, cut-same 128 ks)
+front_cut ws ns ks = rw (cut-length (suc S) ws, cut-length 129 ks, cut-same S ws, cut-same 128 ks)
 
 -- The code asks for the sizes first.
 module _ (faults cues : ℕ) (xs : List Refusal) where
@@ -112,9 +111,9 @@ module _ (faults cues : ℕ) (xs : List Refusal) where
   few_both h k = sym (first-later _ xs (or-neither (ltb 64 faults) (ltb 24 cues) (le-ltb 64 faults h) (le-ltb 24 cues k)))
 
 -- More faults or more cues than a sheet may have.
-front-outside : (ws ns ks : List ℕ) (m : Limits) → ltb 64 (length ws) || ltb 24 (length ns) ≡ true → first (front_refusals ws ns ks m) ≡ 2
+front-outside : (ws ns ks : List ℕ) → ltb 64 (length ws) || ltb 24 (length ns) ≡ true → first (front_refusals ws ns ks) ≡ 2
 unfolding front_refusals faults_outside cues_outside
-front-outside ws ns ks m h =
+front-outside ws ns ks h =
     first-here _ _
     (or_cases (ltb 64 (length ws)) (ltb 24 (length ns))
     (λ e. or-first (faults_outside (length ws)) _ (or-second (eqb (length ws) 0) _ e))
@@ -150,9 +149,6 @@ module _ {t ws ns ks ps qs : List ℕ} {r : TextRead} (f : Listed t ws ns ks ps 
   abbrev Q : List ℕ
   Q = absent_of (sheet_in t).cues
 
-  abbrev M : Limits
-  M = (sheet_in t).limits
-
   -- What was gathered of its cues.
   g : Gathered (sheet_in t).cues r.cues r.ways r.far ns ks ps qs
   g = f.told.says f.read
@@ -170,9 +166,7 @@ module _ {t ws ns ks ps qs : List ℕ} {r : TextRead} (f : Listed t ws ns ks ps 
 
   -- The number that the code finds for the front of its lists.
   abbrev pub frontFound : ℕ
-  frontFound =
-      first
-      (refusal 2 (ltb 64 r.faults || ltb 24 r.cues) ∷ front_refusals (take r.faults ws) (take r.cues ns) (take r.cues ks) r.limits)
+  frontFound = first (refusal 2 (ltb 64 r.faults || ltb 24 r.cues) ∷ front_refusals (take r.faults ws) (take r.cues ns) (take r.cues ks))
 
   -- Where there is room, the front of the weights, numbers and counts is what the text says, but for the cut.
   module _ (few_faults : r.faults ≤ 64) (few_cues : r.cues ≤ 24) where
@@ -190,15 +184,15 @@ module _ {t ws ns ks ps qs : List ℕ} {r : TextRead} (f : Listed t ws ns ks ps 
         ap (λ (n : ℕ). take n ks) long ∙ begins-all g.counted (omega (arith, long, f.of_counts))
 
   -- It is that of the text's lists.
-  front_same : frontFound ≡ first (front_refusals W N K M)
+  front_same : frontFound ≡ first (front_refusals W N K)
   front_same = split (ltb 64 r.faults || ltb 24 r.cues) refl
     where
       split : (b : Bool) → ltb 64 r.faults || ltb 24 r.cues ≡ b
-          → frontFound ≡ first (front_refusals W N K M)
+          → frontFound ≡ first (front_refusals W N K)
       split true e =
           first-here _ _ e
           ∙ sym
-          (front-outside W N K M
+          (front-outside W N K
           (ap₂ (λ (m n : ℕ). ltb 64 m || ltb 24 n) (sym (f.told.faults f.read)) numbers_long ∙ e))
       split false e =
           let both = or_split (ltb 64 r.faults) _ e in
@@ -206,8 +200,8 @@ module _ {t ws ns ks ps qs : List ℕ} {r : TextRead} (f : Listed t ws ns ks ps 
           let fc : r.cues ≤ 24 = ltb-false 24 r.cues both.1 in
           first-later _ _ e
           ∙ ap first
-          (rw (weights-kept ff fc, numbers-kept ff fc, counts-kept ff fc, f.told.limits f.read)
-          (front_cut W N K M))
+          (rw (weights-kept ff fc, numbers-kept ff fc, counts-kept ff fc)
+          (front_cut W N K))
 
   -- Where the front refuses, its number is that of the call.
   pub front_refuses : (n number : ℕ) → number ≡ frontFound → (number ≡ 0 → ⊥) → number ≡ write_number (text_lists t) n
@@ -219,19 +213,19 @@ module _ {t ws ns ks ps qs : List ℕ} {r : TextRead} (f : Listed t ws ns ks ps 
 
   module _ (kept : frontFound ≡ 0) where
     -- So for the text's lists.
-    front_kept : first (front_refusals W N K M) ≡ 0
+    front_kept : first (front_refusals W N K) ≡ 0
     front_kept = sym front_same ∙ kept
 
     -- Their sizes, counts and weights are within the limits.
     sizes : (r.faults ≤ 64) × (r.cues ≤ 24) × (crowded K ≡ false) × (overweight W ≡ false)
     unfolding front_refusals
     sizes =
-        let n = none-applies (front_refusals W N K M) refl front_kept in
+        let n = none-applies (front_refusals W N K) refl front_kept in
         let two = or_split (faults_outside (length W)) _ n.0 in (
           subst (λ (m : ℕ). m ≤ 64) (sym (f.told.faults f.read)) (faults-most (length W) two.0),
           subst (λ (m : ℕ). m ≤ 24) numbers_long (cues-most (length N) (or_split (cues_outside (length N)) _ two.1).0),
+          n.1.1.0,
           n.1.1.1.0,
-          n.1.1.1.1.0,
         )
 
     -- So there is room for all.

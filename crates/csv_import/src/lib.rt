@@ -8,7 +8,7 @@ ghost use Rattle.csv_text.specs.Promises.{Importing};
 
 use csv_text::ImportAnswer;
 use read::read_text;
-use rules::{Limits, WriteAnswer};
+use rules::WriteAnswer;
 use writer::refusals::front_number;
 use writer::write;
 
@@ -16,19 +16,11 @@ mod keep;
 mod read;
 mod sums;
 
-/// 2, 3, 5, 6, 10 or 0 of lists of which so many weights and cues were said. More than a sheet may have were not all kept, and are 2 at once.
-fn front(
-    faults: usize,
-    cues: usize,
-    weights: &[u32],
-    numbers: &[u16],
-    counts: &[u16],
-    limits: Limits,
-) -> u8
+/// 2, 5, 6, 10 or 0 of lists of which so many weights and cues were said. More than a sheet may have were not all kept, and are 2 at once.
+fn front(faults: usize, cues: usize, weights: &[u32], numbers: &[u16], counts: &[u16]) -> u8
     requires { (length weights.now ≡ 64) × (length numbers.now ≡ 24) × (length counts.now ≡ 24) }
     ensures { result ≡ first (refusal 2 (ltb 64 faults || ltb 24 cues)
-        ∷ front_refusals (take faults weights.now) (take cues numbers.now) (take cues counts.now)
-        limits) }
+        ∷ front_refusals (take faults weights.now) (take cues numbers.now) (take cues counts.now)) }
 {
     if 64 < faults {
         return 2;
@@ -36,12 +28,7 @@ fn front(
     if 24 < cues {
         return 2;
     }
-    front_number(
-        &weights[..faults],
-        &numbers[..cues],
-        &counts[..cues],
-        limits,
-    )
+    front_number(&weights[..faults], &numbers[..cues], &counts[..cues])
 }
 
 /// The writer's answer as the import's.
@@ -81,7 +68,7 @@ pub fn import(text: &[u8], space: &mut [u8]) -> ImportAnswer
     let cues = said.cues;
     let ways = said.ways;
     let limits = said.limits;
-    let number = front(faults, cues, &weights, &numbers, &counts, limits);
+    let number = front(faults, cues, &weights, &numbers, &counts);
     if number != 0 {
         return ImportAnswer::Refused(number);
     }

@@ -88,7 +88,6 @@ fn misread_at(k: u64) -> TextRead
         limits: Limits {
             allowance: 0,
             budget: 0,
-            mode: 0,
         },
         faults: 0,
         cues: 0,

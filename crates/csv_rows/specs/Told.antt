@@ -1,22 +1,15 @@
 -- What the functions of this crate tell of a line, given by its fields.
 -- Rests on `csv`, Shapes, and on Begins.antt.
-use Rattle.std.specs.Prelude.{◌≡◌, Bool, true, false, ◌||◌, List, [], ◌∷◌, ℕ, suc, length, get_or}
+use Rattle.std.specs.Prelude.{◌≡◌, Bool, true, false, ◌||◌, List, [], ◌∷◌, ℕ, suc, length}
 use Rattle.rules.specs.Rounding.{S}
 use Rattle.rules.specs.Table.{indicator}
 use Rattle.rules.specs.Refusals.{some_above}
 use Rattle.rules.specs.Sheet.{Cue}
-use Rattle.rules.specs.Text.{decimal_value}
-use Rattle.csv_text.specs.Shapes.{is_mode, is_run, limits_said, is_weights, weights_said, is_row, row_in}
-use Rattle.csv_rows.specs.declared.ModeAt.{ModeAt}
+use Rattle.csv_text.specs.Shapes.{is_run, limits_said, is_weights, weights_said, is_row, row_in}
 use Rattle.csv_rows.specs.declared.RunSaid.{RunSaid}
 use Rattle.csv_rows.specs.declared.WeightsSaid.{WeightsSaid}
 use Rattle.csv_rows.specs.declared.RowSaid.{RowSaid}
 use Rattle.csv_rows.specs.Begins.{Begins, cut_all}
-
--- What stands behind the two numbers of the limits.
-pub record ToldMode (fs : List (List ℕ)) (r : ModeAt) : Type 0 where
-  pub good : r.good ≡ is_mode fs
-  pub mode : r.good ≡ true → r.mode ≡ decimal_value (get_or fs 0 [])
 
 -- The record of the limits.
 pub record ToldRun (fs : List (List ℕ)) (r : RunSaid) : Type 0 where

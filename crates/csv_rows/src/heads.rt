@@ -1,109 +1,56 @@
 //! The first two records of a text: the limits and the weights. Rests on `cursor`.
-ghost use Rattle.std.specs.Prelude.{◌≡◌, true, false, ◌∷◌, ℕ, suc, ◌≤◌, min, length, set};
-ghost use Rattle.rules.specs.Text.{bytes};
+ghost use Rattle.std.specs.Prelude.{◌≡◌, true, ℕ, ◌≤◌, min, length, set};
 ghost use Rattle.csv_text.specs.Cut.{fields_in};
 ghost use Rattle.csv_rows.specs.Scan.{line_at, next_line};
-ghost use Rattle.csv_rows.specs.Cursor.{behind, line_behind};
-ghost use Rattle.csv_rows.specs.Told.{ToldMode, ToldRun, ToldWeights};
+ghost use Rattle.csv_rows.specs.Told.{ToldRun, ToldWeights};
 
 use super::cursor::{numeral_at, word_at};
-use super::{ModeAt, RunSaid, WeightsSaid};
+use super::{RunSaid, WeightsSaid};
 use rules::Limits;
 
-/// No record of the limits.
-fn no_run(at: usize) -> RunSaid
-    ensures { result ≡ record { good = false; limits = record { allowance = 0; budget = 0; mode = 0 }; next = at } }
+/// The record of the limits in the line at a position: `run`, allowance, budget.
+pub fn run(text: &[u8], at: usize) -> RunSaid
+    requires { at ≤ length text.now }
+    ensures told_run { ToldRun (fields_in (line_at text.now at)) result }
+    ensures next_value { result.good ≡ true → result.next ≡ next_line text.now at }
 {
-    RunSaid {
+    let none = RunSaid {
         good: false,
         limits: Limits {
             allowance: 0,
             budget: 0,
-            mode: 0,
         },
         next: at,
-    }
-}
-
-/// What stands behind the allowance and the budget: no field, or `1` alone, which says that the allowance is a share.
-fn mode_at(text: &[u8], more: bool, at: usize) -> ModeAt
-    requires at_in_bounds { more ≡ true → at ≤ length text.now }
-    requires at_bound { at ≤ suc (length text.now) }
-    ensures told_mode { ToldMode (behind more text.now at) result }
-    ensures next_value { result.good ≡ true → result.next ≡ line_behind more text.now at }
-{
-    if !more {
-        return ModeAt {
-            good: true,
-            mode: 0,
-            next: at + 1,
-        };
-    }
-    let none = ModeAt {
-        good: false,
-        mode: 0,
-        next: at,
     };
-    let f = word_at(text, at, b"1");
-    if !f.good {
+    let w = word_at(text, at, b"run");
+    if !w.good {
         return none;
     }
-    if f.more {
+    if !w.more {
         return none;
     }
-    ModeAt {
-        good: true,
-        mode: 1,
-        next: f.next + 1,
-    }
-}
-
-/// The limits in the fields behind `run`: allowance, budget, and the mode if it is 1.
-fn limits_at(text: &[u8], at: usize) -> RunSaid
-    requires { at ≤ length text.now }
-    ensures told_run { ToldRun (bytes "run" ∷ fields_in (line_at text.now at)) result }
-    ensures next_value { result.good ≡ true → result.next ≡ next_line text.now at }
-{
-    let a = numeral_at(text, at);
+    let a = numeral_at(text, w.next);
     if !a.good {
-        return no_run(at);
+        return none;
     }
     if !a.more {
-        return no_run(at);
+        return none;
     }
     let b = numeral_at(text, a.next);
     if !b.good {
-        return no_run(at);
+        return none;
     }
-    let m = mode_at(text, b.more, b.next);
-    if !m.good {
-        return no_run(at);
+    if b.more {
+        return none;
     }
     RunSaid {
         good: true,
         limits: Limits {
             allowance: a.value,
             budget: b.value,
-            mode: m.mode,
         },
-        next: m.next,
+        next: b.next + 1,
     }
-}
-
-/// The record of the limits in the line at a position: `run`, then these.
-pub fn run(text: &[u8], at: usize) -> RunSaid
-    requires { at ≤ length text.now }
-    ensures told_run { ToldRun (fields_in (line_at text.now at)) result }
-    ensures next_value { result.good ≡ true → result.next ≡ next_line text.now at }
-{
-    let w = word_at(text, at, b"run");
-    if !w.good {
-        return no_run(at);
-    }
-    if !w.more {
-        return no_run(at);
-    }
-    limits_at(text, w.next)
 }
 
 /// A weight, cut to one above the limit.

@@ -7,15 +7,7 @@ pub mod cursor;
 pub mod heads;
 pub mod ways;
 
-/// What stands behind the allowance and the budget, as the mode, and where the next line starts; not good, the mode is 0.
-#[derive(Drop)]
-pub struct ModeAt {
-    pub good: bool,
-    pub mode: u64,
-    pub next: usize,
-}
-
-/// What a line says as the record of the limits, and where the next line starts; not good, all limits are 0.
+/// What a line says as the record of the limits, and where the next line starts; not good, both limits are 0.
 #[derive(Drop)]
 pub struct RunSaid {
     pub good: bool,

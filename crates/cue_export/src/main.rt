@@ -9,10 +9,10 @@ fn refused(n: u8) {
     io::write_all(2, b"\n");
 }
 
-/// The longest sheet has 49,612 bytes, and one more is read, so that a longer input is refused as one. The longest text has 781,023.
+/// The longest sheet has 49,612 bytes, and one more is read, so that a longer input is refused as one. The longest text has 781,021.
 fn main() {
     let mut sheet = [0u8; 49613];
-    let mut space = [0u8; 781023];
+    let mut space = [0u8; 781021];
     let n = io::read_full(0, &mut sheet);
     let a = csv_export::export(&sheet[..n], &mut space);
     match a {

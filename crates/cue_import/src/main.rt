@@ -16,9 +16,9 @@ fn misread(k: u64) {
     io::write_all(2, b"\n");
 }
 
-/// The longest text that is taken has 1,180,521 bytes, every field quoted. One more is read, so that a longer one is not taken for its front.
+/// The longest text that is taken has 1,180,517 bytes, every field quoted. One more is read, so that a longer one is not taken for its front.
 fn main() {
-    let mut text = [0u8; 1180522];
+    let mut text = [0u8; 1180518];
     let mut space = [0u8; 49612];
     let n = io::read_full(0, &mut text);
     let a = csv_import::import(&text[..n], &mut space);

@@ -32,7 +32,6 @@ pub struct CueSheet {
     pub cues: u64,
     pub allowance: u64,
     pub budget: u64,
-    pub mode: u64,
 }
 
 /// The answer of a reader's call: a cue; past the last cue `past` is 1 and the rest 0; refused, the number and zeros.

@@ -120,7 +120,6 @@ pub fn of_read(a: ReadAnswer) -> CueSheet
                 cues: h.cues as u64,
                 allowance: m.allowance,
                 budget: m.budget,
-                mode: m.mode,
             }
         }
         ReadAnswer::Refused(n) => CueSheet {
@@ -129,7 +128,6 @@ pub fn of_read(a: ReadAnswer) -> CueSheet
             cues: 0,
             allowance: 0,
             budget: 0,
-            mode: 0,
         },
     }
 }

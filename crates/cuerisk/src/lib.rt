@@ -32,7 +32,7 @@ use store::Words;
 pub extern "C" fn cue_version() -> u64
     ensures promise { result ≡ version }
 {
-    6
+    5
 }
 
 /// Opens a table. What the tree held before does not matter; refused, it is left without nodes.
@@ -68,7 +68,7 @@ pub extern "C" fn cue_refine(
     of_answer(dtree::refining::refine(weights, present, absent, tree, place, kind))
 }
 
-/// Makes a run on the tree. `mode` says what the allowance is: 0 a distance, 1 a share of the chance.
+/// Makes a run on the tree.
 #[unsafe(no_mangle)]
 pub extern "C" fn cue_run(
     tree: &mut Words,
@@ -77,17 +77,11 @@ pub extern "C" fn cue_run(
     absent: &[u64],
     allowance: u64,
     budget: u64,
-    mode: u64,
 ) -> CueAnswer
     ensures promise { RunningTold (table weights.now present.now absent.now)
-        (tree_of tree.old) (record { allowance = allowance; budget = budget; mode = mode }) (tree_of tree.new) result }
+        (tree_of tree.old) (record { allowance = allowance; budget = budget }) (tree_of tree.new) result }
 {
-    let limits = Limits {
-        allowance,
-        budget,
-        mode,
-    };
-    of_run(dtree::runs::run(weights, present, absent, tree, limits))
+    of_run(dtree::runs::run(weights, present, absent, tree, Limits { allowance, budget }))
 }
 
 /// Where the widest open leaf stands in any records, the first of equally wide ones.
@@ -136,18 +130,12 @@ pub extern "C" fn cue_sheet_write(
     absent: &[u64],
     allowance: u64,
     budget: u64,
-    mode: u64,
     space: &mut [u8],
 ) -> CueAnswer
     ensures promise { WritingTold (given weights.now numbers.now counts.now
-        present.now absent.now (record { allowance = allowance; budget = budget; mode = mode }))
-        space.old space.new result }
+        present.now absent.now (record { allowance = allowance; budget = budget })) space.old space.new result }
 {
-    let limits = Limits {
-        allowance,
-        budget,
-        mode,
-    };
+    let limits = Limits { allowance, budget };
     of_write(writer::write(weights, numbers, counts, present, absent, limits, space))
 }
 

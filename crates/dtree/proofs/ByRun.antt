@@ -33,7 +33,7 @@ made-picks t s m z = ap (λ (n : ℕ). makes_by n (picks t (aim_of m) m.budget s
 said-run : (t : Table) (ns : List Refinement) (m : Limits) → run_number t false m ≡ 0 → (top : Node)
     → top ≡ root_of (layout t (ns ++ picks t (aim_of m) m.budget (tree ns)))
     → (v : Verdict) → v ≡ verdict t (aim_of m) m.budget (tree ns) → (n : ℕ) → n ≡ length (picks t (aim_of m) m.budget (tree ns))
-    → (g : ℕ) → g ≡ figure (aim_of m) top.low top.high
+    → (g : ℕ) → g ≡ figure top.low top.high
     → ran (RunAnswer.Ended v (record { low = top.low; high = top.high; count = n }) g) ≡ outcome t (tree ns) (by_run m)
 unfolding outcome run_answer run_answer_by figures run_makes
 said-run t ns m z top e v f n c g q =
@@ -42,7 +42,7 @@ said-run t ns m z top e v f n c g q =
 
 -- The run is made.
 pub ran_on : (t : Table) (x : Tree) → Good t x → (m : Limits) → run_number t false m ≡ 0 → (y : Tree) (r : Ended) → Ran t (history x) m y r
-    → (top : Node) → top ≡ root_of y → (shown : ℕ) → shown ≡ figure (aim_of m) top.low top.high
+    → (top : Node) → top ≡ root_of y → (shown : ℕ) → shown ≡ figure top.low top.high
     → Called t x (by_run m) y (ran (RunAnswer.Ended r.verdict (record { low = top.low; high = top.high; count = r.count }) shown))
 ran_on t x g m zeroed y r w top o shown q = called t x (by_run m) y _ tree_is outcome_is
   where

@@ -11,7 +11,7 @@ use lib.ListN.{length-append}
 use Rattle.rules.specs.Table.{Table}
 use Rattle.rules.specs.Tree.{DTree, leaf, Refinement, tree, low, high, series, subtree, descend}
 use Rattle.rules.specs.Run.{aim_of, verdict}
-use Rattle.rules.specs.Refusals.{Refusal, refusal, first, mode_above, table_refusals, way_refusals, limit_refusals, table_number, Accepted}
+use Rattle.rules.specs.Refusals.{Refusal, refusal, first, table_refusals, way_refusals, limit_refusals, table_number, Accepted}
 use Rattle.rules.specs.Answers.{Reply, refused, accepted, answer_reply, run_reply}
 use Rattle.rules.specs.Calls.{hand_number, run_number, hand_refusals, run_refusals, hand_answer, run_answer, answer_by, run_answer_by, figures}
 use Rattle.rules.specs.Calls.{Call, by_hand, by_run, Outcome, handed, ran, reply, call_number, outcome, makes, makes_by, would_make, hand_makes, run_makes}
@@ -51,7 +51,7 @@ front-free xs ys h = by (first xs) refl
     by (suc n) e = absurd (omega (arith, h, first-before xs ys n e))
 
 -- Nor of the second.
-pub back-free : (xs ys : List Refusal) → numbered xs ≡ true → first (xs ++ ys) ≡ 0 → first ys ≡ 0
+back-free : (xs ys : List Refusal) → numbered xs ≡ true → first (xs ++ ys) ≡ 0 → first ys ≡ 0
 back-free xs ys k h = sym (first-after xs ys (none-applies xs k (front-free xs ys h))) ∙ h
 
 -- 16 does not apply where it stands first and nothing is refused.
@@ -64,8 +64,7 @@ pub free : (t : Table) (x : Tree) (c : Call) → number_of t x c ≡ 0 → (Acce
 unfolding number_of hand_number run_number hand_refusals run_refusals table_number table_refusals way_refusals limit_refusals
 free t x (by_hand bs k) h = (front-free (table_refusals t) _ h, sixteen-free (bad t x) _ (back-free (table_refusals t) _ refl h))
 free t x (by_run m) h =
-    let rest = back-free (refusal 3 (mode_above m) ∷ []) _ refl h in
-    (front-free (table_refusals t) _ rest, sixteen-free (bad t x) [] (back-free (limit_refusals m) _ refl (back-free (table_refusals t) _ refl rest)))
+    (front-free (table_refusals t) _ h, sixteen-free (bad t x) [] (back-free (limit_refusals m) _ refl (back-free (table_refusals t) _ refl h)))
 
 -- ---- accepted
 
@@ -143,7 +142,7 @@ unfolding number_of call_outcome hand_answer run_answer answer_by run_answer_by
 refused-outcome t x (by_hand bs k) n e = ap (λ (m : ℕ). handed (answer_by m (figures t (tree (history x)) (hand_makes bs k)))) e
 refused-outcome t x (by_run l) n e =
     let s = tree (history x) in
-    ap (λ (m : ℕ). ran (run_answer_by m (aim_of l) (verdict t (aim_of l) l.budget s) (figures t s (run_makes t s l)))) e
+    ap (λ (m : ℕ). ran (run_answer_by m (verdict t (aim_of l) l.budget s) (figures t s (run_makes t s l)))) e
 
 -- In the reply too, with nought to the full billion and count 0.
 refused-reply : (t : Table) (x : Tree) (c : Call) (n : ℕ) → number_of t x c ≡ suc n → reply (call_outcome t x c) ≡ refused (suc n)
@@ -158,7 +157,7 @@ unfolding number_of call_outcome hand_answer run_answer answer_by run_answer_by
 accepted-number t x (by_hand bs k) e = ap (λ (m : ℕ). (answer_reply (answer_by m (figures t (tree (history x)) (hand_makes bs k)))).number) e
 accepted-number t x (by_run l) e =
     let s = tree (history x) in
-    ap (λ (m : ℕ). (run_reply (run_answer_by m (aim_of l) (verdict t (aim_of l) l.budget s) (figures t s (run_makes t s l)))).number) e
+    ap (λ (m : ℕ). (run_reply (run_answer_by m (verdict t (aim_of l) l.budget s) (figures t s (run_makes t s l)))).number) e
 
 -- WHAT THE DEFINITIONS PROMISE.
 promised : (t : Table) (x : Tree) (c : Call) → Called t x c (call_tree t x c) (call_outcome t x c)

@@ -53,7 +53,7 @@ alone-good t = record { made = []; accepted = refl; is = one-layout t }
 pub refused-afresh : (t : Table) (m : Limits) (n : ℕ) → n ≡ run_number t false m → (n ≡ 0 → ⊥) → RunAnswer.Refused n ≡ run_answer t false leaf m
 unfolding run_answer run_answer_by
 refused-afresh t m zero e f = absurd (f refl)
-refused-afresh t m (suc n) e f = ap (λ (k : ℕ). run_answer_by k (aim_of m) (verdict t (aim_of m) m.budget leaf) (figures t leaf (run_makes t leaf m))) e
+refused-afresh t m (suc n) e f = ap (λ (k : ℕ). run_answer_by k (verdict t (aim_of m) m.budget leaf) (figures t leaf (run_makes t leaf m))) e
 
 -- The answer in an outcome; a hand refinement has none.
 answer_of : RunAnswer → Outcome → RunAnswer

@@ -8,11 +8,11 @@ use native.Mathlib.Omega.{arith}
 use borrow.Author.Tests.{ltb-false}
 use Rattle.rules.specs.Rounding.{S}
 use Rattle.rules.specs.Table.{Table}
-use Rattle.rules.specs.Refusals.{Refusal, refusal, first, mode_above, table_refusals, way_refusals, limit_refusals, allowance_above, table_number, Accepted}
+use Rattle.rules.specs.Refusals.{refusal, first, table_refusals, way_refusals, limit_refusals, allowance_above, table_number, Accepted}
 use Rattle.rules.specs.Calls.{hand_number, run_number, hand_refusals, run_refusals, Call, by_hand, by_run}
 use Rattle.rules.specs.declared.Kind.{Kind}
 use Rattle.rules.specs.declared.Limits.{Limits}
-use Rattle.rules.proofs.First.{NoneApplies, none-applies, first-here, first-later, first-after, first-before, first-end}
+use Rattle.rules.proofs.First.{none-applies, first-here, first-after, first-before, first-end}
 use Rattle.rules.proofs.Demand3.{run-number}
 use Rattle.records.specs.Records.{tree_records, layout, is_good, bad, Good}
 use Rattle.records.specs.declared.Node.{Node}
@@ -22,7 +22,7 @@ use Rattle.records.proofs.Sixteen.{good-sure}
 use Rattle.clauses.specs.declared.Clauses.{Clauses}
 use Rattle.node.specs.Told.{LeafWays}
 use Rattle.dtree.specs.Promises.{number_of, Called}
-use Rattle.dtree.proofs.Calling.{front-free, back-free, called, refused_by, refused-tree, refused-outcome}
+use Rattle.dtree.proofs.Calling.{front-free, called, refused_by, refused-tree, refused-outcome}
 
 -- With the number that applies, and the tree as it was.
 pub refused-call : (t : Table) (x : Tree) (c : Call) (n : ℕ) → number_of t x c ≡ n → (n ≡ 0 → ⊥) → Called t x c x (refused_by c n)
@@ -31,41 +31,32 @@ refused-call t x c (suc n) e f = called t x c x (refused_by c (suc n)) (sym (ref
 
 -- ---- which number
 
--- 3 comes first in a run, whatever 16 says.
-pub run-mode : (t : Table) (b : Bool) (m : Limits) → mode_above m ≡ true → run_number t b m ≡ 3
-unfolding run_number run_refusals
-run-mode t b m h = first-here (refusal 3 (mode_above m)) _ h
-
--- Then 9 to 13.
-pub run-table : (t : Table) (b : Bool) (m : Limits) → mode_above m ≡ false → (n : ℕ) → n ≡ table_number t → (n ≡ 0 → ⊥) → run_number t b m ≡ n
+-- 9 to 13 come first in a run, whatever 16 says.
+pub run-table : (t : Table) (b : Bool) (m : Limits) (n : ℕ) → n ≡ table_number t → (n ≡ 0 → ⊥) → run_number t b m ≡ n
 unfolding run_number run_refusals table_number
-run-table t b m h zero e f = absurd (f refl)
-run-table t b m h (suc n) e f = first-later (refusal 3 (mode_above m)) _ h ∙ first-before (table_refusals t) _ n (sym e)
+run-table t b m zero e f = absurd (f refl)
+run-table t b m (suc n) e f = first-before (table_refusals t) _ n (sym e)
 
--- Then those of the limits.
-pub run-limits : (t : Table) → Accepted t → (m : Limits) → mode_above m ≡ false → run_number t false m ≡ first (limit_refusals m)
-run-limits t ok m h = run-number t ok m ∙ first-later (refusal 3 (mode_above m)) (limit_refusals m) h
-
--- 9 to 13 come first in a hand refinement.
-pub hand-table : (t : Table) (x : Tree) (bs : List ℕ) (k : Kind) (n : ℕ) → n ≡ table_number t → (n ≡ 0 → ⊥) → number_of t x (by_hand bs k) ≡ n
+-- And in every call.
+pub by-table : (t : Table) (x : Tree) (c : Call) (n : ℕ) → n ≡ table_number t → (n ≡ 0 → ⊥) → number_of t x c ≡ n
 unfolding number_of hand_number hand_refusals table_number
-hand-table t x bs k zero e f = absurd (f refl)
-hand-table t x bs k (suc n) e f = first-before (table_refusals t) _ n (sym e)
+by-table t x (by_hand bs k) zero e f = absurd (f refl)
+by-table t x (by_hand bs k) (suc n) e f = first-before (table_refusals t) _ n (sym e)
+by-table t x (by_run m) n e f = run-table t (bad t x) m n e f
 
--- On an accepted table: then 16.
+-- A hand refinement on an accepted table: then 16.
 pub hand-sixteen : (t : Table) (x : Tree) (bs : List ℕ) (k : Kind) → Accepted t → bad t x ≡ true → number_of t x (by_hand bs k) ≡ 16
 unfolding number_of hand_number hand_refusals table_number table_refusals way_refusals
 hand-sixteen t x bs k ok b = first-after (table_refusals t) _ (none-applies (table_refusals t) refl ok) ∙ first-here (refusal 16 (bad t x)) _ b
 
--- A run: 3 and 9 to 15 come before 16.
+-- A run: 9 to 15 come before 16.
 pub before-sixteen : (t : Table) (x : Tree) (m : Limits) (n : ℕ) → n ≡ run_number t false m → (n ≡ 0 → ⊥) → number_of t x (by_run m) ≡ n
 unfolding number_of run_number run_refusals first
 before-sixteen t x m zero e f = absurd (f refl)
 before-sixteen t x m (suc n) e f =
-    let front : List Refusal = refusal 3 (mode_above m) ∷ table_refusals t in
-    let ahead = front ++ limit_refusals m in
-    let split : (b : Bool) → front ++ (limit_refusals m ++ refusal 16 b ∷ []) ≡ ahead ++ refusal 16 b ∷ [] =
-    λ b. sym (append_assoc front (limit_refusals m) (refusal 16 b ∷ [])) in
+    let ahead = table_refusals t ++ limit_refusals m in
+    let split : (b : Bool) → table_refusals t ++ (limit_refusals m ++ refusal 16 b ∷ []) ≡ ahead ++ refusal 16 b ∷ [] =
+    λ b. sym (append_assoc (table_refusals t) (limit_refusals m) (refusal 16 b ∷ [])) in
     let found : first ahead ≡ suc n = sym (ap first (split false) ∙ first-end ahead (refusal 16 false ∷ []) refl) ∙ sym e in
     ap first (split (bad t x)) ∙ first-before ahead (refusal 16 (bad t x) ∷ []) n found
 
@@ -76,26 +67,22 @@ let_through t m n e z = sym e ∙ z
 -- Where none of them applies the table is accepted.
 pub run-accepted : (t : Table) (m : Limits) → run_number t false m ≡ 0 → Accepted t
 unfolding run_number run_refusals table_number
-run-accepted t m z = front-free (table_refusals t) _ (back-free (refusal 3 (mode_above m) ∷ []) _ refl z)
+run-accepted t m z = front-free (table_refusals t) _ z
 
--- And neither 3 nor the refusals of the limits apply.
-limits-free : (t : Table) (m : Limits) → run_number t false m ≡ 0 → NoneApplies (refusal 3 (mode_above m) ∷ limit_refusals m)
-unfolding limit_refusals
-limits-free t m z = none-applies (refusal 3 (mode_above m) ∷ limit_refusals m) refl (sym (run-number t (run-accepted t m z) m) ∙ z)
-
--- So the allowance is at most S.
+-- And the allowance is at most S.
 pub run-allowance : (t : Table) (m : Limits) → run_number t false m ≡ 0 → m.allowance ≤ S
 unfolding limit_refusals allowance_above
-run-allowance t m z = ltb-false S m.allowance (limits-free t m z).1.0
+run-allowance t m z =
+    let n = none-applies (limit_refusals m) refl (sym (run-number t (run-accepted t m z) m) ∙ z) in
+    ltb-false S m.allowance n.0
 
 -- And 16 decides.
 pub run-sixteen : (t : Table) (x : Tree) (m : Limits) → run_number t false m ≡ 0 → bad t x ≡ true → number_of t x (by_run m) ≡ 16
 unfolding number_of run_number run_refusals table_number table_refusals way_refusals limit_refusals
 run-sixteen t x m z b =
-    let free = limits-free t m z in
-    first-later (refusal 3 (mode_above m)) _ free.0
-    ∙ first-after (table_refusals t) _ (none-applies (table_refusals t) refl (run-accepted t m z))
-    ∙ first-after (limit_refusals m) _ free.1
+    let ok = run-accepted t m z in
+    first-after (table_refusals t) _ (none-applies (table_refusals t) refl ok)
+    ∙ first-after (limit_refusals m) _ (none-applies (limit_refusals m) refl (sym (run-number t ok m) ∙ z))
     ∙ first-here (refusal 16 (bad t x)) [] b
 
 -- ---- what the test of 16 tells

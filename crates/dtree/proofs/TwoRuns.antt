@@ -1,5 +1,5 @@
--- TWO RUNS ARE ONE: a run of budget b and then one of c, with the same allowance and mode, are one run of b + c, if that is at most 255. It holds of
--- the calls, on every table and every tree: what they leave and what they hand back. Rests on `rules`, Runs, for the rules, and on Verdicts.antt.
+-- TWO RUNS ARE ONE: a run of budget b and then one of c, with the same aim, are one run of b + c, if that is at most 255. It holds of the calls,
+-- on every table and every tree: what they leave and what they hand back. Rests on `rules`, Runs, for the rules, and on Verdicts.antt.
 use mathlib.Core.Path.{◌≡◌, refl, sym, ap, subst, ◌∙◌}
 use mathlib.Core.Bool.{Bool, true, false}
 use mathlib.Core.List.{List, ◌++◌, append_assoc}
@@ -10,8 +10,8 @@ use borrow.Author.Tests.{le-ltb}
 use Rattle.rules.specs.Table.{Table}
 use Rattle.rules.specs.Tree.{Refinement, DTree, leaf, tree, low, high, series}
 use Rattle.rules.specs.Run.{aim_of, picks}
-use Rattle.rules.specs.Run.{ran as after, figure as shown}
-use Rattle.rules.specs.Refusals.{limit_refusals, mode_above, allowance_above, budget_above, Accepted}
+use Rattle.rules.specs.Run.{ran as after, figure as middle}
+use Rattle.rules.specs.Refusals.{limit_refusals, allowance_above, budget_above, Accepted}
 use Rattle.rules.specs.Calls.{Call, by_run, Outcome, reply, run_number, run_refusals, run_answer_by, figures, outcome}
 use Rattle.rules.specs.declared.Limits.{Limits}
 use Rattle.rules.specs.declared.Aim.{Aim}
@@ -30,7 +30,7 @@ use Rattle.dtree.proofs.Verdicts.{verdict_of, figure_of, said}
 
 -- The limits of a run with this aim and budget, and a run with them.
 abbrev limits : Aim → ℕ → Limits
-limits a b = record { allowance = a.allowance; budget = b; mode = a.mode }
+limits a b = record { allowance = a.allowance; budget = b }
 
 abbrev pub run_of : Aim → ℕ → Call
 run_of a b = by_run (limits a b)
@@ -57,7 +57,7 @@ pub record AsOne (t : Table) (x : Tree) (first second one : Call) : Type 0 where
 
 -- Between two budgets of at most 255 the refusals of a run see no difference, whatever 16 says.
 same_number : (t : Table) (o : Bool) (a : Aim) (b c : ℕ) → b ≤ 255 → c ≤ 255 → run_number t o (limits a b) ≡ run_number t o (limits a c)
-unfolding run_number run_refusals limit_refusals mode_above budget_above allowance_above
+unfolding run_number run_refusals limit_refusals budget_above allowance_above
 same_number t o a b c h k = rw (le-ltb 255 b h, le-ltb 255 c k) refl
 
 -- So the second run meets the tree that the first met.
@@ -87,7 +87,7 @@ rules-add-up t s a b c y z w =
       low_end = ap (low t) one.tree;
       high_end = ap (high t) one.tree;
       verdict = ap (λ (v : Verdict). some v) one.verdicts;
-      figure = ap (λ (s : DTree). shown a (low t s) (high t s)) one.tree;
+      figure = ap (λ (s : DTree). middle (low t s) (high t s)) one.tree;
       reports = one.report;
     }
 

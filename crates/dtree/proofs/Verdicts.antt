@@ -1,13 +1,12 @@
 -- What an accepted run says, how much it makes and what its figure is worth.
--- Rests on `rules`, Runs, where each verdict is what it says, and Aims, for what met and the figure are worth.
+-- Rests on `rules`, Runs, where each verdict is what it says, and Distance, where the figure is.
 use mathlib.Core.Path.{◌≡◌, refl, ap, ◌∙◌}
 use mathlib.Core.Bool.{true, false}
 use mathlib.Core.List.{List, ◌++◌}
 use mathlib.Core.Logic.{◌↔◌}
 use mathlib.Core.Option.{Option, none, some, some-injective}
 use Prim.Native.Nat.{ℕ, ◌+◌, ◌-◌, ◌*◌, ◌/◌, ◌≤◌}
-use Rattle.rules.specs.Rounding.{S}
-use Rattle.rules.specs.Table.{Table, ways, Near, ShareKept}
+use Rattle.rules.specs.Table.{Table, ways, Near}
 use Rattle.rules.specs.Tree.{Refinement, DTree, leaf, tree, grow, low, high, series}
 use Rattle.rules.specs.Run.{aim_of, picks, verdict, figure}
 use Rattle.rules.specs.Answers.{run_verdict, run_figure}
@@ -19,7 +18,7 @@ use Rattle.rules.specs.declared.Verdict.TheVariants.{Met}
 use Rattle.rules.specs.declared.RunAnswer.{RunAnswer}
 use Rattle.rules.proofs.Series.{grow-append}
 use Rattle.rules.proofs.Runs.{picks-budget}
-use Rattle.rules.proofs.Aims.{met_distance, met_share, figure-distance, figure-share, Aimed, aimed, no_figure}
+use Rattle.rules.proofs.Distance.{met-exactly, figure-handed, no_figure}
 use Rattle.records.specs.Records.{layout, history, bad}
 use Rattle.records.specs.Library.{call_tree, call_outcome}
 use Rattle.records.specs.declared.Tree.{Tree}
@@ -40,53 +39,38 @@ figure_of (ran a) = run_figure a
 -- What an accepted run on a table says that leaves the tree y.
 record Says (t : Table) (m : Limits) (y : Tree) (o : Outcome) : Type 0 where
   in_budget : (reply o).count ≤ m.budget
-  met_distance : m.mode ≡ 0 → (verdict_of o ≡ some Met) ↔ ((root_of y).high - (root_of y).low ≤ 2 * m.allowance)
-  met_share : m.mode ≡ 1 → (verdict_of o ≡ some Met) ↔ ((S - m.allowance) * (root_of y).high ≤ (S + m.allowance) * (root_of y).low)
-  figure_is : m.mode ≡ 0 → figure_of o ≡ (root_of y).low + ((root_of y).high - (root_of y).low) / 2
-  share_figure : m.mode ≡ 1 → figure_of o ≡ 0
-  near : m.mode ≡ 0 → verdict_of o ≡ some Met → Near t.weights (ways t) (figure_of o) m.allowance
-  in_share : m.mode ≡ 1 → verdict_of o ≡ some Met → ShareKept t.weights (ways t) m.allowance (reply o).low (reply o).high
+  met : (verdict_of o ≡ some Met) ↔ ((root_of y).high - (root_of y).low ≤ 2 * m.allowance)
+  figure_is : figure_of o ≡ (root_of y).low + ((root_of y).high - (root_of y).low) / 2
+  near : verdict_of o ≡ some Met → Near t.weights (ways t) (figure_of o) m.allowance
 
 -- An accepted run hands back its verdict, the interval then at the root with the refinements that it made, and the figure of that interval.
 pub said : (t : Table) (s : DTree) (m : Limits) → run_number t false m ≡ 0
-    → outcome t s (by_run m) ≡ ran (run_answer_by 0 (aim_of m) (verdict t (aim_of m) m.budget s) (figures t s (picks t (aim_of m) m.budget s)))
+    → outcome t s (by_run m) ≡ ran (run_answer_by 0 (verdict t (aim_of m) m.budget s) (figures t s (picks t (aim_of m) m.budget s)))
 unfolding outcome run_answer run_makes
-said t s m z = ap (λ (n : ℕ). ran (run_answer_by n (aim_of m) (verdict t (aim_of m) m.budget s) (figures t s (picks t (aim_of m) m.budget s)))) z
+said t s m z = ap (λ (n : ℕ). ran (run_answer_by n (verdict t (aim_of m) m.budget s) (figures t s (picks t (aim_of m) m.budget s)))) z
 
--- What a run's answer is worth, of an answer of the rules.
-abbrev WorthOf : Table → Limits → Outcome → Type 0
-WorthOf t m (handed a) = Unit {0}
-WorthOf t m (ran a) = Aimed t m a
-
--- Of an accepted run it is that.
-worth : (t : Table) → Accepted t → (ns : List Refinement) → series t ns ≡ true → (m : Limits) → run_number t false m ≡ 0
-    → WorthOf t m (outcome t (tree ns) (by_run m))
+-- At met its figure is near.
+near-said : (t : Table) → Accepted t → (ns : List Refinement) → series t ns ≡ true → (m : Limits) → run_number t false m ≡ 0
+    → verdict_of (outcome t (tree ns) (by_run m)) ≡ some Met → Near t.weights (ways t) (figure_of (outcome t (tree ns) (by_run m))) m.allowance
 unfolding outcome
-worth t ok ns s m z = aimed t ok ns s m z
-
--- What a verdict says, said of a verdict that is there.
-of_some : {v w : Verdict} {P : Type 0} → (v ≡ w) ↔ P → (some v ≡ some w) ↔ P
-of_some x = (λ e. x.0 (some-injective _ _ e), λ p. ap (λ (v : Verdict). some v) (x.1 p))
+near-said t ok ns s m z = (figure-handed t ok ns s m z).near
 
 -- By the rules, on the tree of a series.
 on_series : (t : Table) → Accepted t → (ns : List Refinement) → series t ns ≡ true → (m : Limits) → run_number t false m ≡ 0
     → Says t m (layout t (ns ++ picks t (aim_of m) m.budget (tree ns))) (outcome t (tree ns) (by_run m))
-unfolding run_answer_by figures
+unfolding run_answer_by figures figure
 on_series t ok ns s m z =
     let ps = picks t (aim_of m) m.budget (tree ns) in
+    let x = met-exactly t (aim_of m) m.budget (tree ns) in
     let e = said t (tree ns) m z in
-    let a = rw e at (worth t ok ns s m z) in
     let l : (root_of (layout t (ns ++ ps))).low ≡ low t (grow (tree ns) ps) = root_low t (ns ++ ps) ∙ ap (low t) (grow-append ns ps leaf) in
     let h : (root_of (layout t (ns ++ ps))).high ≡ high t (grow (tree ns) ps) = root_high t (ns ++ ps) ∙ ap (high t) (grow-append ns ps leaf) in
     rw e
     record {
       in_budget = picks-budget t (aim_of m) m.budget (tree ns);
-      met_distance = λ q. rw (l, h) (of_some (met_distance t (aim_of m) q m.budget (tree ns)));
-      met_share = λ q. rw (l, h) (of_some (met_share t (aim_of m) q m.budget (tree ns)));
-      figure_is = λ q. rw (l, h) (a.is_middle q);
-      share_figure = a.is_none;
-      near = a.near;
-      in_share = a.in_share;
+      met = rw (l, h) (λ v. x.0 (some-injective _ _ v), λ w. ap (λ (v : Verdict). some v) (x.1 w));
+      figure_is = rw (l, h) refl;
+      near = rw e at (near-said t ok ns s m z);
     }
 
 -- On every tree.
@@ -109,13 +93,10 @@ running t x m y a c =
     record {
       call = c;
       in_budget = λ z. (at z).in_budget;
-      met_distance = λ z. (at z).met_distance;
-      met_share = λ z. (at z).met_share;
+      met = λ z. (at z).met;
       figure_is = λ z. (at z).figure_is;
-      share_figure = λ z. (at z).share_figure;
       no_figure = λ f. ap figure_of c.outcome_is ∙ refused-figure t x m f;
       near = λ z. (at z).near;
-      in_share = λ z. (at z).in_share;
     }
   where
     at : number_of t x (by_run m) ≡ 0 → Says t m y (ran a)

@@ -1,5 +1,5 @@
 //! A run: the refinements that its rule picks, at most as many as the budget, or the call is refused by the first number that applies.
-//! Rests on `checks` for 3 and 9 to 15, on the module `sixteen` for 16 and on `running` for the refinements.
+//! Rests on `checks` for 9 to 15, on the module `sixteen` for 16 and on `running` for the refinements.
 ghost use Rattle.std.specs.Prelude.{◌≡◌, false};
 ghost use Rattle.rules.specs.Run;
 ghost use Rattle.rules.specs.Calls.{run_number};
@@ -10,7 +10,7 @@ ghost use Rattle.dtree.specs.Promises.{Running};
 ghost use Rattle.rules.specs.Table.{table};
 
 use super::sixteen::is_good;
-use checks::limits::{limit_number, mode_above};
+use checks::limits::limit_number;
 use checks::table::table_number;
 use node::told::width;
 use records::Node;
@@ -18,13 +18,10 @@ use rules::{Figures, Limits, RunAnswer};
 use running::run::run_on;
 use store::{Words, record_at};
 
-/// The first of 3 and 9 to 15 that applies to a run, or 0.
+/// The first of 9 to 15 that applies to a run, or 0.
 pub fn run_number(weights: &[u32], present: &[u64], absent: &[u64], limits: Limits) -> u8
     ensures { result ≡ run_number (table weights.now present.now absent.now) false limits }
 {
-    if mode_above(limits) {
-        return 3;
-    }
     let table = table_number(weights, present, absent);
     if table != 0 {
         return table;
@@ -32,18 +29,14 @@ pub fn run_number(weights: &[u32], present: &[u64], absent: &[u64], limits: Limi
     limit_number(limits)
 }
 
-/// The figure of a record's interval: by share 0, by distance low plus half the width, rounded down. Whatever the ends are, that is at most the
-/// larger of them.
-fn figure(n: Node, limits: Limits) -> u64
-    ensures { result ≡ Run.figure (Run.aim_of limits) n.low n.high }
+/// The figure of a record's interval: low plus half the width, rounded down. Whatever the ends are, that is at most the larger of them.
+fn figure(n: Node) -> u64
+    ensures { result ≡ Run.figure n.low n.high }
 {
-    if limits.mode == 1 {
-        return 0;
-    }
     n.low + width(n) / 2
 }
 
-/// The run itself, on a good tree where neither 3 nor any of 9 to 15 applies.
+/// The run itself, on a good tree where none of 9 to 15 applies.
 pub fn run_good(
     weights: &[u32],
     present: &[u64],
@@ -65,7 +58,7 @@ pub fn run_good(
         high: root.high,
         count: e.count,
     };
-    RunAnswer::Ended(verdict, figures, figure(root, limits))
+    RunAnswer::Ended(verdict, figures, figure(root))
 }
 
 /// Refines the widest open leaf, again and again, until the root is narrow enough, nothing is open, or no more may be made. Refused, the

@@ -137,7 +137,6 @@ fn grown(weights: &[u32], present: &[u64], absent: &[u64], tree: &mut Words) {
         Limits {
             allowance: 0,
             budget: 1,
-            mode: 0,
         },
     );
     print(widest_of(loaded(tree)));

@@ -39,9 +39,8 @@ fn refused_early(s: [u8; 72]) {
     // 2: 65 faults; no cues.
     changed(s, 0, 65);
     changed(s, 2, 0);
-    // 3: the last two bytes of the head are 2; 256, by the higher of them.
-    changed(s, 10, 2);
-    changed(s, 11, 1);
+    // 3: the last two bytes of the head are 1.
+    changed(s, 10, 1);
     // 4: head, contents of 2 cues and weights of 3 faults have 40 bytes together.
     cut(s, 39);
 }
@@ -77,8 +76,6 @@ fn main() {
     io::read_full(0, &mut s);
     // Cue 7 with 2 ways at 40, cue 9 with none at 72; past the last, and past it again, cue 0 with 0 ways.
     drive(&s, 4);
-    // The same two cues where the last two bytes of the head are 1.
-    changed(s, 10, 1);
     refused_early(s);
     refused_contents(s);
     refused_bodies(s);

@@ -10,7 +10,7 @@ use lib.ListN.{length, get_or}
 use Rattle.rules.specs.Table.{Table}
 use Rattle.rules.specs.Tree.{leaf}
 use Rattle.rules.specs.Run.{aim_of, verdict}
-use Rattle.rules.specs.Refusals.{refusal, first, mode_above, limit_refusals, way_refusals, Accepted}
+use Rattle.rules.specs.Refusals.{first, limit_refusals, way_refusals, Accepted}
 use Rattle.rules.specs.Calls.{run_number, run_answer_by, run_answer, run_makes, figures}
 use Rattle.rules.specs.Sheet.{Cue, table_of, cues_in, limits_in, decode, read_refusals, read_number, entry_in, AllBelow}
 use Rattle.rules.specs.Text.{line}
@@ -33,12 +33,12 @@ listed (c ∷ cs) zero d h = Memᴰ.head refl
 listed (c ∷ cs) (suc i) d h = Memᴰ.tail (listed cs i d (omega arith))
 
 -- The limits of accepted bytes are accepted.
-limits-kept : (bs : List ℕ) → read_number bs ≡ 0 → first (refusal 3 (mode_above (limits_in bs)) ∷ limit_refusals (limits_in bs)) ≡ 0
+limits-kept : (bs : List ℕ) → read_number bs ≡ 0 → first (limit_refusals (limits_in bs)) ≡ 0
 unfolding read_number read_refusals way_refusals limit_refusals
 limits-kept bs h =
     let n = none-applies (read_refusals bs) refl h in
     let last = n.1.1.1.1.1.1.1.1.1.1.1 in
-    first-later _ _ n.1.1.0 ∙ first-later _ _ last.0 ∙ first-later _ _ last.1.0 ∙ first-none
+    first-later _ _ last.0 ∙ first-later _ _ last.1.0 ∙ first-none
 
 -- A run that is not refused has the verdict and the figures of the rules, and they are those of the line.
 line_of : (m : Limits) (ws : List ℕ) (c : Cue) → run_number (table_of ws c) false m ≡ 0
@@ -46,7 +46,7 @@ line_of : (m : Limits) (ws : List ℕ) (c : Cue) → run_number (table_of ws c) 
 unfolding run_answer run_answer_by answer_text ended_text line figures run_makes
 line_of m ws c e =
     let t : Table = table_of ws c in
-    ap (λ (k : ℕ). answer_text c.number (run_answer_by k (aim_of m) (verdict t (aim_of m) m.budget leaf) (figures t leaf (run_makes t leaf m)))) e
+    ap (λ (k : ℕ). answer_text c.number (run_answer_by k (verdict t (aim_of m) m.budget leaf) (figures t leaf (run_makes t leaf m)))) e
 
 module _ (bs : List ℕ) (h : AllBelow 256 bs) (accepted : read_number bs ≡ 0) (i : ℕ) (inside : i < cues_in bs) (d : Cue) where
   cue : Cue

@@ -14,14 +14,14 @@ use Rattle.rules.specs.Leaf.{is_open}
 use Rattle.rules.specs.Tree.{root_ways, left, right, Place, DTree, leaf, possible, low, high, inners, Refinement}
 use Rattle.rules.specs.Tree.{grow, tree, kind_at, leaf_ways, roomy, interval_at, acceptable, series_from, series}
 use Rattle.rules.specs.Run.{aim_of, picks, verdict}
-use Rattle.rules.specs.Refusals.{Refusal, refusal, first, mode_above, table_refusals, table_number, way_refusals, limit_refusals, Accepted}
+use Rattle.rules.specs.Refusals.{Refusal, refusal, first, table_refusals, table_number, way_refusals, limit_refusals, Accepted}
 use Rattle.rules.specs.Calls.{step_to, place_of, place_bytes, leaf_named, no_leaf, of_leaf, leaf_refusals, hand_refusals, run_refusals, hand_number, run_number}
 use Rattle.rules.specs.Calls.{hand_makes, run_makes, figures, answer_by, run_answer_by, hand_answer, run_answer, makes_by, Call, by_hand, by_run, handed}
 use Rattle.rules.specs.Calls.{ran, reply, call_number, outcome, would_make, makes, noted_from, noted, outcomes_from, outcomes, reports}
 use Rattle.rules.specs.declared.Kind.{Kind}
 use Rattle.rules.specs.declared.Limits.{Limits}
 use Rattle.rules.proofs.Booleans.{and_both}
-use Rattle.rules.proofs.First.{none-applies, first-after, first-later, first-same, first-end}
+use Rattle.rules.proofs.First.{none-applies, first-after, first-later, first-end}
 use Rattle.rules.proofs.Series.{Same, acceptable-found, grow-append, series-append, same-tree, series-inners, grown-inners}
 use Rattle.rules.proofs.Enclosure.{root-encloses, enclosing-order, end-le}
 use Rattle.rules.proofs.Levels.{refined-above}
@@ -31,7 +31,7 @@ use Rattle.rules.proofs.Narrowing.{NoWider, refined-within, grown-within}
 -- ---- what an accepted call makes could be made
 
 module _ (t : Table) (ok : Accepted t) where
-  -- 9 to 13 do not apply, so a call's number is that of its other refusals.
+  -- 9 to 13 do not apply, so a call's number is that of its own refusals.
   table_passed : (xs : List Refusal) → first (table_refusals t ++ xs) ≡ first xs
   unfolding table_number table_refusals way_refusals
   table_passed xs = first-after (table_refusals t) xs (none-applies (table_refusals t) refl ok)
@@ -42,12 +42,9 @@ module _ (t : Table) (ok : Accepted t) where
       let rest : List Refusal = leaf_refusals t s bs k (leaf_named t s bs) in
       table_passed (refusal 16 false ∷ rest) ∙ first-later (refusal 16 false) rest refl
 
-  pub run-number : (m : Limits) → run_number t false m ≡ first (refusal 3 (mode_above m) ∷ limit_refusals m)
+  pub run-number : (m : Limits) → run_number t false m ≡ first (limit_refusals m)
   unfolding run_number run_refusals first
-  run-number m =
-      let rest : List Refusal = limit_refusals m ++ refusal 16 false ∷ [] in
-      first-same (refusal 3 (mode_above m)) (table_refusals t ++ rest) (limit_refusals m)
-      (λ k. table_passed rest ∙ first-end (limit_refusals m) (refusal 16 false ∷ []) refl)
+  run-number m = table_passed (limit_refusals m ++ refusal 16 false ∷ []) ∙ first-end (limit_refusals m) (refusal 16 false ∷ []) refl
 
 -- A hand refinement that none of 17 to 20 refuses is acceptable.
 leaf-acceptable : (t : Table) (s : DTree) (bs : List ℕ) (k : Kind) (p : Place) → place_of bs ≡ some p → first (leaf_refusals t s bs k (leaf_named t s bs)) ≡ 0
@@ -163,7 +160,7 @@ module _ (t : Table) (ok : Accepted t) where
       by (suc n) = refl
   report_is s (by_run m) = by (run_number t false m)
     where
-      by : (n : ℕ) → (reply (ran (run_answer_by n (aim_of m) (verdict t (aim_of m) m.budget s) (figures t s (run_makes t s m))))).count
+      by : (n : ℕ) → (reply (ran (run_answer_by n (verdict t (aim_of m) m.budget s) (figures t s (run_makes t s m))))).count
           ≡ length (makes_by n (run_makes t s m))
       by zero = refl
       by (suc n) = refl
@@ -194,7 +191,7 @@ pub record Share (t : Table) (cs cs' : List Call) : Type 0 where
   pub places : inners (tree (noted t cs)) ≡ length (noted t cs)
   pub reported : inners (tree (noted t cs)) ≡ reports (outcomes t cs)
   pub reported' : inners (tree (noted t cs)) ≡ reports (outcomes t cs')
-  -- the outcome of every further run, refused ones included (RULES 5.13), on equal limits, mode included: number, verdict, count and figure, then every place with its kind and its interval
+  -- the outcome of every further run, refused ones included (RULES 5.13): number, verdict, count and figure, then every place with its kind and its interval
   pub answers : (m : Limits) → outcome t (tree (noted t cs)) (by_run m) ≡ outcome t (tree (noted t cs')) (by_run m)
   pub then_kinds : (m : Limits) (p : Place) → kind_at p (after_run t (tree (noted t cs)) m) ≡ kind_at p (after_run t (tree (noted t cs')) m)
   pub then_intervals : (m : Limits) (p : Place) → interval_at t p (after_run t (tree (noted t cs)) m) ≡ interval_at t p (after_run t (tree (noted t cs')) m)

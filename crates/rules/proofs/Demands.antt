@@ -1,7 +1,7 @@
 -- WHERE TO LOOK FIRST: what is shown of the rules, each claim under the clauses of docs/RULES.md that it settles.
 -- Every claim here is about the definitions in specs/; the contracts of the code say that its results equal those definitions.
 use mathlib.Core.Path.{◌≡◌, refl, sym, ap, ◌∙◌, subst}
-use mathlib.Core.Bool.{Bool, true, false, not, ◌&&◌}
+use mathlib.Core.Bool.{true, false, not, ◌&&◌}
 use mathlib.Core.List.{List, [], ◌∷◌, ◌++◌}
 use mathlib.Core.Option.{Option, none, some}
 use mathlib.Core.Logic.{◌↔◌}
@@ -9,7 +9,7 @@ use Prim.Native.Nat.{ℕ, suc, ◌+◌, ◌-◌, ◌*◌, ◌≤◌, ◌<◌}
 use native.Mathlib.Omega.{arith}
 use lib.ListN.{length, take}
 use lib.Dec.{eqb}
-use Rattle.rules.specs.Rounding.{S, Dir, over}
+use Rattle.rules.specs.Rounding.{Dir, over}
 use Rattle.rules.specs.Table.{bit, Way, Table, ways, Assignment, happens, Encloses}
 use Rattle.rules.specs.Leaf.{drop_all, is_open, Lean}
 use Rattle.rules.specs.Common.{shared, lowest}
@@ -37,8 +37,7 @@ use Rattle.rules.proofs.Narrowing.{Narrower, no-place-widens, refined-within}
 use Rattle.rules.proofs.Levels.{levels, few-nodes}
 use Rattle.rules.proofs.Runs.{TooWide, Exactly, verdict-exactly, OneRun, two_runs, picks-budget, report-inners, one-step}
 use Rattle.rules.proofs.Demand3.{Share, same-share, never_wider, noted_series, HandsBack, hands-back, HandMade, hand-made}
-use Rattle.rules.proofs.Aims.{within_distance, within_share, narrow-distance, narrow-share, met_distance, met_share}
-use Rattle.rules.proofs.Aims.{Aimed, aimed, picksTo, verdictTo, same_picks, same_verdict}
+use Rattle.rules.proofs.Distance.{met-exactly, FigureHanded, figure-handed, picksTo, verdictTo, same_picks, same_verdict}
 use Rattle.rules.proofs.Accepted.{Inside, accepted-inside, inside-accepted}
 use Rattle.rules.proofs.WithinLimits.{Tested, tested-within, within-tested, cue-inside}
 use Rattle.rules.proofs.CueTables.{LineCertain, printed-certain}
@@ -156,10 +155,6 @@ one-refinement t s n a =
 
 -- ---- RULES 5.7 to 5.12: what a run makes, why it stops and what it reports.
 
--- By the test `enough` of low and high: the run with this aim is the one that stops there and is else as every other.
-abbrev ByTest : Table → Aim → ℕ → DTree → (ℕ → ℕ → Bool) → Type 0
-ByTest t a budget s enough = (picks t a budget s ≡ picksTo t enough budget s) × (verdict t a budget s ≡ verdictTo t enough budget s)
-
 -- What a run with this aim and budget does to the tree s.
 pub record OneRunOf (t : Table) (a : Aim) (budget : ℕ) (s : DTree) : Type 0 where
   -- RULES 5.10: it reports the inner nodes after it less those before it.
@@ -167,14 +162,11 @@ pub record OneRunOf (t : Table) (a : Aim) (budget : ℕ) (s : DTree) : Type 0 wh
   pub in_budget : length (picks t a budget s) ≤ budget
   -- RULES 5.7: the verdict is the first of met, done, full, spent that applies.
   pub stops : Exactly t a (ran t a budget s) (verdict t a budget s)
-  -- Met is said, in mode 0, exactly if the width is at most twice the allowance; in mode 1, exactly if (S − e) × high ≤ (S + e) × low.
-  pub met_distance : a.mode ≡ 0 → (verdict t a budget s ≡ Met) ↔ (high t (ran t a budget s) - low t (ran t a budget s) ≤ 2 * a.allowance)
-  pub met_share : a.mode ≡ 1 → (verdict t a budget s ≡ Met)
-      ↔ ((S - a.allowance) * high t (ran t a budget s) ≤ (S + a.allowance) * low t (ran t a budget s))
-  -- RULES 5.6: allowance and mode decide where the run stops and nothing else: it is the run that stops by that test.
-  pub by_distance : a.mode ≡ 0 → ByTest t a budget s (within_distance a.allowance)
-  pub by-share : a.mode ≡ 1 → ByTest t a budget s (within_share a.allowance)
-  -- RULES 5.12: two runs in a row, with one allowance and in one mode, are one run with both budgets together.
+  -- Met is said exactly if the width is at most twice the allowance.
+  pub met : (verdict t a budget s ≡ Met) ↔ (high t (ran t a budget s) - low t (ran t a budget s) ≤ 2 * a.allowance)
+  -- RULES 5.6: the allowance decides where the run stops and nothing else: it is the run that stops at that width.
+  pub by_width : (picks t a budget s ≡ picksTo t (2 * a.allowance) budget s) × (verdict t a budget s ≡ verdictTo t (2 * a.allowance) budget s)
+  -- RULES 5.12: two runs in a row are one run with both budgets together.
   pub cut : (more : ℕ) → OneRun t a budget more s
   -- RULES 5.11: budget 1, on a tree that is not met, done or full at the start: one inner node and no more.
   pub single : (n : Refinement) → TooWide t a s → next t s ≡ some n → inners s < 255 → picks t a 1 s ≡ n ∷ []
@@ -185,21 +177,18 @@ one-run t ok a b s =
       report = omega (arith, report-inners t ok a b s);
       in_budget = picks-budget t a b s;
       stops = verdict-exactly t a b s;
-      met_distance = λ q. met_distance t a q b s;
-      met_share = λ q. met_share t a q b s;
-      by_distance = λ q. (same_picks t a _ (narrow-distance a q) b s, same_verdict t a _ (narrow-distance a q) b s);
-      by-share = λ q. (same_picks t a _ (narrow-share a q) b s, same_verdict t a _ (narrow-share a q) b s);
+      met = met-exactly t a b s;
+      by_width = (same_picks t a b s, same_verdict t a b s);
       cut = λ c. two_runs t a b c s;
       single = one-step t a s;
     }
 
--- ---- RULES 5.16, 5.17: the figure that an accepted run hands back, and what met says of the exact chance.
+-- ---- RULES 5.16: the figure that an accepted run hands back.
 
--- In mode 0 the figure is low plus half the width, rounded down, lies in the interval, and at met the exact chance is within the allowance of it.
--- In mode 1 it is 0, and at met every number from (S − e) × high / S to (S + e) × low / S is within the share of the exact chance, and there is one.
-pub every-aim : (t : Table) → Accepted t → (ns : List Refinement) → series t ns ≡ true → (m : Limits) → run_number t false m ≡ 0
-    → Aimed t m (run_answer t false (tree ns) m)
-every-aim = aimed
+-- It is low plus half the width, rounded down, lies in the interval, and at met the exact chance is within the allowance of it.
+pub every-figure : (t : Table) → Accepted t → (ns : List Refinement) → series t ns ≡ true → (m : Limits) → run_number t false m ≡ 0
+    → FigureHanded t m (run_answer t false (tree ns) m)
+every-figure = figure-handed
 
 -- ---- RULES 5.1: the interval that every accepted call after an opening hands back.
 
@@ -229,8 +218,7 @@ pub writes-exactly : (x : Lists) (n : ℕ) → AllBelow 65536 x.numbers → (wri
 writes-exactly = write-exactly
 
 -- ---- DEMAND 3 (RULES 5.14, 5.15, 4.13): two lists of calls that note the same refinements in the end, in whatever order, share every interval, the number
--- ---- of refinements and the outcome of every further run; and along a list no refinement widens the root. Each run of a list has limits of its own, so
--- ---- that a list may mix modes; a further run has one and the same limits after either list, mode included.
+-- ---- of refinements and the outcome of every further run; and along a list no refinement widens the root.
 
 pub record Demand-3 (t : Table) : Type 0 where
   pub share : (cs cs' : List Call) → Same (noted t cs) (noted t cs') → Share t cs cs'

@@ -28,7 +28,7 @@ pub mod Levels
 pub mod Widest
 pub mod Runs
 pub mod Demand3
-pub mod Aims
+pub mod Distance
 pub mod Computing
 pub mod Paper
 pub mod Refused

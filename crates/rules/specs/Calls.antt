@@ -6,12 +6,11 @@ use Rattle.rules.specs.Table.{Way, Table}
 use Rattle.rules.specs.Leaf.{is_open}
 use Rattle.rules.specs.Tree.{Side, left, right, Place, DTree, leaf, possible, root_ways, low, high, roomy, Refinement, grow, tree, leaf_ways}
 use Rattle.rules.specs.Run.{aim_of, picks, verdict, figure}
-use Rattle.rules.specs.Refusals.{Refusal, refusal, first, mode_above, table_refusals, table_number, limit_refusals}
+use Rattle.rules.specs.Refusals.{Refusal, refusal, first, table_refusals, table_number, limit_refusals}
 use Rattle.rules.specs.Answers.{Reply, answer_reply, run_reply}
 use Rattle.rules.specs.declared.Kind.{Kind}
 use Rattle.rules.specs.declared.Verdict.{Verdict}
 use Rattle.rules.specs.declared.Limits.{Limits}
-use Rattle.rules.specs.declared.Aim.{Aim}
 use Rattle.rules.specs.declared.Figures.{Figures}
 use Rattle.rules.specs.declared.Answer.{Answer}
 use Rattle.rules.specs.declared.RunAnswer.{RunAnswer}
@@ -69,9 +68,9 @@ leaf_refusals t s bs k o =
 unfoldable pub hand_refusals : Table → Bool → DTree → List ℕ → Kind → List Refusal
 hand_refusals t bad s bs k = table_refusals t ++ (refusal 16 bad ∷ leaf_refusals t s bs k (leaf_named t s bs))
 
--- A run: 3, then 9 to 16.
+-- A run: 9 to 16.
 unfoldable pub run_refusals : Table → Bool → Limits → List Refusal
-run_refusals t bad m = refusal 3 (mode_above m) ∷ (table_refusals t ++ (limit_refusals m ++ refusal 16 bad ∷ []))
+run_refusals t bad m = table_refusals t ++ (limit_refusals m ++ refusal 16 bad ∷ [])
 
 unfoldable pub hand_number : Table → Bool → DTree → List ℕ → Kind → ℕ
 hand_number t bad s bs k = first (hand_refusals t bad s bs k)
@@ -99,9 +98,9 @@ unfoldable pub answer_by : ℕ → Figures → Answer
 answer_by zero f = Answer.Accepted f
 answer_by (suc n) f = Answer.Refused (suc n)
 
-unfoldable pub run_answer_by : ℕ → Aim → Verdict → Figures → RunAnswer
-run_answer_by zero a v f = RunAnswer.Ended v f (figure a f.low f.high)
-run_answer_by (suc n) a v f = RunAnswer.Refused (suc n)
+unfoldable pub run_answer_by : ℕ → Verdict → Figures → RunAnswer
+run_answer_by zero v f = RunAnswer.Ended v f (figure f.low f.high)
+run_answer_by (suc n) v f = RunAnswer.Refused (suc n)
 
 -- An opening: the root leaf alone, count 0.
 unfoldable pub open_answer : Table → Answer
@@ -113,7 +112,7 @@ hand_answer t bad s bs k = answer_by (hand_number t bad s bs k) (figures t s (ha
 
 -- A run on a tree.
 unfoldable pub run_answer : Table → Bool → DTree → Limits → RunAnswer
-run_answer t bad s m = run_answer_by (run_number t bad m) (aim_of m) (verdict t (aim_of m) m.budget s) (figures t s (run_makes t s m))
+run_answer t bad s m = run_answer_by (run_number t bad m) (verdict t (aim_of m) m.budget s) (figures t s (run_makes t s m))
 
 -- What a call makes, by its number: a refused call makes nothing.
 unfoldable pub makes_by : ℕ → List Refinement → List Refinement

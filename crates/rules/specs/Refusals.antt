@@ -64,10 +64,6 @@ names_beyond n vs = any (λ v. leb (2 ^ n) v.present || leb (2 ^ n) v.absent) vs
 unfoldable pub names_both : List Way → Bool
 names_both vs = any (λ v. not (eqb (bit_and v.present v.absent) 0)) vs
 
--- 3: the mode is above 1.
-unfoldable pub mode_above : Limits → Bool
-mode_above m = ltb 1 m.mode
-
 -- 14: the allowance is above S.
 unfoldable pub allowance_above : Limits → Bool
 allowance_above m = ltb S m.allowance

@@ -1,8 +1,7 @@
 -- A run: when it stops, which leaf it takes, what it does there and the figure that it hands back (RULES 5.6 to 5.10, 5.16).
--- The allowance is a distance from that figure (mode 0) or a share of the chance (mode 1): only `narrow` and `figure` look at it.
+-- The allowance is a distance: how far the exact chance may be from that figure, above or below.
 use Rattle.std.specs.Prelude.{Bool, true, false, not, List, [], ◌∷◌, ℕ, zero, suc, ◌+◌, ◌-◌, ◌*◌, ◌/◌, length, eqb, ltb, leb}
 use Rattle.std.proofs.Math.Option.{Option, none, some}
-use Rattle.rules.specs.Rounding.{S}
 use Rattle.rules.specs.Table.{bit, Way, Table, faults}
 use Rattle.rules.specs.Leaf.{leaf_width, is_open}
 use Rattle.rules.specs.Group.{fall_apart}
@@ -73,19 +72,11 @@ next t s =
 
 -- What a run with these limits aims at.
 abbrev pub aim_of : Limits → Aim
-aim_of m = record { allowance = m.allowance; mode = m.mode }
+aim_of m = record { allowance = m.allowance }
 
--- The allowance is a share of the chance.
-abbrev pub by_share : Aim → Bool
-by_share aim = eqb aim.mode 1
-
--- The interval is as narrow as is aimed at. With the allowance e, by share: (S − e) × high ≤ (S + e) × low; by distance: its width is at most 2 × e.
+-- The interval is as narrow as is aimed at: its width is at most twice the allowance.
 unfoldable pub narrow : Aim → ℕ → ℕ → Bool
-narrow aim lo hi =
-    elim (by_share aim) as (λ b. Bool) [
-      | true ↦ leb ((S - aim.allowance) * hi) ((S + aim.allowance) * lo)
-      | false ↦ leb (hi - lo) (2 * aim.allowance)
-    ]
+narrow aim lo hi = leb (hi - lo) (2 * aim.allowance)
 
 -- Before a refinement: a reason to stop, or the refinement to make.
 pub data Turn : Type 0 where
@@ -118,6 +109,6 @@ ran t aim budget s = grow s (picks t aim budget s)
 
 -- ---- what it shows
 
--- The figure of an interval: by distance, low plus half the width, rounded down; by share, 0.
-unfoldable pub figure : Aim → ℕ → ℕ → ℕ
-figure aim lo hi = elim (by_share aim) as (λ b. ℕ) [ true ↦ 0 | false ↦ lo + (hi - lo) / 2 ]
+-- The figure of an interval: low plus half the width, rounded down.
+unfoldable pub figure : ℕ → ℕ → ℕ
+figure lo hi = lo + (hi - lo) / 2

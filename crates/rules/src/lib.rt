@@ -31,20 +31,18 @@ pub enum Verdict {
     Spent,
 }
 
-/// What a run is asked for: the allowance in billionths, the most refinements it may make, and the mode, which says what the allowance is
-/// (RULES 5.6): 0 a distance, 1 a share of the chance. All are words: a number that 3, 14 or 15 judges is never cut before.
+/// What a run is asked for: the allowance, a distance in billionths, and the most refinements it may make.
+/// Both are words: a number that 14 or 15 judges is never cut before.
 #[derive(Drop)]
 pub struct Limits {
     pub allowance: u64,
     pub budget: u64,
-    pub mode: u64,
 }
 
-/// What a run aims at: the allowance, and whether it is a distance or a share. The budget is no part of it.
+/// What a run aims at: a figure from which the exact chance is no further away than the allowance. The budget is no part of it.
 #[derive(Drop)]
 pub struct Aim {
     pub allowance: u64,
-    pub mode: u64,
 }
 
 /// What an accepted call on a tree hands back: the interval at the root and the refinements made.

@@ -31,7 +31,6 @@ pub fn run_on(
 {
     let aim = Aim {
         allowance: limits.allowance,
-        mode: limits.mode,
     };
     let budget = limits.budget;
     let mut made: u64 = 0;

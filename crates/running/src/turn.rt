@@ -24,7 +24,7 @@ use grow::refine::grow;
 use node::told::{ways_of, width};
 use pick::{Found, next_leaf};
 use records::{Node, RECORDS};
-use rules::{Aim, Kind, S, Verdict};
+use rules::{Aim, Kind, Verdict};
 use store::{Words, record_at, used_in};
 
 /// What a run does at a leaf with these ways, where the table has n faults.
@@ -42,19 +42,12 @@ fn choose(n: usize, present: &[u64], absent: &[u64], c: Clauses) -> Kind
     Kind::Shannon(most_named(n, present, absent, c) as u64)
 }
 
-/// The record's interval is as narrow as is aimed at, by share or by distance. Crossed ends are as narrow as can be. No product is above 2 × S × S.
+/// The record's interval is as narrow as is aimed at. Crossed ends are as narrow as can be.
 fn narrow(n: Node, aim: Aim) -> bool
-    requires allowance_bound { aim.allowance ≤ S }
-    requires low_bound { (n.low ≤ S) × (n.high ≤ S) }
+    requires { aim.allowance ≤ S }
     ensures { result ≡ Run.narrow aim n.low n.high }
 {
-    let e = aim.allowance;
-    if aim.mode == 1 {
-        let from = (S - e) * n.high;
-        let to = (S + e) * n.low;
-        return from <= to;
-    }
-    width(n) <= 2 * e
+    width(n) <= 2 * aim.allowance
 }
 
 /// Met, done, full and spent, in this order; otherwise the leaf that the search finds. Where the run is met, nothing is searched.

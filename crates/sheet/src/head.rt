@@ -26,12 +26,7 @@ pub fn limits_in(s: &[u8]) -> Limits
 {
     let allowance = u32_at(s, 4) as u64;
     let budget = u16_at(s, 8) as u64;
-    let mode = u16_at(s, 10) as u64;
-    Limits {
-        allowance,
-        budget,
-        mode,
-    }
+    Limits { allowance, budget }
 }
 
 /// The head.

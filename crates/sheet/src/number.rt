@@ -6,9 +6,10 @@ ghost use Rattle.rules.specs.Sheet.{faults_in, cues_in, weights_in, read_refusal
 
 use super::arrays::weights;
 use super::contents::{crowded, misplaced, not_rising, ways_in};
+use super::fields::u16_at;
 use super::head::{bodies_in, cues_in, faults_in, limits_in};
 use super::rows::{rows_beyond, rows_both};
-use checks::limits::{limit_number, mode_above};
+use checks::limits::limit_number;
 use checks::lists::{cues_outside, faults_outside};
 
 /// 2: the number of faults or of cues is 0 or too large.
@@ -76,7 +77,7 @@ pub fn sheet_number(s: &[u8]) -> u8
     if outside(s) {
         return 2;
     }
-    if mode_above(limits_in(s)) {
+    if 0 < u16_at(s, 10) {
         return 3;
     }
     if s.len() < bodies_in(s) {

@@ -16,7 +16,7 @@ pub fn put(s: &mut [u8], at: usize, width: usize, x: u64) {
     }
 }
 
-/// The head but for its last two bytes, the mode: faults, cues, allowance, budget.
+/// The head: faults, cues, allowance, budget.
 pub fn put_head(s: &mut [u8], faults: u64, cues: u64, allowance: u64, budget: u64) {
     put(s, 0, 2, faults);
     put(s, 2, 2, cues);

@@ -3,9 +3,7 @@
 mod show;
 
 use rules::{Limits, WriteAnswer};
-use show::{
-    ABSENT, ALLOWANCE, BUDGET, COUNTS, CUES, FAULTS, MODE, NUMBERS, PRESENT, WAYS, WEIGHTS,
-};
+use show::{ABSENT, ALLOWANCE, BUDGET, COUNTS, CUES, FAULTS, NUMBERS, PRESENT, WAYS, WEIGHTS};
 use writer::write;
 
 /// The length of the sheet: head, contents, weights, bodies.
@@ -22,7 +20,6 @@ fn main() {
     let limits = Limits {
         allowance: ALLOWANCE,
         budget: BUDGET,
-        mode: MODE,
     };
     let a = write(
         &WEIGHTS, &NUMBERS, &COUNTS, &PRESENT, &ABSENT, limits, &mut space,

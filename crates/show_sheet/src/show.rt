@@ -45,8 +45,6 @@ pub const WEIGHTS: [u32; FAULTS] = [
 pub const ALLOWANCE: u64 = 0;
 /// The most refinements that are made for a cue.
 pub const BUDGET: u64 = 8;
-/// What the allowance is: 0 a distance from the chance, 1 a share of it.
-pub const MODE: u64 = 0;
 
 /// How many cues there are.
 pub const CUES: usize = 6;

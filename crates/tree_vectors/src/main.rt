@@ -42,17 +42,11 @@ fn hand(weights: &[u32], present: &[u64], absent: &[u64], tree: &mut Words) {
     print_line(reply(refine(weights, present, absent, tree, &place[..steps], kind)));
 }
 
-/// Reads what a run is asked for, makes it and prints its line.
+/// Reads a run, makes it and prints its line.
 fn counted(weights: &[u32], present: &[u64], absent: &[u64], tree: &mut Words) {
     let allowance = number();
     let budget = number();
-    let mode = number();
-    let limits = Limits {
-        allowance,
-        budget,
-        mode,
-    };
-    print_run(run(weights, present, absent, tree, limits));
+    print_run(run(weights, present, absent, tree, Limits { allowance, budget }));
 }
 
 /// Makes the call of this code, 0 for a hand refinement and 1 for a run.

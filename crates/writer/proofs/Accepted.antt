@@ -4,7 +4,6 @@ use mathlib.Core.Path.{◌≡◌, refl, ap, ◌∙◌}
 use mathlib.Core.List.{List}
 use Prim.Native.Nat.{ℕ, ◌+◌, ◌*◌, ◌≤◌}
 use lib.ListN.{length}
-use Rattle.rules.specs.declared.Limits.{Limits}
 use Rattle.rules.specs.Refusals.{first, faults_outside, cues_outside}
 use Rattle.rules.specs.Sheet.{Lists, total, sheet_of, bodies_start, encode, lists_refusals, AllBelow}
 use Rattle.rules.proofs.Booleans.{or_split}
@@ -16,11 +15,11 @@ use Rattle.writer.specs.Given.{front_refusals}
 
 -- ---- before the ways
 
--- Lists that 2, 3, 5, 6 and 10 let through have at most 64 weights and 24 counts.
-pub front-sizes : (ws ns ks : List ℕ) (m : Limits) → first (front_refusals ws ns ks m) ≡ 0 → (length ws ≤ 64) × (length ks ≤ 24)
+-- Lists that 2, 5, 6 and 10 let through have at most 64 weights and 24 counts.
+pub front-sizes : (ws ns ks : List ℕ) → first (front_refusals ws ns ks) ≡ 0 → (length ws ≤ 64) × (length ks ≤ 24)
 unfolding front_refusals
-front-sizes ws ns ks m h =
-    let two = or_split (faults_outside (length ws)) _ (none-applies (front_refusals ws ns ks m) refl h).0 in
+front-sizes ws ns ks h =
+    let two = or_split (faults_outside (length ws)) _ (none-applies (front_refusals ws ns ks) refl h).0 in
     (faults-most (length ws) two.0, cues-most (length ks) (or_split (cues_outside (length ns)) _ two.1).1)
 
 -- ---- lists that are not refused

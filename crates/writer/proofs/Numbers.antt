@@ -30,9 +30,9 @@ module _ {n : ℕ} (xs ys : List Refusal) (answer : n ≡ first xs) where
 -- ---- the groups of the lists
 
 module _ (x : Lists) where
-  -- 2, 3, 5, 6 and 10.
+  -- 2, 5, 6 and 10.
   abbrev pub of-front : List Refusal
-  of-front = front_refusals x.weights x.numbers x.counts x.limits
+  of-front = front_refusals x.weights x.numbers x.counts
 
   -- 12 and 13.
   abbrev pub of-ways : List Refusal
@@ -52,7 +52,7 @@ module _ (x : Lists) where
   abbrev pub from-ways : List Refusal
   from-ways = of-ways ++ from-limits
 
-  -- With 2, 3, 5, 6 and 10 before all, these are the refusals of the lists.
+  -- With 2, 5, 6 and 10 before all, these are the refusals of the lists.
   pub in_groups : first (lists_refusals x) ≡ first (of-front ++ from-ways)
   unfolding lists_refusals front_refusals way_refusals limit_refusals
   in_groups = refl

@@ -36,14 +36,14 @@ fn put_row(space: &mut [u8], at: usize, a: u64, b: u64, c: u64) -> usize
     put(space, next, 4, c)
 }
 
-/// The head: faults, cues, allowance, budget, mode.
+/// The head: faults, cues, allowance, budget, zero.
 fn put_head(space: &mut [u8], at: usize, faults: usize, cues: usize, limits: Limits) -> usize
     requires { Room space.old at (head_bytes faults cues limits) }
     ensures { Wrote space.old at (head_bytes faults cues limits) space.new result }
 {
     let next = put_row(space, at, faults as u64, cues as u64, limits.allowance);
     let next = put(space, next, 2, limits.budget);
-    put(space, next, 2, limits.mode)
+    put(space, next, 2, 0)
 }
 
 /// The contents: an entry for each cue, whose bodies start at `start` and end within the space.

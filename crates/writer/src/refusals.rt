@@ -6,7 +6,7 @@ ghost use Rattle.rules.specs.Sheet.{total, lists_refusals, write_number};
 ghost use Rattle.writer.specs.Given.{given, front_refusals};
 
 use super::pieces::bodies_start;
-use checks::limits::{limit_number, mode_above};
+use checks::limits::limit_number;
 use checks::lists::{crowded, cues_outside, faults_outside, not_rising, overweight};
 use checks::ways::way_number;
 use rules::Limits;
@@ -52,15 +52,12 @@ fn disagree(cues: usize, counts: &[u16], present: usize, absent: usize) -> bool
     present != sum(counts)
 }
 
-/// 2, 3, 5, 6, 10 or 0.
-pub fn front_number(weights: &[u32], numbers: &[u16], counts: &[u16], limits: Limits) -> u8
-    ensures { result ≡ first (front_refusals weights.now numbers.now counts.now limits) }
+/// 2, 5, 6, 10 or 0.
+pub fn front_number(weights: &[u32], numbers: &[u16], counts: &[u16]) -> u8
+    ensures { result ≡ first (front_refusals weights.now numbers.now counts.now) }
 {
     if outside(weights.len(), numbers.len(), counts.len()) {
         return 2;
-    }
-    if mode_above(limits) {
-        return 3;
     }
     if not_rising(numbers) {
         return 5;
@@ -74,7 +71,7 @@ pub fn front_number(weights: &[u32], numbers: &[u16], counts: &[u16], limits: Li
     0
 }
 
-/// 2, 3, 5, 6, 10, 12 to 15, 21 or 0. The ways are judged only once 2 has let at most 64 faults through,
+/// 2, 5, 6, 10, 12 to 15, 21 or 0. The ways are judged only once 2 has let at most 64 faults through,
 /// and the counts added only once it has let at most 24 through.
 fn list_number(
     weights: &[u32],
@@ -87,7 +84,7 @@ fn list_number(
     ensures { result ≡ first (lists_refusals (given weights.now numbers.now counts.now
         present.now absent.now limits)) }
 {
-    let front = front_number(weights, numbers, counts, limits);
+    let front = front_number(weights, numbers, counts);
     if front != 0 {
         return front;
     }

@@ -42,7 +42,6 @@ fn print_head(h: Head, weights: &[u32]) {
     print_quarter(h.cues);
     print_number(limits.allowance);
     print_number(limits.budget);
-    print_number(limits.mode);
     print_number(weights_hash(weights));
     print_end();
 }

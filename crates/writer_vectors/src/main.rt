@@ -85,7 +85,6 @@ fn case() {
     let absent = word_list(absents);
     let allowance = number();
     let budget = number();
-    let mode = number();
     let lent = list_length(49620);
     forth(
         &weights[..faults],
@@ -93,11 +92,7 @@ fn case() {
         &counts[..counted],
         &present[..presents],
         &absent[..absents],
-        Limits {
-            allowance,
-            budget,
-            mode,
-        },
+        Limits { allowance, budget },
         lent,
     );
 }

@@ -4,7 +4,7 @@
 macro_rules! build {
     ($report:literal, $open:literal, $run:literal) => {
         use crate::formula::Table;
-        use crate::run::{Answer, Limits};
+        use crate::run::Answer;
         use crate::tree::Tree;
 
         extern "C" {
@@ -36,7 +36,6 @@ macro_rules! build {
                 absents: usize,
                 allowance: u64,
                 budget: u64,
-                mode: u64,
             ) -> Answer;
         }
 
@@ -65,8 +64,8 @@ macro_rules! build {
             }
         }
 
-        pub fn run(tree: &mut Tree, table: &Table, limits: Limits) -> Answer {
-            // Sound: as above. A build that knows no mode leaves the last argument alone.
+        pub fn run(tree: &mut Tree, table: &Table, allowance: u64, budget: u64) -> Answer {
+            // Sound: as above.
             unsafe {
                 cue_run(
                     tree,
@@ -76,9 +75,8 @@ macro_rules! build {
                     table.present.len(),
                     table.absent.as_ptr(),
                     table.absent.len(),
-                    limits.allowance,
-                    limits.budget,
-                    limits.mode,
+                    allowance,
+                    budget,
                 )
             }
         }

@@ -12,7 +12,7 @@ use std::io::{self, Write};
 use std::time::Duration;
 
 use bench::formula::Table;
-use bench::run::{self, Answer, Limits};
+use bench::run::{self, Answer};
 use bench::sheets::Shape;
 use bench::tree::Tree;
 use bench::{clock, csv, library, logs, sheet, sheets, texts};
@@ -23,7 +23,7 @@ mod beside;
 /// More than the longest report: 27 bytes and 24 lines of 38.
 const ROOM: usize = 1024;
 /// The longest text of a sheet.
-const TEXT_ROOM: usize = 781_023;
+const TEXT_ROOM: usize = 781_021;
 const ROUNDS: usize = 15;
 const LEAST: Duration = Duration::from_millis(10);
 const SEEDS: u64 = 4;
@@ -139,7 +139,7 @@ fn heading(first: &str) {
 // Runs in pieces: each call builds the tree again for 16
 
 type Open = fn(&mut Tree, &Table) -> Answer;
-type Run = fn(&mut Tree, &Table, Limits) -> Answer;
+type Run = fn(&mut Tree, &Table, u64, u64) -> Answer;
 type Calls = (Open, Run);
 type Rows = (Vec<u32>, Vec<u64>, Vec<u64>);
 
@@ -152,11 +152,7 @@ fn pieces((open, run): Calls, rows: &Rows, budget: u64, tree: &mut Tree) -> [Ans
         absent,
     };
     open(tree, &table);
-    let limits = Limits {
-        budget: budget / 8,
-        ..Limits::default()
-    };
-    [(); 8].map(|()| run(tree, &table, limits))
+    [(); 8].map(|()| run(tree, &table, 0, budget / 8))
 }
 
 /// Microseconds of the eight calls.

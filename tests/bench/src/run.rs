@@ -15,15 +15,6 @@ pub struct Answer {
     pub figure: u64,
 }
 
-/// What a run is asked for.
-#[derive(Clone, Copy, Default)]
-pub struct Limits {
-    pub allowance: u64,
-    pub budget: u64,
-    /// 0, the allowance is a distance; 1, it is a share.
-    pub mode: u64,
-}
-
 pub const MET: u64 = 1;
 pub const DONE: u64 = 2;
 pub const FULL: u64 = 3;
@@ -95,19 +86,16 @@ fn choose(table: &Table, ways: &Clauses) -> Kind {
     Kind::Shannon(most_named(table, ways))
 }
 
-/// 3, 9 to 15, or 0.
-fn run_number(table: &Table, limits: Limits) -> u64 {
-    if limits.mode > 1 {
-        return 3;
-    }
+/// 9 to 15, or 0.
+fn run_number(table: &Table, allowance: u64, budget: u64) -> u64 {
     let number = table_number(table);
     if number != 0 {
         return number;
     }
-    if limits.allowance > S {
+    if allowance > S {
         return 14;
     }
-    if limits.budget > 255 {
+    if budget > 255 {
         return 15;
     }
     0
@@ -118,27 +106,11 @@ fn width(node: &Node) -> u64 {
     node.high.saturating_sub(node.low)
 }
 
-/// The root is as narrow as the allowance asks. No product is above 2 * S * S.
-fn is_met(root: &Node, limits: Limits) -> bool {
-    if limits.mode == 1 {
-        return (S - limits.allowance) * root.high <= (S + limits.allowance) * root.low;
-    }
-    width(root) <= 2 * limits.allowance
-}
-
-/// The figure of a run; by share it has none.
-fn figure(root: &Node, limits: Limits) -> u64 {
-    if limits.mode == 1 {
-        return 0;
-    }
-    root.low + width(root) / 2
-}
-
-/// The run itself, on a good tree where none of 3 and 9 to 15 applies.
-fn run_good(tree: &mut Tree, table: &Table, limits: Limits) -> Answer {
+/// The run itself, on a good tree where none of 9 to 15 applies.
+fn run_good(tree: &mut Tree, table: &Table, allowance: u64, budget: u64) -> Answer {
     let mut count = 0;
     let verdict = loop {
-        if is_met(&tree.nodes[0], limits) {
+        if width(&tree.nodes[0]) <= 2 * allowance {
             break MET;
         }
         let Some(at) = tree.widest() else {
@@ -147,7 +119,7 @@ fn run_good(tree: &mut Tree, table: &Table, limits: Limits) -> Answer {
         if tree.used == MOST_NODES {
             break FULL;
         }
-        if count == limits.budget {
+        if count == budget {
             break SPENT;
         }
         let ways = tree.ways(table, at);
@@ -162,28 +134,28 @@ fn run_good(tree: &mut Tree, table: &Table, limits: Limits) -> Answer {
         high: root.high,
         count,
         verdict,
-        figure: figure(root, limits),
+        figure: root.low + width(root) / 2,
     }
 }
 
-pub fn run(tree: &mut Tree, table: &Table, limits: Limits) -> Answer {
-    let number = run_number(table, limits);
+pub fn run(tree: &mut Tree, table: &Table, allowance: u64, budget: u64) -> Answer {
+    let number = run_number(table, allowance, budget);
     if number != 0 {
         return refused(number);
     }
     if !tree.is_good(table) {
         return refused(16);
     }
-    run_good(tree, table, limits)
+    run_good(tree, table, allowance, budget)
 }
 
 /// What one run answers on the root leaf of a table, on a tree of its own.
-pub fn run_afresh(table: &Table, limits: Limits) -> Answer {
-    let number = run_number(table, limits);
+pub fn run_afresh(table: &Table, allowance: u64, budget: u64) -> Answer {
+    let number = run_number(table, allowance, budget);
     if number != 0 {
         return refused(number);
     }
     let mut tree = Tree::new();
     tree.put_root(table);
-    run_good(&mut tree, table, limits)
+    run_good(&mut tree, table, allowance, budget)
 }

@@ -3,30 +3,40 @@
 
 use crate::figures::Figures;
 use crate::paper::{p3, p4, p8};
-use crate::report::told_of_one_cue;
+use crate::run::verdict_word;
 use crate::scripts::Call;
 use crate::sheet::{of_one_cue, Sheet};
-use crate::{by_distance, Limits, Table, DONE, MET, NONE, S, SPENT};
+use crate::{Table, DONE, MET, NONE, S, SPENT};
 
-/// A run on an opened table: what it is asked for, then number, low, high, count, verdict and figure.
+/// A run on an opened table: allowance and budget, then number, low, high, count, verdict and figure.
 pub struct Case {
     name: &'static str,
     table: Table,
     root: (u64, u64),
-    limits: Limits,
+    allowance: u64,
+    budget: u64,
     answer: [u64; 6],
 }
 
 impl Case {
     pub fn figures(self) -> Figures {
-        let run = (Call::Run(self.limits), self.answer);
-        (self.name, self.table, self.root, vec![run])
+        let run = Call::Run(self.allowance, self.budget);
+        (self.name, self.table, self.root, vec![(run, self.answer)])
     }
 
     /// Its name, its sheet and the text of that.
     pub fn printed(self) -> (&'static str, Sheet, String) {
-        let sheet = of_one_cue(self.table, self.limits);
-        (self.name, sheet, told_of_one_cue(self.answer))
+        let [number, low, high, count, verdict, _] = self.answer;
+        let word = verdict_word(verdict);
+        let text = match number {
+            0 => format!("cue low high steps verdict\n1 {low} {high} {count} {word}\n"),
+            _ => format!("refused {number}\n"),
+        };
+        let sheet = Sheet {
+            allowance: self.allowance,
+            ..of_one_cue(self.table, self.budget)
+        };
+        (self.name, sheet, text)
     }
 }
 
@@ -36,7 +46,8 @@ pub fn cases() -> Vec<Case> {
         name,
         table,
         root,
-        limits: by_distance(allowance, budget),
+        allowance,
+        budget,
         answer,
     };
     let of_p3 = |name, limits, answer| case(name, p3(), (111_111_110, 111_111_111), limits, answer);

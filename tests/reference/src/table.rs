@@ -156,14 +156,4 @@ impl Count {
         let at_most = exact <= Natural::new(high).times_s_to(self.faults);
         at_least && at_most
     }
-
-    /// Whether a number of billionths of billionths is within the share of the chance that has this sum: with X for the number
-    /// and e for the share, (S − e) × S × E ≤ X × S^n ≤ (S + e) × S × E. Nothing is rounded.
-    pub fn within_share(&self, number: u64, share: u64, sum: &Natural) -> bool {
-        let exact = sum.times_s_to(1);
-        let number = Natural::new(number).times_s_to(self.faults);
-        let at_least = exact.times((S - share) as u32) <= number;
-        let at_most = number <= exact.times((S + share) as u32);
-        at_least && at_most
-    }
 }

@@ -20,7 +20,7 @@ slice-aggregate-export : tie.Need-slice-aggregate-export
 slice-aggregate-export c = search rules
 
 slice-aggregate-export-2 : tie.Need-slice-aggregate-export-2
-slice-aggregate-export-2 c = zeros 781023
+slice-aggregate-export-2 c = zeros 781021
 
 export-requires : tie.Need-export-requires
 export-requires c κs = search rules

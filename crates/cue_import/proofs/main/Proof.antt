@@ -8,7 +8,7 @@ use Rattle.cue_import.proofs.main.Statement.{statement}
 use Rattle.cue_import.proofs.main.Tie as tie
 
 slice-aggregate-read-full : tie.Need-slice-aggregate-read-full
-slice-aggregate-read-full c = zeros 1180522
+slice-aggregate-read-full c = zeros 1180518
 
 read-full-requires : tie.Need-read-full-requires
 read-full-requires c κs = search rules

@@ -21,7 +21,7 @@ returns : tie.Need-returns
 returns c =
     let w = c.before.before.before in
     let a = w.before.before.before.before.before.before.before.before.args in
-    let m : Limits = record { allowance = a.allowance; budget = a.budget; mode = a.mode } in
+    let m : Limits = record { allowance = a.allowance; budget = a.budget } in
     let x : Lists = given a.weights.now a.numbers.now a.counts.now a.present.now a.absent.now m in
     writing-told x a.space.now w.write.ensures c.of-write.ensures
 

@@ -2,8 +2,9 @@
 
 use super::rows::{row, run, weights as weights_in, RowSaid};
 use super::writer::{front_number, write};
+use super::Limits;
 use crate::formula::{MOST_FAULTS, MOST_WAYS};
-use crate::run::{refused, Answer, Limits};
+use crate::run::{refused, Answer};
 use crate::sheet::MOST_CUES;
 
 /// The cues and the ways so far, the ways of the last cue, and whether some way names a fault beyond the 64th;
@@ -167,7 +168,10 @@ fn misread_row(k: u64) -> RowsRead {
 fn misread_at(k: u64) -> TextRead {
     TextRead {
         misread: k,
-        limits: Limits::default(),
+        limits: Limits {
+            allowance: 0,
+            budget: 0,
+        },
         faults: 0,
         cues: 0,
         ways: 0,
@@ -210,18 +214,15 @@ fn read_text(
     }
 }
 
-/// 2, 5, 6, 10 or 0 of lists of which so many weights and cues were said; the mode is known. More than a sheet may have were not all kept,
-/// and are 2 at once.
-fn front(said: &TextRead, weights: &[u32], numbers: &[u16], counts: &[u16]) -> u64 {
-    let (faults, cues) = (said.faults, said.cues);
+/// 2, 5, 6, 10 or 0 of lists of which so many weights and cues were said. More than a sheet may have were not all kept, and are 2 at once.
+fn front(faults: usize, cues: usize, weights: &[u32], numbers: &[u16], counts: &[u16]) -> u64 {
     if faults > MOST_FAULTS {
         return 2;
     }
     if cues > MOST_CUES {
         return 2;
     }
-    let mode = said.limits.mode;
-    front_number(&weights[..faults], &numbers[..cues], &counts[..cues], mode)
+    front_number(&weights[..faults], &numbers[..cues], &counts[..cues])
 }
 
 /// The sheet that a text says, at the front of the space.
@@ -245,7 +246,7 @@ pub fn import(text: &[u8], space: &mut [u8]) -> Answer {
             ..refused(23)
         };
     }
-    let number = front(&said, &weights, &numbers, &counts);
+    let number = front(said.faults, said.cues, &weights, &numbers, &counts);
     if number != 0 {
         return refused(number);
     }

@@ -1,5 +1,4 @@
-//! Runs cut in two or more against one run, all by the same distance or all by the same share: the same tree byte for byte, the
-//! same verdict, and reports that add up.
+//! Runs cut in two or more against one run: the same tree byte for byte, the same verdict, and reports that add up.
 
 use crate::bench::Bench;
 use crate::session::{Outcome, Session};
@@ -7,7 +6,7 @@ use crate::step::Step;
 use reference::paper::ring;
 use reference::random::Random;
 use reference::scripts::mostly_open;
-use reference::{Limits, Table};
+use reference::{Table, S};
 
 pub fn cuts(bench: &mut Bench) -> Outcome {
     bench.cases("up to 10 faults", 500, |session, random| {
@@ -46,10 +45,10 @@ fn cut(session: &mut Session, random: &mut Random, table: Table, parts: &[u64]) 
             session.refine(place, act)?;
         }
     }
-    let aim = if random.one_in(2) { random.narrowest(0, 0) } else { random.aim() };
+    let allowance = if random.one_in(2) { 0 } else { random.allowance().min(S) };
     session.make(Step::Copy)?;
-    parts.iter().try_for_each(|&budget| session.run(Limits { budget, ..aim }))?;
+    parts.iter().try_for_each(|&budget| session.run(allowance, budget))?;
     session.make(Step::Tree(1))?;
-    session.run(Limits { budget: parts.iter().sum(), ..aim })?;
+    session.run(allowance, parts.iter().sum())?;
     session.make(Step::Equal)
 }

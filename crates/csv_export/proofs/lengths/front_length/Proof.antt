@@ -1,5 +1,5 @@
 -- `front_length` meets its contract: the words, the line ends and the fields.
--- Rests on Measured.antt and the contracts of `field_length`, `mode_length` and `weights_length`.
+-- Rests on Measured.antt and the contracts of `field_length` and `weights_length`.
 use native.Mathlib.Omega.{arith}
 use borrow.Author.Rules.{rules}
 use Rattle.csv_export.proofs.Measured.{front_length}
@@ -12,41 +12,28 @@ field-length-requires c κs = search rules
 field-length-requires-2 : tie.Need-field-length-requires-2
 field-length-requires-2 c κs = search rules
 
-add-numbers : tie.Need-overflow-add-numbers
-add-numbers c = omega (arith, c.before.field-length.ensures.1, c.field-length2.ensures.1)
+add-limits-length : tie.Need-overflow-add-limits-length
+add-limits-length c = omega (arith, c.before.field-length.ensures.1, c.field-length2.ensures.1)
 
 add-result : tie.Need-overflow-add-result
 add-result c = omega (arith, c.before.field-length.ensures.1, c.field-length2.ensures.1)
 
-mode-length-requires : tie.Need-mode-length-requires
-mode-length-requires c κs = search rules
+weights-length-requires : tie.Need-weights-length-requires
+weights-length-requires c κs = search rules
 
 add-result-2 : tie.Need-overflow-add-result-2
 add-result-2 c =
     let f = c.before in
-    omega (arith, f.before.field-length.ensures.1, f.field-length2.ensures.1, c.mode-length.ensures.1)
-
-weights-length-requires : tie.Need-weights-length-requires
-weights-length-requires c κs = search rules
-
-add-result-3 : tie.Need-overflow-add-result-3
-add-result-3 c =
-    let m = c.before in
-    let f = m.before in
-    omega (arith, f.before.field-length.ensures.1, f.field-length2.ensures.1, m.mode-length.ensures.1, c.weights-length.ensures.1)
+    omega (arith, f.before.field-length.ensures.1, f.field-length2.ensures.1, c.weights-length.ensures.1)
 
 returns : tie.Need-returns
 returns c =
-    let m = c.before in
-    let f = m.before in
+    let f = c.before in
     let a = f.before.before.before.args in
     let one = f.before.field-length.ensures in
     let two = f.field-length2.ensures in
-    let mode = m.mode-length.ensures in
-    let all = c.weights-length.ensures in (
-      omega (arith, one.0, two.0, mode.0, all.0, front_length a.limits a.weights.now),
-      omega (arith, one.1, two.1, mode.1, all.1),
-    )
+    let all = c.weights-length.ensures in
+    (omega (arith, one.0, two.0, all.0, front_length a.limits a.weights.now), omega (arith, one.1, two.1, all.1))
 
 pub front-length-spec : {M : Type 1} → statement M
 front-length-spec =
@@ -54,10 +41,8 @@ front-length-spec =
     (tie.spec
     field-length-requires
     field-length-requires-2
-    add-numbers
+    add-limits-length
     add-result
-    mode-length-requires
-    add-result-2
     weights-length-requires
-    add-result-3
+    add-result-2
     returns)

@@ -6,7 +6,7 @@ use mathlib.Core.Path.{refl}
 use borrow.Author.Rules.{rules}
 use Rattle.rules.specs.Text.{bytes, decimal}
 use Rattle.rules.specs.declared.Limits.{Limits}
-use Rattle.csv_text.specs.Texts.{mode_fields, further_fields}
+use Rattle.csv_text.specs.Texts.{further_fields}
 use Rattle.writer.proofs.Over.{Left, left-all, left_none, next_room, next_written, wrote-long}
 use Rattle.csv_export.specs.Parts.{front_text}
 use Rattle.csv_export.proofs.whole.put_front.Statement.{statement}
@@ -23,11 +23,8 @@ from-weights ws = further_fields (map decimal ws) ++ last
 abbrev from-word : List ℕ → List ℕ
 from-word ws = (13 ∷ 10 ∷ 119 ∷ 101 ∷ 105 ∷ 103 ∷ 104 ∷ 116 ∷ 115 ∷ []) ++ from-weights ws
 
-abbrev from-mode : Limits → List ℕ → List ℕ
-from-mode m ws = further_fields (mode_fields m.mode) ++ from-word ws
-
 abbrev from-budget : Limits → List ℕ → List ℕ
-from-budget m ws = (44 ∷ decimal m.budget) ++ from-mode m ws
+from-budget m ws = (44 ∷ decimal m.budget) ++ from-word ws
 
 abbrev from-allowance : Limits → List ℕ → List ℕ
 from-allowance m ws = (44 ∷ decimal m.allowance) ++ from-budget m ws
@@ -53,27 +50,19 @@ allowance-left k =
     let r = k.before.before.before.before in
     next_written _ (start r).requires (run-left r) k.put-field.ensures
 
--- From after the second number back to after the first word.
-abbrev run_of : tie.After-put-field2 → tie.After-put-bytes
-run_of k = k.before.before.before.before.before.before.before.before
-
-budget-left : (k : tie.After-put-field2) → let s = start (run_of k) in
-    LeftOf s k.put-field2.new.0 k.put-field2.result (from-mode s.args.limits s.args.weights.now)
-budget-left k = next_written _ (start (run_of k)).requires (allowance-left k.before.before.before.before) k.put-field2.ensures
-
-mode-left : (k : tie.After-put-mode) → let s = start (run_of k.before.before.before.before) in
-    LeftOf s k.put-mode.new.0 k.put-mode.result (from-word s.args.weights.now)
-mode-left k =
+budget-left : (k : tie.After-put-field2) → let s = start k.before.before.before.before.before.before.before.before in
+    LeftOf s k.put-field2.new.0 k.put-field2.result (from-word s.args.weights.now)
+budget-left k =
     let r = k.before.before.before.before in
-    next_written _ (start (run_of r)).requires (budget-left r) k.put-mode.ensures
+    next_written _ (start r.before.before.before.before).requires (allowance-left r) k.put-field2.ensures
 
 -- From after the second word back to after the first.
 abbrev first_word : tie.After-put-bytes2 → tie.After-put-bytes
-first_word k = run_of k.before.before.before.before.before.before.before.before.before
+first_word k = k.before.before.before.before.before.before.before.before.before.before.before.before.before
 
 word-left : (k : tie.After-put-bytes2) → let s = start (first_word k) in
     LeftOf s k.put-bytes2.new.0 k.put-bytes2.result (from-weights s.args.weights.now)
-word-left k = next_written _ (start (first_word k)).requires (mode-left k.before.before.before.before.before) k.put-bytes2.ensures
+word-left k = next_written _ (start (first_word k)).requires (budget-left k.before.before.before.before.before) k.put-bytes2.ensures
 
 weights-left : (k : tie.After-put-weights) → let s = start (first_word k.before.before.before.before) in
     LeftOf s k.put-weights.new.0 k.put-weights.result last
@@ -102,19 +91,14 @@ put-field-requires-2 c κs =
     let r = c.before.before.before in
     next_room _ (start r.before.before.before.before).requires (allowance-left r)
 
-put-mode-requires : tie.Need-put-mode-requires
-put-mode-requires c κs =
-    let r = c.before.before.before in
-    next_room _ (start (run_of r)).requires (budget-left r)
-
 slice-aggregate-put-bytes-2 : tie.Need-slice-aggregate-put-bytes-2
 slice-aggregate-put-bytes-2 c = search rules
 
 put-bytes-requires-2 : tie.Need-put-bytes-requires-2
 put-bytes-requires-2 c κs =
     let r = c.before.before.before.before in
-    let s = start (run_of r.before.before.before.before) in
-    next_room (from-weights s.args.weights.now) s.pre (mode-left r)
+    let s = start r.before.before.before.before.before.before.before.before in
+    next_room (from-weights s.args.weights.now) s.pre (budget-left r)
 
 put-weights-requires : tie.Need-put-weights-requires
 put-weights-requires c κs =
@@ -146,7 +130,6 @@ put-front-spec =
     put-bytes-requires
     put-field-requires
     put-field-requires-2
-    put-mode-requires
     slice-aggregate-put-bytes-2
     put-bytes-requires-2
     put-weights-requires

@@ -11,7 +11,7 @@ use Rattle.rules.specs.Refusals.{table_number, Accepted}
 use Rattle.rules.specs.Calls.{Call, by_hand}
 use Rattle.records.specs.declared.Tree.{Tree}
 use Rattle.store.specs.Lent.{tree_of}
-use Rattle.dtree.proofs.Refuses.{refused-call, hand-table, hand-sixteen, found_bad, found_good}
+use Rattle.dtree.proofs.Refuses.{refused-call, by-table, hand-sixteen, found_bad, found_good}
 use Rattle.dtree.proofs.One.{refining}
 use Rattle.dtree.proofs.refining.refine.Statement.{statement}
 use Rattle.dtree.proofs.refining.refine.Tie as tie
@@ -45,7 +45,7 @@ returns : tie.Need-returns
 returns c =
     let s = entry c.before in
     refining _ _ _ _ _ _
-    (refused-call (given s) (lent s) (asked s) _ (hand-table (given s) (lent s) _ _ _ c.before.table-number.ensures c.if1.true)
+    (refused-call (given s) (lent s) (asked s) _ (by-table (given s) (lent s) (asked s) _ c.before.table-number.ensures c.if1.true)
     c.if1.true)
 
 is-good-requires : tie.Need-is-good-requires

@@ -1,4 +1,4 @@
--- `run` meets its contract: refused by 3 or 9 to 15, by 16, or made.
+-- `run` meets its contract: refused by 9 to 15, by 16, or made.
 -- Rests on Refuses.antt, Verdicts.antt and the contracts of `run_number`, `is_good` and `run_good`.
 use mathlib.Core.Path.{◌≡◌}
 use mathlib.Core.Bool.{false}
@@ -30,7 +30,7 @@ entry e = e.before.before.before.before.before
 abbrev entry-2 : tie.Else2 → tie.Start
 entry-2 e = entry e.before.before.before
 
--- Behind the first test neither 3 nor any of 9 to 15 applies.
+-- Behind the first test none of 9 to 15 applies.
 passed : (e : tie.Else1) → run_number (given (entry e)) false (entry e).args.limits ≡ 0
 passed e = let_through _ _ _ e.before.run-number.ensures e.if1.false
 

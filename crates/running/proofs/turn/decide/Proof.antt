@@ -64,10 +64,7 @@ record-at-requires : tie.Need-record-at-requires
 record-at-requires c κs = search rules
 
 narrow-requires : tie.Need-narrow-requires
-narrow-requires c κs =
-    let s = c.before in
-    let root = s.requires.1.0.each 0 in
-    rw c.record-at.ensures (s.requires.1.1, (root.low_le, root.high_le))
+narrow-requires c κs = search rules
 
 returns : tie.Need-returns
 returns c =

@@ -16,16 +16,8 @@ u16-at-requires c κs = search rules
 cast-budget : tie.Need-overflow-cast-budget
 cast-budget c = search rules
 
-u16-at-requires-2 : tie.Need-u16-at-requires-2
-u16-at-requires-2 c κs = search rules
-
-cast-mode : tie.Need-overflow-cast-mode
-cast-mode c = search rules
-
 returns : tie.Need-returns
-returns c =
-    let budget = c.before.u16-at.ensures in
-    λ j. record { allowance = c.before.before.u32-at.ensures j; budget = budget j; mode = c.u16-at2.ensures j }
+returns c = λ j. record { allowance = c.before.u32-at.ensures j; budget = c.u16-at.ensures j }
 
 pub limits-in-spec : {M : Type 1} → statement M
-limits-in-spec = tie.close (tie.spec u32-at-requires cast-allowance u16-at-requires cast-budget u16-at-requires-2 cast-mode returns)
+limits-in-spec = tie.close (tie.spec u32-at-requires cast-allowance u16-at-requires cast-budget returns)

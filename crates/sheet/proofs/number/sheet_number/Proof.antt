@@ -7,8 +7,8 @@ use borrow.Author.Rules.{rules}
 use borrow.Author.Tests.{lt-ltb, le-ltb}
 use lib.Dec.{ltb}
 use lib.ListN.{length, drop}
-use Rattle.rules.specs.Refusals.{first, faults_outside, mode_above}
-use Rattle.rules.specs.Sheet.{read_number, read_refusals, faults_in, limits_in}
+use Rattle.rules.specs.Refusals.{first, faults_outside}
+use Rattle.rules.specs.Sheet.{read_number, read_refusals, faults_in}
 use Rattle.rules.proofs.Booleans.{or_left}
 use Rattle.rules.proofs.First.{first-here, first-later}
 use Rattle.rules.proofs.WriterLists.{faults-most}
@@ -31,18 +31,14 @@ past-2 : (c : tie.Else2) → let s = bytes_2 c in read_number s ≡ first (drop 
 unfolding read_refusals
 past-2 c = past-1 c.before.before ∙ first-later _ _ (sym c.before.outside.ensures ∙ c.if2.false)
 
--- What the code finds of the mode.
-above : (k : tie.After-mode-above) → k.mode-above.result ≡ mode_above (limits_in (bytes_2 k.before.before))
-above k = k.mode-above.ensures ∙ ap mode_above k.before.limits-in.ensures
-
 abbrev bytes-3 : tie.Else3 → List ℕ
-bytes-3 c = bytes_2 c.before.before.before
+bytes-3 c = bytes_2 c.before.before
 
 past-3 : (c : tie.Else3) → let s = bytes-3 c in read_number s ≡ first (drop 3 (read_refusals s))
 unfolding read_refusals
 past-3 c =
-    let k = c.before in
-    past-2 k.before.before ∙ first-later _ _ (sym (above k) ∙ c.if3.false)
+    let z = c.before.u16-at in
+    past-2 c.before.before ∙ first-later _ _ (sym (ap (ltb 0) z.ensures) ∙ le-ltb 0 z.result c.if3.false)
 
 abbrev bytes_4 : tie.Else4 → List ℕ
 bytes_4 c = bytes-3 c.before.before
@@ -67,17 +63,14 @@ returns-2 : tie.Need-returns-2
 unfolding read_refusals
 returns-2 c = sym (past-1 c.before.before ∙ first-here _ _ (sym c.before.outside.ensures ∙ c.if2.true))
 
-limits-in-requires : tie.Need-limits-in-requires
-limits-in-requires c κs = search rules
-
-mode-above-requires : tie.Need-mode-above-requires
-mode-above-requires c κs = search rules
+u16-at-requires : tie.Need-u16-at-requires
+u16-at-requires c κs = search rules
 
 returns-3 : tie.Need-returns-3
 unfolding read_refusals
 returns-3 c =
-    let k = c.before in
-    sym (past-2 k.before.before ∙ first-here _ _ (sym (above k) ∙ c.if3.true))
+    let z = c.before.u16-at in
+    sym (past-2 c.before.before ∙ first-here _ _ (sym (ap (ltb 0) z.ensures) ∙ lt-ltb 0 z.result c.if3.true))
 
 bodies-in-requires : tie.Need-bodies-in-requires
 bodies-in-requires c κs = search rules
@@ -92,7 +85,7 @@ returns-4 c =
 
 contents-number-requires : tie.Need-contents-number-requires
 contents-number-requires c κs =
-    let q = c.before.before.before.before.before in
+    let q = c.before.before.before.before in
     let n = faults_in (bytes_2 q) in
     faults-most n (or_left (faults_outside n) _ (sym q.before.outside.ensures ∙ q.if2.false))
 
@@ -106,8 +99,7 @@ sheet-number-spec =
     returns
     outside-requires
     returns-2
-    limits-in-requires
-    mode-above-requires
+    u16-at-requires
     returns-3
     bodies-in-requires
     returns-4

@@ -15,9 +15,9 @@ start row = row.before.before.before
 abbrev row_of : tie.After-put → tie.After-put-row
 row_of budget = budget.before.before.before.before
 
--- After the budget, from after the mode.
+-- After the budget, from after the zero.
 abbrev budget-of : tie.After-put2 → tie.After-put
-budget-of mode = mode.before.before.before.before
+budget-of zero = zero.before.before.before.before
 
 -- ---- room for each, and all of them written
 
@@ -41,10 +41,10 @@ put-requires-2 c κs =
 returns : tie.Need-returns
 unfolding head_bytes
 returns c =
-    let mode = c.before.before in
-    let budget = budget-of mode in
+    let zero = c.before.before in
+    let budget = budget-of zero in
     let row = row_of budget in
-    wrote-three _ _ (start row).pre row.put-row.ensures budget.put.ensures mode.put2.ensures
+    wrote-three _ _ (start row).pre row.put-row.ensures budget.put.ensures zero.put2.ensures
 
 same_length : tie.Need-same-length
 same_length c = wrote-long (start (row_of (budget-of c.before.before))).requires (returns c)

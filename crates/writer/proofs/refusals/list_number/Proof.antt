@@ -34,7 +34,7 @@ past-front c =
 sizes : (c : tie.Else1) → (length (lists-1 c).weights ≤ 64) × (length (lists-1 c).counts ≤ 24)
 sizes c =
     let x = lists-1 c in
-    front-sizes x.weights x.numbers x.counts x.limits (sym c.before.front-number.ensures ∙ c.if1.false)
+    front-sizes x.weights x.numbers x.counts (sym c.before.front-number.ensures ∙ c.if1.false)
 
 abbrev lists-2 : tie.Else2 → Lists
 lists-2 c = lists-1 c.before.before
