@@ -1,6 +1,8 @@
 //! Weights from captures: the types that its definitions and its code share (docs/RULES.md, 14).
 //! logs.rt counts what a node heard, fractions.rt adds fractions, compares them and makes weights of them.
 //! Rests on the definitions of specs/, and of `rules` on the billion and on the form of refusals alone.
+#![tactic(auto)]
+
 pub mod fractions;
 pub mod logs;
 
@@ -8,7 +10,7 @@ pub mod logs;
 pub const LIMIT: u64 = 4000000000;
 
 /// A log while it is heard: whether a packet came, the last accepted number, and the packets discarded and judged so far.
-#[derive(Drop)]
+#[derive(Clone, Copy)]
 pub struct Log {
     pub heard: bool,
     pub last: u8,
@@ -17,28 +19,28 @@ pub struct Log {
 }
 
 /// A fraction: discarded of judged packets.
-#[derive(Drop)]
+#[derive(Clone, Copy)]
 pub struct Fraction {
     pub discarded: u64,
     pub judged: u64,
 }
 
 /// The answer of a log, of several, and of a sum of fractions.
-#[derive(Drop)]
+#[derive(Clone, Copy)]
 pub enum FractionAnswer {
     Counted(Fraction),
     Refused(u8),
 }
 
 /// The answer of making a weight of a fraction.
-#[derive(Drop)]
+#[derive(Clone, Copy)]
 pub enum WeightAnswer {
     Weight(u32),
     Refused(u8),
 }
 
 /// The answer of comparing a fraction with another.
-#[derive(Drop)]
+#[derive(Clone, Copy)]
 pub enum OrderAnswer {
     Less,
     Equal,

@@ -1,5 +1,7 @@
 //! The refusals of tables, limits and sheets that are tests on numbers and lists, as code.
 //! Each function returns what the definition of the crate `rules` that its contract names says, for slices of any length.
+#![tactic(auto)]
+
 pub mod limits;
 pub mod lists;
 pub mod table;

@@ -1,6 +1,8 @@
 //! The export of a sheet: its bytes in, the text that they say out into a lent space, or a refusal that leaves the space as it was.
 //! `entries` reads a cue's entry, `lengths` measures the text before anything is written, `pieces` and `whole` write it.
 //! What a call promises: `csv`, Promises.
+#![tactic(auto)]
+
 mod entries;
 mod lengths;
 mod pieces;

@@ -1,5 +1,7 @@
 //! The import: a text read in one pass into the lists of the sheet that it says, then the writer's call on those lists.
 //! Rests on the records of `csv_rows` and on `writer`. What a call promises stands in `csv`, Promises.
+#![tactic(auto)]
+
 ghost use Rattle.std.specs.Prelude.{◌≡◌, ◌||◌, ◌∷◌, length, take, ltb};
 ghost use Rattle.rules.specs.Refusals.{refusal, first};
 ghost use Rattle.writer.specs.Given.{front_refusals};

@@ -12,7 +12,7 @@ use rules::Limits;
 
 /// What was read of the records of ways: the number of the first that is misread; where none is, the cues, the ways,
 /// and whether some way names a fault beyond the 64th.
-#[derive(Drop)]
+#[derive(Clone, Copy)]
 pub struct RowsRead {
     pub misread: u64,
     pub cues: usize,
@@ -21,7 +21,7 @@ pub struct RowsRead {
 }
 
 /// What was read of a text: likewise, with the limits and how many weights there are.
-#[derive(Drop)]
+#[derive(Clone, Copy)]
 pub struct TextRead {
     pub misread: u64,
     pub limits: Limits,

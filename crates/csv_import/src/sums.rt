@@ -8,7 +8,7 @@ use csv_rows::RowSaid;
 
 /// The cues and the ways so far, the ways of the last cue, and whether some way names a fault beyond the 64th;
 /// of the last record its cue number and whether it has a way.
-#[derive(Drop)]
+#[derive(Clone, Copy)]
 pub struct Sums {
     pub cues: usize,
     pub ways: usize,

@@ -1,5 +1,7 @@
 //! One line of a text, read by one cursor: its fields, and what it says as the record of the limits, of the weights or of a way.
 //! Rests on `decimal` and on the definitions of `csv`. What each function tells stands in specs/Told.antt.
+#![tactic(auto)]
+
 use csv_text::Fault;
 use rules::Limits;
 
@@ -8,7 +10,7 @@ pub mod heads;
 pub mod ways;
 
 /// What a line says as the record of the limits, and where the next line starts; not good, both limits are 0.
-#[derive(Drop)]
+#[derive(Clone, Copy)]
 pub struct RunSaid {
     pub good: bool,
     pub limits: Limits,
@@ -16,7 +18,7 @@ pub struct RunSaid {
 }
 
 /// What a line says as the record of the weights: how many there are; not good, the count is 0. Then where the next line starts.
-#[derive(Drop)]
+#[derive(Clone, Copy)]
 pub struct WeightsSaid {
     pub good: bool,
     pub count: usize,
@@ -25,7 +27,7 @@ pub struct WeightsSaid {
 
 /// What a line says as the record of a way: its cue, whether there is a way, whether that names a fault beyond the 64th,
 /// and if not, the words of the faults that it names. Then where the next line starts.
-#[derive(Drop)]
+#[derive(Clone, Copy)]
 pub struct RowSaid {
     pub good: bool,
     pub cue: u16,
@@ -37,14 +39,14 @@ pub struct RowSaid {
 }
 
 /// The number at a position of a text, and where its digits end.
-#[derive(Drop)]
+#[derive(Clone, Copy)]
 pub struct NumberAt {
     pub value: u64,
     pub end: usize,
 }
 
 /// What was read of a field, and where that ends: a number, perhaps behind a minus, or a word; not good, it is neither. A word has value 0.
-#[derive(Drop)]
+#[derive(Clone, Copy)]
 pub struct ReadAt {
     pub good: bool,
     pub absent: bool,
@@ -54,7 +56,7 @@ pub struct ReadAt {
 
 /// A field of a text as a number, perhaps behind a minus, or as a word, whether a further field follows, and the position behind the byte
 /// that ends it: that field starts there, or else the next line one further on.
-#[derive(Drop)]
+#[derive(Clone, Copy)]
 pub struct FieldAt {
     pub good: bool,
     pub absent: bool,
@@ -64,7 +66,7 @@ pub struct FieldAt {
 }
 
 /// The same as a fault.
-#[derive(Drop)]
+#[derive(Clone, Copy)]
 pub struct FaultAt {
     pub good: bool,
     pub fault: Fault,
@@ -73,7 +75,7 @@ pub struct FaultAt {
 }
 
 /// The words of faults, and whether one of them is beyond the 64th.
-#[derive(Drop)]
+#[derive(Clone, Copy)]
 pub struct Words {
     pub far: bool,
     pub present: u64,
@@ -81,7 +83,7 @@ pub struct Words {
 }
 
 /// Fields as the faults of a way, and where the next line starts; not good, the words are 0.
-#[derive(Drop)]
+#[derive(Clone, Copy)]
 pub struct NamesSaid {
     pub good: bool,
     pub words: Words,

@@ -1,5 +1,7 @@
 //! The program that makes a text of a sheet: reads the sheet on standard input and writes its text to standard output.
 //! Rests on `csv_export`, whose contract says what the text is. A refusal is one line on standard error, and then standard output stays empty.
+#![tactic(auto)]
+
 use rules::WriteAnswer;
 
 /// The line of a refusal.

@@ -1,5 +1,7 @@
 //! The program that makes a sheet of a text: reads the text on standard input and writes the sheet's bytes to standard output.
 //! Rests on `csv_import`, whose contract says what the bytes are. A refusal is one line on standard error, and then standard output stays empty.
+#![tactic(auto)]
+
 use csv_text::ImportAnswer;
 
 /// The line of a refusal.

@@ -1,11 +1,13 @@
 //! The answers of the C interface: structs of plain numbers, as include/cue_risk.h has them. numbers.rt makes each from the answer of the call that
 //! it tells, by the definitions of specs/Numbers.antt. Rests on the answers of `rules`, `page`, `sheet`, `csv` and `captures`; `cuerisk` has the exports.
+#![tactic(auto)]
+
 pub mod numbers;
 
 /// The answer of a call on a tree, and of a call that fills a space: writer, report, import and export. `verdict` is 0 none, 1 met, 2 done, 3 full, 4 spent.
 /// `figure` is that of an accepted run, and 0 in every other answer.
 #[repr(C)]
-#[derive(Drop)]
+#[derive(Clone, Copy)]
 pub struct CueAnswer {
     pub number: u64,
     pub low: u64,
@@ -17,7 +19,7 @@ pub struct CueAnswer {
 
 /// The answer of the search of lent records: 1 and the position, or 0 and 0.
 #[repr(C)]
-#[derive(Drop)]
+#[derive(Clone, Copy)]
 pub struct CueSpot {
     pub found: u64,
     pub at: usize,
@@ -25,7 +27,7 @@ pub struct CueSpot {
 
 /// The answer of reading a whole sheet: its head, or the number that refuses it and zeros.
 #[repr(C)]
-#[derive(Drop)]
+#[derive(Clone, Copy)]
 pub struct CueSheet {
     pub number: u64,
     pub faults: u64,
@@ -36,7 +38,7 @@ pub struct CueSheet {
 
 /// The answer of a reader's call: a cue; past the last cue `past` is 1 and the rest 0; refused, the number and zeros.
 #[repr(C)]
-#[derive(Drop)]
+#[derive(Clone, Copy)]
 pub struct CueEntry {
     pub number: u64,
     pub past: u64,
@@ -48,7 +50,7 @@ pub struct CueEntry {
 /// The answer of a call for a cue's table: the first `faults` weights, the first `ways` words of each kind, and zeros behind them; past the last
 /// cue `past` is 1 and the rest 0; refused, the number and zeros.
 #[repr(C)]
-#[derive(Drop)]
+#[derive(Clone, Copy)]
 pub struct CueTable {
     pub number: u64,
     pub past: u64,
@@ -61,7 +63,7 @@ pub struct CueTable {
 
 /// The answer of counting one log or several, and of adding fractions: the fraction, or the number that refuses it and 0 of 0.
 #[repr(C)]
-#[derive(Drop)]
+#[derive(Clone, Copy)]
 pub struct CueFraction {
     pub number: u64,
     pub discarded: u64,
@@ -70,7 +72,7 @@ pub struct CueFraction {
 
 /// The answer of making a weight of a fraction: the weight, or the number that refuses it and 0.
 #[repr(C)]
-#[derive(Drop)]
+#[derive(Clone, Copy)]
 pub struct CueWeight {
     pub number: u64,
     pub weight: u64,
@@ -78,7 +80,7 @@ pub struct CueWeight {
 
 /// The answer of comparing a fraction with another: 1 less, 2 equal, 3 greater, or the number that refuses it and 0.
 #[repr(C)]
-#[derive(Drop)]
+#[derive(Clone, Copy)]
 pub struct CueOrder {
     pub number: u64,
     pub order: u64,

@@ -1,5 +1,7 @@
 //! A reader of a sheet: it holds a sheet and a position in its contents (RULES 7.12).
 //! The work is `call_at`'s, on a slice and a number. Whatever takes or makes a `Reader`, which holds a reference, is proved by hand.
+#![tactic(auto)]
+
 ghost use Rattle.std.specs.Prelude.{◌≡◌};
 ghost use Rattle.rules.specs.Answers.{place_after};
 ghost use Rattle.rules.specs.Sheet.{entry_answer};
@@ -10,14 +12,14 @@ use rules::EntryAnswer;
 use sheet::reader::cue_at;
 
 /// The sheet, and the position in its contents of the cue that the next call hands over.
-#[derive(Drop)]
+#[derive(Clone, Copy)]
 pub struct Reader<'a> {
     pub sheet: &'a [u8],
     pub at: usize,
 }
 
 /// What a call gives: its answer, and the reader's place after it.
-#[derive(Drop)]
+#[derive(Clone, Copy)]
 pub struct Call {
     pub answer: EntryAnswer,
     pub at: usize,

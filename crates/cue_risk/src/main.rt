@@ -1,5 +1,6 @@
 //! The program: reads one risk sheet on standard input and prints a line for each cue, or why the sheet is refused.
 //! Rests on `report`, whose contract says what the text is; here it is only read for and written.
+#![tactic(auto)]
 
 /// The longest sheet has 49,612 bytes. One more is read, so that a longer input is refused as one.
 fn main() {

@@ -1,6 +1,8 @@
 //! The program that makes a weight of logs: each argument names a file of sequence bytes, and together they are the logs of one node.
 //! Prints the packets discarded, those judged and the weight, or the line of a refusal. Rests on `captures`, whose contracts say what they are; a
 //! file is read in pieces, so that it may be of any length.
+#![tactic(auto)]
+
 ghost use Rattle.cue_weight.specs.Reading.{GoesOn};
 
 use captures::fractions::{add, weight};
@@ -8,7 +10,7 @@ use captures::logs::{counted, hear_all, is_full};
 use captures::{Fraction, FractionAnswer, Log, SILENT, WeightAnswer};
 
 /// What one read of a file comes to: the log after one more piece, the end of the file, or a read that failed.
-#[derive(Drop)]
+#[derive(Clone, Copy)]
 pub enum Piece {
     More(Log),
     End,
@@ -16,7 +18,7 @@ pub enum Piece {
 }
 
 /// What a file comes to: its log, or nothing, which standard error tells.
-#[derive(Drop)]
+#[derive(Clone, Copy)]
 enum Heard {
     Whole(Log),
     Unread,

@@ -2,6 +2,8 @@
 //! Each export is one call of `dtree`, `page`, `sheet`, `writer`, `report`, `csv_import`, `csv_export` or `captures`, and carries its promise whole
 //! (specs/Told.antt); `cue_numbers` says which numbers stand for which answer. No enum crosses this border, and a number that a rule
 //! judges crosses it whole, in 64 bits.
+#![tactic(auto)]
+
 mod reports;
 
 ghost use Rattle.std.specs.Prelude.{◌≡◌};

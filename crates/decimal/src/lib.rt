@@ -1,11 +1,13 @@
 //! Numbers in decimal: the digits of a number. Which bytes are a number stands in specs/.
 //! Rests on the definitions of `rules`, Text.
+#![tactic(auto)]
+
 ghost use Rattle.std.specs.Prelude.{◌≡◌, length, drop, ◌<◌};
 ghost use Rattle.rules.specs.Text.{decimal};
 ghost use Rattle.decimal.specs.Numerals.{digits_in};
 
 /// The digits of a number: the bytes from `from` on.
-#[derive(Drop)]
+#[derive(Clone, Copy)]
 pub struct Digits {
     pub bytes: [u8; 20],
     pub from: usize,

@@ -1,6 +1,8 @@
 //! The leaf that a hand refinement names, found by the links of the records, and which of 17 to 20 refuses it.
 //! Rests on the records of `records`, lent as `store` has them and read by `node`, and on `formula`.
 //! specs/ has the numbers told from records, proofs/ that on a layout they are the rules'.
+#![tactic(auto)]
+
 ghost use Rattle.std.specs.Prelude.{◌≡◌, ◌≤◌, length};
 ghost use Rattle.store.specs.Lent.{tree_of};
 ghost use Rattle.store.specs.Safe.{Safe};
@@ -17,14 +19,14 @@ use store::{Words, record_at, used_in};
 const LONGEST: usize = 64;
 
 /// Where a place leads: to a record, or to none.
-#[derive(Drop)]
+#[derive(Clone, Copy)]
 enum Reached {
     At(usize),
     Nowhere,
 }
 
 /// The record of the leaf to refine, or the number of the refusal.
-#[derive(Drop)]
+#[derive(Clone, Copy)]
 pub enum Named {
     Leaf(usize),
     Refused(u8),

@@ -12,7 +12,7 @@ use clauses::sets::{alone, minus};
 use clauses::taking::{faults, none_left, taken};
 
 /// How far a group has come: the word of its faults, and the ways that are not in it.
-#[derive(Drop)]
+#[derive(Clone, Copy)]
 struct Swept {
     word: u64,
     rest: Clauses,

@@ -1,5 +1,7 @@
 //! A leaf's formula, computed: its two ends, its groups, its common part, its children, and the fault that a run fixes.
 //! Each function returns what the definition of the crate `rules` that its contract names says; numbers are billionths, in u64.
+#![tactic(auto)]
+
 pub mod child;
 pub mod choice;
 pub mod common;
@@ -9,7 +11,7 @@ pub mod leaf;
 use clauses::Clauses;
 
 /// A leaf's two ends, and 1 in `live` if the leaf is open, 0 if it is closed.
-#[derive(Drop)]
+#[derive(Clone, Copy)]
 pub struct Ends {
     pub low: u64,
     pub high: u64,
@@ -17,7 +19,7 @@ pub struct Ends {
 }
 
 /// What picking has made of some ways of a leaf: the faults that the kept ones name, as a word, and the leaf's two ends with these ways.
-#[derive(Drop)]
+#[derive(Clone, Copy)]
 struct Picked {
     held: u64,
     low: u64,
@@ -25,7 +27,7 @@ struct Picked {
 }
 
 /// The ways of the two children of a refined leaf.
-#[derive(Drop)]
+#[derive(Clone, Copy)]
 pub struct Children {
     pub left: Clauses,
     pub right: Clauses,

@@ -22,7 +22,7 @@ use rules::Kind;
 use store::{Words, put_record, put_used, record_at, used_in};
 
 /// The records that a refinement of a leaf writes: its own and those of its two leaves.
-#[derive(Drop)]
+#[derive(Clone, Copy)]
 struct Branch {
     node: Node,
     left: Node,

@@ -1,5 +1,7 @@
 //! What a record says, and how one is made: the one home of its codes. Here a leaf's record and a refined one are made; `told` reads a record,
 //! `join` gives it the interval from its children's. Rests on `records`, Records and Growing; a leaf's figures come from `formula`.
+#![tactic(auto)]
+
 pub mod join;
 pub mod told;
 

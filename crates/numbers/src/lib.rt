@@ -1,5 +1,7 @@
 //! Numbers read from standard input, for test programs: decimal digits, one other byte after each number.
 //! Past the end of the input every number is 0. Rests on `io` alone.
+#![tactic(auto)]
+
 ghost use Rattle.std.specs.Prelude.{◌≡◌, ◌+◌, ◌-◌, ◌*◌, ◌^◌, ◌<◌, ◌≤◌};
 ghost use Rattle.io.specs.Counts.{IsPrefixLen};
 

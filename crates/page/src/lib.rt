@@ -1,5 +1,7 @@
 //! The search for the page that draws the tree: at which position the widest open leaf stands in lent records, whatever they hold (RULES 10).
 //! Rests on the records of `records`, read by `node`. specs/ has the search as a definition and what it finds; proofs/ what that says of a tree.
+#![tactic(auto)]
+
 ghost use Rattle.std.specs.Prelude.{◌≡◌};
 ghost use Rattle.page.specs.Widest.{counted_width, none_yet, better_of, answer_of, widest_of, WidestLaw};
 
@@ -7,14 +9,14 @@ use node::told::{is_open_leaf, width};
 use records::{Node, RECORDS, Tree};
 
 /// What the page is told: the position of a record, or that there is none.
-#[derive(Drop)]
+#[derive(Clone, Copy)]
 pub enum Spot {
     At(usize),
     Nothing,
 }
 
 /// The widest so far and its position. The width is 0 as long as there is none.
-#[derive(Drop)]
+#[derive(Clone, Copy)]
 struct Best {
     at: usize,
     width: u64,

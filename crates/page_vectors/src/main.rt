@@ -1,5 +1,7 @@
 //! A test: lends records that no tree has, and the records of trees, and prints what the page is told: a position or `none`.
 //! Rests on `page` and `dtree`. Beside each case stands why its line is expected.
+#![tactic(auto)]
+
 ghost use Rattle.std.specs.Prelude.{◌≡◌, ◌≤◌, take};
 ghost use Rattle.page.specs.Widest.{widest_of};
 

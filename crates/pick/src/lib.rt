@@ -1,6 +1,8 @@
 //! Which leaf a run refines next: the widest open one, the leftmost if several are as wide, found by the links of the records.
 //! Rests on the records of `records`, read by `node`, and on `store`.
 //! specs/ has the search as a definition, proofs/ that on a layout it finds the rules' next leaf.
+#![tactic(auto)]
+
 ghost use Rattle.std.specs.Prelude.{◌≡◌, false, ◌+◌, ◌<◌};
 ghost use Rattle.records.specs.Records.{tree_records};
 ghost use Rattle.store.specs.Lent.{tree_of};
@@ -19,7 +21,7 @@ const LEFT: usize = 0;
 const RIGHT: usize = 1;
 
 /// What a search finds: the record of an open leaf and its width, or that no leaf is open.
-#[derive(Drop)]
+#[derive(Clone, Copy)]
 pub enum Found {
     At(usize, u64),
     Nothing,
@@ -27,7 +29,7 @@ pub enum Found {
 
 /// How far a search has come: the record where it is, whether it goes down there or comes back up, whether it is over, and if it has found
 /// `some` open leaf, the record and the width of the best. Plain numbers, so that a step costs little.
-#[derive(Drop)]
+#[derive(Clone, Copy)]
 struct Search {
     at: usize,
     down: bool,

@@ -6,7 +6,7 @@ ghost use Rattle.reader_vectors.specs.Lines.{shown};
 use rules::EntryAnswer;
 
 /// The figures of a line.
-#[derive(Drop)]
+#[derive(Clone, Copy)]
 pub struct Line {
     pub number: u64,
     pub past: u64,

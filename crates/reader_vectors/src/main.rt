@@ -1,5 +1,7 @@
 //! A test: a reader is driven past the last cue of the sheet of RULES 11.7, which standard input has, and over that sheet cut short or changed in one byte.
 //! A line for each call: number, 1 past the last, cue, ways, start of the body. Each expected line follows from RULES 7 and 8, as said beside its sheet.
+#![tactic(auto)]
+
 mod lines;
 
 ghost use Rattle.std.specs.Prelude.{◌<◌, ◌≤◌};

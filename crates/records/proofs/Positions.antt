@@ -84,6 +84,7 @@ sides-differ q p e = true≢false (sym (ends-left q) ∙ ap ends_left e ∙ ends
 -- A held place is found, and what is behind the list does not matter.
 pub position-inside : (p : Place) (ps qs : List Place) → Held p ps → position p (ps ++ qs) < length ps
 unfolding position
+position-inside p [] qs h = elim h [ ]
 position-inside p (q ∷ ps) qs h = by (same_place p q) refl h (λ k. position-inside p ps qs k)
   where
     by : (b : Bool) → same_place p q ≡ b → Held p (q ∷ ps) → (Held p ps → position p (ps ++ qs) < length ps)
@@ -94,6 +95,7 @@ position-inside p (q ∷ ps) qs h = by (same_place p q) refl h (λ k. position-i
 
 pub position-finds : (p : Place) (ps qs : List Place) → Held p ps → get_or ps (position p (ps ++ qs)) [] ≡ p
 unfolding position
+position-finds p [] qs h = elim h [ ]
 position-finds p (q ∷ ps) qs h = by (same_place p q) refl h (λ k. position-finds p ps qs k)
   where
     by : (b : Bool) → same_place p q ≡ b → Held p (q ∷ ps) → (Held p ps → get_or ps (position p (ps ++ qs)) [] ≡ p)
@@ -104,6 +106,7 @@ position-finds p (q ∷ ps) qs h = by (same_place p q) refl h (λ k. position-fi
 
 pub position-append : (p : Place) (ps qs : List Place) → Held p ps → position p (ps ++ qs) ≡ position p ps
 unfolding position
+position-append p [] qs h = elim h [ ]
 position-append p (q ∷ ps) qs h = by (same_place p q) refl h (λ k. position-append p ps qs k)
   where
     by : (b : Bool) → same_place p q ≡ b → Held p (q ∷ ps) → (Held p ps → position p (ps ++ qs) ≡ position p ps)
@@ -163,6 +166,7 @@ position-get ns p h = rw (append-nil (places ns)) at (position-finds p (places n
 -- A refined place has its children in the list.
 pub child-held : (q : Place) (k : Kind) (b : Side) (ns : List Refinement) → In (record { place = q; kind = k }) ns → Held (q ++ (b ∷ [])) (children ns)
 unfolding children
+child-held q k b [] x' = elim x' [ ]
 child-held q k left (n ∷ ns) (Memᴰ.head h) = Memᴰ.head (ap (λ (m : Refinement). m.place ++ (left ∷ [])) h)
 child-held q k right (n ∷ ns) (Memᴰ.head h) = Memᴰ.tail (Memᴰ.head (ap (λ (m : Refinement). m.place ++ (right ∷ [])) h))
 child-held q k b (n ∷ ns) (Memᴰ.tail h) = Memᴰ.tail (Memᴰ.tail (child-held q k b ns h))
@@ -205,6 +209,7 @@ stays (n ∷ ns) s r h = stays ns (refine n s) r (has-stays r n.place n.kind s h
 
 children-has : (t : Table) (ns : List Refinement) (s : DTree) → series_from t s ns ≡ true → (r : Place) → Held r (children ns) → has_at r (grow s ns) ≡ true
 unfolding children grow series_from
+children-has t [] s h r i = elim i [ ]
 children-has t (n ∷ ns) s h r i = by i (children-has t ns (refine n s) (and_right (acceptable t s n) _ h) r)
   where
     here : (b : Side) → has_at (n.place ++ (b ∷ [])) (grow (refine n s) ns) ≡ true
@@ -298,6 +303,7 @@ other-child' q p = is_false _ (λ h. sides-differ p q (sym (same-equal (q ++ (ri
 next_of : (q : Place) (k : Kind) (ns : List Refinement) → In (record { place = q; kind = k }) ns
     → position (q ++ (right ∷ [])) (children ns) ≡ suc (position (q ++ (left ∷ [])) (children ns))
 unfolding position children
+next_of q k [] i = elim i [ ]
 next_of q k (n ∷ ns) i = by (same_place q n.place) refl i (next_of q k ns)
   where
     by : (b : Bool) → same_place q n.place ≡ b → In (record { place = q; kind = k }) (n ∷ ns)

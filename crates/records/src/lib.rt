@@ -1,5 +1,6 @@
 //! A tree's records, all of one layout, the root in record 0; and how many there are.
 //! specs/ says which records a series of refinements gives and how to read the series back; proofs/ that these belong together.
+#![tactic(auto)]
 
 /// The records of a tree, one for each node that 255 refinements make. A contract cannot cite a constant: there it is `tree_records`.
 pub const RECORDS: usize = 511;
@@ -12,7 +13,7 @@ pub const FIELDS: usize = 14;
 /// remaining ways (0 to 63, 64 to 127); `present` and `absent` are the fixed faults, `out` those left out; `ownlow` and
 /// `ownhigh` are the interval as a leaf, `low` and `high` the interval that the node has.
 #[repr(C)]
-#[derive(Drop)]
+#[derive(Clone, Copy)]
 pub struct Node {
     pub kind: u64,
     pub fault: u64,
@@ -32,7 +33,7 @@ pub struct Node {
 
 /// The records and how many are in use; the others are blank. A tree without nodes has none in use.
 #[repr(C)]
-#[derive(Drop)]
+#[derive(Clone, Copy)]
 pub struct Tree {
     pub nodes: [Node; RECORDS],
     pub used: usize,

@@ -1,5 +1,7 @@
 //! The report on a sheet: from its bytes to the whole text that is printed for them, by value.
 //! `lines` finds what stands in a cue's line, `pieces` appends it to the `text`. Rests on `sheet`, `dtree` and the definitions of `rules`, Text.
+#![tactic(auto)]
+
 mod lines;
 mod pieces;
 pub mod text;

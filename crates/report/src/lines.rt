@@ -13,7 +13,7 @@ use sheet::arrays::{at_most, words};
 use sheet::reader::entry_at;
 
 /// A cue's number, and what the run on its table answered.
-#[derive(Drop)]
+#[derive(Clone, Copy)]
 pub struct Line {
     pub cue: u16,
     pub answer: RunAnswer,

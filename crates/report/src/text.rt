@@ -10,7 +10,7 @@ use decimal::digits_of;
 pub type Room = [u8; 939];
 
 /// The printed text, and how many bytes it has; behind them there are zeros.
-#[derive(Drop)]
+#[derive(Clone, Copy)]
 pub struct Report {
     pub text: [u8; 939],
     pub length: usize,

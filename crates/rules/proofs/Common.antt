@@ -311,6 +311,7 @@ rest-lean vs c e = sift-whole _ (drop_all m vs) (λ w i. ap not (each-fails _ (d
 -- No number of a list is below the first.
 not-below : (i : ℕ) (vs : List Way) → Rising i vs → (v : Way) → In v vs → i ≤ v.number
 unfolding Rising
+not-below i [] r v x'' = elim x'' [ ]
 not-below i (u ∷ vs) r v (Memᴰ.head e) = rw e r.0
 not-below i (u ∷ vs) r v (Memᴰ.tail k) = omega (arith, r.0, not-below (suc u.number) vs r.1 v k)
 

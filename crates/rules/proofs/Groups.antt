@@ -26,6 +26,7 @@ use Rattle.rules.proofs.Bits.{bit-and, bit-or, bit_high, bit-nonzero, apart-bit,
 
 -- Where no way of a list passes a test, each fails it.
 pub none_passes : (f : Way → Bool) (vs : List Way) (v : Way) → any f vs ≡ false → In v vs → f v ≡ false
+none_passes f [] v h x'' = elim x'' [ ]
 none_passes f (u ∷ vs) v h (Memᴰ.head e) = rw e (any_head f u vs h)
 none_passes f (u ∷ vs) v h (Memᴰ.tail i) = none_passes f vs v (any-tail f u vs h) i
 
@@ -84,6 +85,7 @@ beq_same false c h = rw h
 
 -- A way of a part is one of the list, and the word touches it or does not, as the part says.
 pub part_in : (b : Bool) (m : ℕ) (vs : List Way) (v : Way) → In v (part b m vs) → In v vs × (touches m v ≡ b)
+part_in b m [] v h = elim h [ ]
 part_in b m (u ∷ vs) v h = go (beq b (touches m u)) refl h (part_in b m vs v)
   where
     go : (c : Bool) → beq b (touches m u) ≡ c → In v (elim c as (λ c. List Way) [ true ↦ u ∷ part b m vs | false ↦ part b m vs ])
@@ -94,6 +96,7 @@ part_in b m (u ∷ vs) v h = go (beq b (touches m u)) refl h (part_in b m vs v)
 
 -- The converse: a way of the list that the word touches, or does not, as the part says, is in the part.
 pub in-part : (b : Bool) (m : ℕ) (vs : List Way) (v : Way) → In v vs → touches m v ≡ b → In v (part b m vs)
+in-part b m [] v x'' h = elim x'' [ ]
 in-part b m (u ∷ vs) v (Memᴰ.head p) h = rw (beq_same b (touches m u) (rw p at h), part) (Memᴰ.head p)
 in-part b m (u ∷ vs) v (Memᴰ.tail i) h = go (beq b (touches m u)) (in-part b m vs v i h)
   where
@@ -166,6 +169,7 @@ passes-within (suc k) m vs i h = passes-within k (pass m vs) vs i (pass-within m
 
 -- A pass adds the faults of every way that the word touches at its start, or that a smaller word touches.
 pass-adds : (m n : ℕ) (vs : List Way) (v : Way) → Subword m n → In v vs → touches m v ≡ true → Subword (faults v) (pass n vs)
+pass-adds m n [] v s x4 h i b = elim x4 [ ]
 pass-adds m n (u ∷ vs) v s (Memᴰ.head p) h i b =
     pass-within (absorb n u) vs i (absorb-adds n u (touches-within m n u s (rw p at h)) i (rw p at b))
 pass-adds m n (u ∷ vs) v s (Memᴰ.tail p) h i b = pass-adds m (absorb n u) vs v (λ j c. absorb-within n u j (s j c)) p h i b
@@ -224,6 +228,7 @@ untouched-within m n (v ∷ vs) s = go (touches m v) (touches n v) refl refl (un
 
 -- If it leaves no fewer either, it touches nothing new.
 nothing_new : (m n : ℕ) (vs : List Way) → Subword m n → untouched m vs ≤ untouched n vs → (v : Way) → In v vs → touches n v ≡ true → touches m v ≡ true
+nothing_new m n [] s l v p h = elim p [ ]
 nothing_new m n (u ∷ vs) s l v p h = go (touches m u) (touches n u) refl refl (Memᴰ.cases_cons p) (λ k q. nothing_new m n vs s k v q h)
   where
     less : untouched n vs ≤ untouched m vs
@@ -361,6 +366,7 @@ some_way (v ∷ vs) h = (v, Memᴰ.head refl)
 
 way-some : (vs : List Way) (v : Way) → In v vs → nonempty vs ≡ true
 unfolding nonempty
+way-some [] v i = elim i [ ]
 way-some (u ∷ vs) v i = refl
 
 -- The ways fall apart exactly if some way is reached from the lowest numbered one by no chain of shared faults.

@@ -30,6 +30,7 @@ pub data Subsequence : List Way → List Way → Type 0 where
 
 -- A way of a subsequence is one of the list.
 pub subsequence-in : (us vs : List Way) (v : Way) → Subsequence us vs → In v us → In v vs
+subsequence-in _ _ v ends i = elim i [ ]
 subsequence-in us vs v (takes s) (Memᴰ.head e) = Memᴰ.head e
 subsequence-in us vs v (takes {us = us'} {vs = vs'} s) (Memᴰ.tail i) = Memᴰ.tail (subsequence-in us' vs' v s i)
 subsequence-in us vs v (skips {vs = vs'} s) i = Memᴰ.tail (subsequence-in us vs' v s i)
@@ -96,6 +97,7 @@ settled-cons v w before ks (inr (inr h)) = inr (inr (or-second (shares v w) (sha
 
 -- Every way is kept, or shares a fault with one of `before`, or with a kept one.
 keep-maximal : (before vs : List Way) (v : Way) → In v vs → Settled v before (keep before vs)
+keep-maximal before [] v x' = elim x' [ ]
 keep-maximal before (w ∷ vs) v (Memᴰ.head p) = keep-cases (Settled v before) before w vs (λ e. inr (inl (rw p e))) (λ e. inl (Memᴰ.head p))
 keep-maximal before (w ∷ vs) v (Memᴰ.tail i) =
     keep-cases (Settled v before) before w vs (λ e. keep-maximal before vs v i)

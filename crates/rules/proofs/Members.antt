@@ -14,6 +14,7 @@ pub use Rattle.rules.specs.Members.{In}
 -- No number of a list is above a limit: each is at most that.
 pub each-most : (m : ℕ) (xs : List ℕ) → some_above m xs ≡ false → (x : ℕ) → In x xs → x ≤ m
 unfolding some_above
+each-most m [] h x x4 = elim x4 [ ]
 each-most m (y ∷ xs) h x (Memᴰ.head e) = rw e (ltb-false m y (or_left (ltb m y) _ h))
 each-most m (y ∷ xs) h x (Memᴰ.tail i) = each-most m xs (or_right (ltb m y) _ h) x i
 

@@ -165,6 +165,7 @@ least (suc m) (suc n) vs v i l k =
 -- A way that passes is in the part.
 pub sift-in : (g : Way → Bool) (vs : List Way) (v : Way) → In v vs → g v ≡ true → In v (sift g vs)
 unfolding sift
+sift-in g [] v x'' h = elim x'' [ ]
 sift-in g (u ∷ vs) v (Memᴰ.head e) h = rw (ap g (sym e) ∙ h, sift) (Memᴰ.head e)
 sift-in g (u ∷ vs) v (Memᴰ.tail i) h = by (g u) (sift-in g vs v i h)
   where
@@ -175,6 +176,7 @@ sift-in g (u ∷ vs) v (Memᴰ.tail i) h = by (g u) (sift-in g vs v i h)
 -- A way of the part is one of the list, and passes.
 pub in-sift : (g : Way → Bool) (vs : List Way) (v : Way) → In v (sift g vs) → In v vs × (g v ≡ true)
 unfolding sift
+in-sift g [] v i = elim i [ ]
 in-sift g (u ∷ vs) v i = by (g u) refl (λ k. in-sift g vs v k) i
   where
     later : In v vs × (g v ≡ true) → In v (u ∷ vs) × (g v ≡ true)

@@ -115,6 +115,7 @@ stays-done (n ∷ ns) s q k h = stays-done ns (refine n s) q k (done-stays q n.p
 pub all_done : (t : Table) (ns : List Refinement) (s : DTree) → series_from t s ns ≡ true → (n : Refinement) → In n ns
     → kind_at n.place (grow s ns) ≡ some n.kind
 unfolding series_from grow
+all_done t [] s h n x'' = elim x'' [ ]
 all_done t (m ∷ ns) s h n (Memᴰ.head e) =
     rw e (stays-done ns (refine m s) m.place m.kind (refined-kind m.place m.kind s (acceptable-leaf t s m (and_left (acceptable t s m) _ h))))
 all_done t (m ∷ ns) s h n (Memᴰ.tail i) = all_done t ns (refine m s) (and_right (acceptable t s m) _ h) n i

@@ -79,6 +79,7 @@ any-cue f i c cs e =
 -- A test that no row of all cues passes, none of a cue's own ways passes.
 cue_ways : (f : ℕ → ℕ → Bool) (i : ℕ) (cs : List Cue) → Paired cs → any (on_words f) (rows i (present_of cs) (absent_of cs)) ≡ false
     → (c : Cue) → In c cs → any (on_words f) (rows 0 c.present c.absent) ≡ false
+cue_ways f i [] p h c x3 = elim x3 [ ]
 cue_ways f i (d ∷ cs) p h c (Memᴰ.head e) = rw e (or_left _ _ (sym (any-cue f i d cs (p d (Memᴰ.head refl))) ∙ h))
 cue_ways f i (d ∷ cs) p h c (Memᴰ.tail m) =
     let own : Bool = any (on_words f) (rows 0 d.present d.absent) in
@@ -100,6 +101,7 @@ all_ways f i (c ∷ cs) p h =
 -- No cue counts more than 128 ways.
 cue-few : (cs : List Cue) → crowded (counts_of cs) ≡ false → (c : Cue) → In c cs → length c.present ≤ 128
 unfolding counts_of crowded some_above
+cue-few [] h c x'' = elim x'' [ ]
 cue-few (d ∷ cs) h c (Memᴰ.head e) = rw e (ltb-false 128 (length d.present) (or_left (ltb 128 (length d.present)) _ h))
 cue-few (d ∷ cs) h c (Memᴰ.tail m) = cue-few cs (or_right (ltb 128 (length d.present)) _ h) c m
 
@@ -112,6 +114,7 @@ few-cue (c ∷ cs) h = or-neither _ _ (le-ltb 128 (length c.present) (h c (Mem�
 -- The number of each cue is below a limit.
 number-below : (n : ℕ) (cs : List Cue) → AllBelow n (numbers_of cs) → (c : Cue) → In c cs → c.number < n
 unfolding numbers_of
+number-below n [] h c x'' = elim x'' [ ]
 number-below n (d ∷ cs) h c (Memᴰ.head e) = rw e h.0
 number-below n (d ∷ cs) h c (Memᴰ.tail m) = number-below n cs h.1 c m
 
@@ -124,6 +127,7 @@ below-number n (c ∷ cs) h = (h c (Memᴰ.head refl), below-number n cs (λ d m
 -- Numbers that rise from above n: each is above n.
 rising-above : (n : ℕ) (cs : List Cue) → rising n (numbers_of cs) ≡ true → (c : Cue) → In c cs → n < c.number
 unfolding numbers_of rising
+rising-above n [] h c x'' = elim x'' [ ]
 rising-above n (d ∷ cs) h c (Memᴰ.head e) = rw e (ltb-true n d.number (and_split (ltb n d.number) _ h).0)
 rising-above n (d ∷ cs) h c (Memᴰ.tail m) =
     let here = and_split (ltb n d.number) _ h in

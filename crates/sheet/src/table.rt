@@ -7,7 +7,7 @@ use super::head::faults_in;
 use rules::Entry;
 
 /// A cue's table: the first `faults` weights, the first `ways` words of each kind, and zeros behind them.
-#[derive(Drop)]
+#[derive(Clone, Copy)]
 pub struct TableArrays {
     pub weights: [u32; 64],
     pub faults: usize,

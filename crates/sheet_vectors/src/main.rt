@@ -1,5 +1,7 @@
 //! A test: prints a name and the report of each of its built-in sheets, sound and refused ones.
 //! Rests on `report`. An independent implementation builds the same sheets by its own code and writes the expected lines.
+#![tactic(auto)]
+
 mod bytes;
 mod longest;
 mod paper;

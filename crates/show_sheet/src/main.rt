@@ -1,5 +1,7 @@
 //! A sample: writes the risk sheet of a small show on standard output. Rests on `writer`; the show itself stands in show.rt.
 //! samples/show.sheet is what it writes, and samples/README.md tells it in words.
+#![tactic(auto)]
+
 mod show;
 
 use rules::{Limits, WriteAnswer};

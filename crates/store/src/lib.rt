@@ -1,5 +1,7 @@
 //! A tree as it is lent to a call, which reads and writes it where it is: the records one after the other, a word for each field in the order
 //! of the fields; the last word says how many records are in use. Rests on the records of `records`; specs/ has the tree of the words.
+#![tactic(auto)]
+
 ghost use Rattle.std.specs.Prelude.{◌≡◌, ◌<◌};
 ghost use Rattle.records.specs.Records.{tree_records, record_in, no_nodes, same_nodes};
 ghost use Rattle.store.specs.Lent.{tree_of, with_record, with_used};

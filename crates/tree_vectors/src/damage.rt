@@ -6,7 +6,7 @@ use std::num::{wrapping_add_u64, wrapping_sub_u64};
 use store::{COUNT, Words};
 
 /// Which number is changed: the record, the field, and what is added to it. Sums wrap around, so that only 0 changes nothing.
-#[derive(Drop)]
+#[derive(Clone, Copy)]
 pub struct Damage {
     pub record: usize,
     pub field: usize,

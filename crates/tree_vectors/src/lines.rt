@@ -8,7 +8,7 @@ use numbers::wide;
 use rules::{Answer, Figures, RunAnswer, S, Verdict};
 
 /// The four figures of a line.
-#[derive(Drop)]
+#[derive(Clone, Copy)]
 pub struct Line {
     pub number: u64,
     pub low: u64,

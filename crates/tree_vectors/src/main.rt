@@ -1,5 +1,7 @@
 //! A test: works through each script of standard input, a table and calls on its tree, and prints a line for each answer and each place.
 //! Rests on `dtree`. An independent implementation of the rules writes the input and the expected lines.
+#![tactic(auto)]
+
 mod damage;
 mod input;
 mod lines;

@@ -1,5 +1,7 @@
 //! The writer of sheets: lists in, the bytes of the sheet that they give out into a lent space, or a refusal that leaves the space as it was.
 //! `refusals` finds the number of a call, `pieces` writes the bytes. What a call promises stands in specs/Promises.antt.
+#![tactic(auto)]
+
 ghost use Rattle.writer.specs.Given.{given};
 ghost use Rattle.writer.specs.Promises.{Writing};
 

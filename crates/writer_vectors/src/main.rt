@@ -1,5 +1,7 @@
 //! A test of the writer: writes a sheet from each set of lists of standard input, reads it back and writes what was read.
 //! Rests on `writer` and `sheet`. An independent implementation writes the input and the expected lines.
+#![tactic(auto)]
+
 mod again;
 mod input;
 mod lines;

@@ -1,0 +1,12 @@
+-- `hear_all` meets its contract. The loop's invariant: so far the first i packets were heard, none of the counts capped.
+-- Rests on Counting.antt.
+use Rattle.std.proofs.Common.{◌≡◌, ◌-◌, ◌≤◌, length, take, sym, refl, ap, ◌∙◌, arith, rules}
+use Rattle.captures.specs.Logs.{heard_all, capped}
+use Rattle.captures.proofs.Counting.{heard-again, heard-ended, full-early, capped-open}
+use Rattle.captures.proofs.logs.hear_all.Given as goal
+
+abbrev pub invariant-loop-i : goal.invariant-loop-i
+invariant-loop-i l = (l.i ≤ length l.piece) × (l.so_far ≡ heard_all l.initial.so_far (take l.i l.piece))
+
+abbrev pub decreases-loop-i : goal.decreases-loop-i
+decreases-loop-i l = length l.piece - l.i
