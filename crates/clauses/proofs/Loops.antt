@@ -23,11 +23,11 @@ use Rattle.clauses.proofs.Pairs.{in-none, same_low, same_high}
 use Rattle.clauses.proofs.Selected.{rows-number, select-number, dropped-number, select-few}
 
 -- A loop that goes on has a way left, and one that ends has none: b is what `none-left` answered, n what it stands for.
-pub some-left : {n b : Bool} → b ≡ n → not b ≡ true → n ≡ false
-some-left {b = b} e h = sym e ∙ not-true b h
+pub some-left : {n b : Bool} → b ≡ n → b ≡ false → n ≡ false
+some-left e h = sym e ∙ h
 
-pub no_more : {n b : Bool} → b ≡ n → not b ≡ false → n ≡ true
-no_more {b = b} e h = sym e ∙ not-false b h
+pub no_more : {n b : Bool} → b ≡ n → b ≡ true → n ≡ true
+no_more e h = sym e ∙ h
 
 module _ (ps qs : List ℕ) (c : Clauses) where
   -- The test that selects the ways.

@@ -28,6 +28,7 @@ has c = in_words c.waysa c.waysb
 
 -- What holds of each way of a list holds of a way in it.
 each_in : (Q : Way → Type 0) (vs : List Way) (v : Way) → Each Q vs → In v vs → Q v
+each_in Q [] v e x'' = elim x'' [ ]
 each_in Q (u ∷ vs) v e (Memᴰ.head p) = subst Q (sym p) e.0
 each_in Q (u ∷ vs) v e (Memᴰ.tail p) = each_in Q vs v e.1 p
 

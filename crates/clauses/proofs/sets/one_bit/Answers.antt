@@ -6,14 +6,7 @@ use native.Mathlib.Omega.{arith}
 use Prim.Native.Nat.{◌^◌}
 use lib.Pow.{shl_exact}
 use borrow.Author.Rules.{rules}
-use Rattle.clauses.proofs.sets.one_bit.Statement.{statement}
-use Rattle.clauses.proofs.sets.one_bit.Tie as tie
+use Rattle.clauses.proofs.sets.one_bit.Goals as goal
 
-shl-result : tie.Need-overflow-shl-result
-shl-result c = search rules
-
-returns : tie.Need-returns
+pub returns : goal.returns
 returns c = shl_exact 1 c.args.i 64 (omega arith) (omega arith) ∙ one-mul (2 ^ c.args.i)
-
-pub one-bit-spec : {M : Type 1} → statement M
-one-bit-spec = tie.close (tie.spec shl-result returns)

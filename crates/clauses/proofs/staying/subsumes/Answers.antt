@@ -9,8 +9,7 @@ use lib.Dec.{eqb}
 use Rattle.rules.specs.declared.Way.{Way}
 use Rattle.rules.specs.Leaf.{without, subsumes}
 use Rattle.clauses.proofs.Words.{and-not}
-use Rattle.clauses.proofs.staying.subsumes.Statement.{statement}
-use Rattle.clauses.proofs.staying.subsumes.Tie as tie
+use Rattle.clauses.proofs.staying.subsumes.Goals as goal
 
 module _ (u v : Way) (p : ℕ) (is : p ≡ without v.present u.present) where
   -- A fault that only the first names present settles it.
@@ -21,17 +20,11 @@ module _ (u v : Way) (p : ℕ) (is : p ≡ without v.present u.present) where
   by-absent : p ≡ 0 → (q : ℕ) → q ≡ without v.absent u.absent → eqb q 0 ≡ subsumes u v
   by-absent h q e = rw (sym is, eq-eqb p 0 h, sym e)
 
-returns : tie.Need-returns
-returns c =
-    let a = c.before.before.before.args in
-    named-beyond a.u a.v _ (and-not 64 a.u.present a.v.present (search rules) (search rules)) c.if1.true
+pub returns-then-u-v-ne0 : goal.returns-then-u-v-ne0
+returns-then-u-v-ne0 c = let a = c.args in
+    named-beyond a.u a.v _ (and-not 64 a.u.present a.v.present (search rules) (search rules)) c.if-u-v-ne0.true
 
-returns-2 : tie.Need-returns-2
-returns-2 c =
-    let i = c.before.before in
-    let a = i.before.before.before.args in
-    by-absent a.u a.v _ (and-not 64 a.u.present a.v.present (search rules) (search rules)) i.if1.false
+pub returns : goal.returns
+returns c = let a = c.args in
+    by-absent a.u a.v _ (and-not 64 a.u.present a.v.present (search rules) (search rules)) c.if-u-v-ne0.false
     _ (and-not 64 a.u.absent a.v.absent (search rules) (search rules))
-
-pub subsumes-spec : {M : Type 1} → statement M
-subsumes-spec = tie.close (tie.spec returns returns-2)

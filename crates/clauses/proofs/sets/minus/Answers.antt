@@ -3,13 +3,8 @@
 use mathlib.Core.Path.{refl}
 use borrow.Author.Rules.{rules}
 use Rattle.clauses.proofs.Pairs.{less_numbers}
-use Rattle.clauses.proofs.sets.minus.Statement.{statement}
-use Rattle.clauses.proofs.sets.minus.Tie as tie
+use Rattle.clauses.proofs.sets.minus.Goals as goal
 
-returns : tie.Need-returns
-returns c =
-    let a = c.before.before.before.before.before.args in
+pub returns : goal.returns
+returns c = let a = c.args in
     (less_numbers a.c.waysa a.c.waysb a.d.waysa a.d.waysb (search rules) (search rules) (search rules) (search rules), refl)
-
-pub minus-spec : {M : Type 1} → statement M
-minus-spec = tie.close (tie.spec returns)

@@ -5,16 +5,8 @@ use Prim.Native.Nat.{ℕ}
 use borrow.Author.Rules.{rules}
 use Rattle.rules.specs.Leaf.{without}
 use Rattle.clauses.proofs.Words.{and-not}
-use Rattle.clauses.proofs.taking.faults_besides.Statement.{statement}
-use Rattle.clauses.proofs.taking.faults_besides.Tie as tie
+use Rattle.clauses.proofs.taking.faults_besides.Goals as goal
 
-faults-requires : tie.Need-faults-requires
-faults-requires c κs = search rules
-
-returns : tie.Need-returns
-returns c =
-    let m = c.before.args.m in
+pub returns : goal.returns
+returns c = let m = c.args.m in
     and-not 64 c.faults.result m (search rules) (search rules) ∙ ap (λ (w : ℕ). without m w) c.faults.ensures
-
-pub faults-besides-spec : {M : Type 1} → statement M
-faults-besides-spec = tie.close (tie.spec faults-requires returns)

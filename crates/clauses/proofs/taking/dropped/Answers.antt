@@ -4,15 +4,10 @@ use mathlib.Core.Path.{ap₂}
 use Prim.Native.Nat.{ℕ}
 use borrow.Author.Rules.{rules}
 use Rattle.clauses.proofs.Words.{and-not}
-use Rattle.clauses.proofs.taking.dropped.Statement.{statement}
-use Rattle.clauses.proofs.taking.dropped.Tie as tie
+use Rattle.clauses.proofs.taking.dropped.Goals as goal
 
-returns : tie.Need-returns
-returns c =
-    let v = c.before.before.args.v in
-    let m = c.before.before.args.m in
+pub returns : goal.returns
+returns c = let v = c.args.v in
+    let m = c.args.m in
     ap₂ (λ (x y : ℕ). record { number = v.number; present = x; absent = y })
     (and-not 64 v.present m (search rules) (search rules)) (and-not 64 v.absent m (search rules) (search rules))
-
-pub dropped-spec : {M : Type 1} → statement M
-dropped-spec = tie.close (tie.spec returns)

@@ -11,8 +11,7 @@ use Rattle.clauses.specs.declared.Clauses.{Clauses}
 use Rattle.clauses.specs.declared.Gone.{Gone}
 use Rattle.clauses.specs.Leaves.{none_gone, fix_more, out_more, leave_out, ways_of, InTable}
 use Rattle.clauses.proofs.LeftOut.{out_ways, out_within}
-use Rattle.clauses.proofs.keeping.remaining_of.Statement.{statement}
-use Rattle.clauses.proofs.keeping.remaining_of.Tie as tie
+use Rattle.clauses.proofs.keeping.remaining_of.Goals as goal
 
 -- All faults of g, fixed and left out where none was gone.
 all-gone : (g : Gone) → out_more (fix_more none_gone g.present g.absent) g.out ≡ g
@@ -28,22 +27,9 @@ remains ps qs g c us vs e h w d x z r q = (
   ap (λ (y : Clauses). y.gone) q ∙ ap (λ (y : Gone). out_more y g.out) (x ∙ ap (λ (y : Gone). fix_more y g.present g.absent) z) ∙ all-gone g,
 )
 
-select-requires : tie.Need-select-requires
-select-requires c κs = search rules
-
-restrict-requires : tie.Need-restrict-requires
-restrict-requires c κs = search rules
-
-leaving-out-requires : tie.Need-leaving-out-requires
-leaving-out-requires c κs = search rules
-
-returns : tie.Need-returns
-returns c =
-    let a = c.before.before.before.before.before.args in
-    let s = c.before.before.select in
-    let r = c.before.restrict in
+pub returns : goal.returns
+returns c = let a = c.args in
+    let s = c.select in
+    let r = c.restrict-c in
     remains a.present.now a.absent.now a.g r.result (ways_of a.present.now a.absent.now s.result) _ r.ensures.0 s.ensures.0
-    r.ensures.1 s.result.gone r.ensures.2 s.ensures.2 _ c.leaving-out.ensures
-
-pub remaining-of-spec : {M : Type 1} → statement M
-remaining-of-spec = tie.close (tie.spec select-requires restrict-requires leaving-out-requires returns)
+    r.ensures.1 s.result.gone r.ensures.2 s.ensures.2 _ c.leaving_out.ensures

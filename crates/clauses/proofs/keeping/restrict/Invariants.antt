@@ -1,0 +1,18 @@
+-- `restrict` meets its contract. The loop's invariant: the numbers kept, and those left whose ways are not contradicted, are all that remain.
+-- Rests on Filter.antt, Loops.antt and the contracts of `taken`, `contradicted` and `with_number`.
+use mathlib.Core.Path.{refl, sym, ap, ◌∙◌}
+use mathlib.Core.Bool.{true, false, not}
+use borrow.Author.Rules.{rules}
+use lib.ListN.{length}
+use lib.Bits.{bit_or}
+use Rattle.rules.specs.Leaf.{contradicted, dropped}
+use Rattle.clauses.specs.Leaves.{ways_of}
+use Rattle.clauses.proofs.Filter.{Sifting, begun, turn, all-kept, ended, passing-remaining, fixed_more}
+use Rattle.clauses.proofs.Loops.{numbered, fewer, some-left, no_more}
+use Rattle.clauses.proofs.keeping.restrict.Given as goal
+
+abbrev pub invariant-loop-left : goal.invariant-loop-left
+invariant-loop-left l = Sifting l.present l.absent (λ v. not (contradicted l.p l.q v)) l.initial.left l.initial.kept l.kept l.left
+
+abbrev pub decreases-loop-left : goal.decreases-loop-left
+decreases-loop-left l = length (ways_of l.present l.absent l.left)

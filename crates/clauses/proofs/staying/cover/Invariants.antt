@@ -1,0 +1,14 @@
+-- `cover` meets its contract. The loop's invariant: each way is still left, or subsumes what was joined so far.
+-- Rests on Leaving.antt, Loops.antt and the contract of `taken`.
+use borrow.Author.Rules.{rules}
+use lib.ListN.{length}
+use Rattle.clauses.specs.Leaves.{ways_of}
+use Rattle.clauses.proofs.Leaving.{Covering, none_joined, one-joined, all-joined}
+use Rattle.clauses.proofs.Loops.{fewer, some-left, no_more}
+use Rattle.clauses.proofs.staying.cover.Given as goal
+
+abbrev pub invariant-loop-left : goal.invariant-loop-left
+invariant-loop-left l = Covering l.present l.absent l.initial.left l.r l.left
+
+abbrev pub decreases-loop-left : goal.decreases-loop-left
+decreases-loop-left l = length (ways_of l.present l.absent l.left)
