@@ -18,8 +18,7 @@ use Rattle.formula.specs.declared.Picked.{Picked}
 use Rattle.formula.specs.Leaves.{ends_of}
 use Rattle.formula.specs.Picking.{picked}
 use Rattle.formula.proofs.Picking.{empty_full}
-use Rattle.formula.proofs.leaf.ends.Statement.{statement}
-use Rattle.formula.proofs.leaf.ends.Tie as tie
+use Rattle.formula.proofs.leaf.ends.Goals as goal
 
 module _ (ws : List ℕ) (vs : List Way) (p : Picked) (e : p ≡ picked ws vs) where
   -- The ends are those that were picked, and o says whether the leaf is open.
@@ -48,31 +47,17 @@ module _ (ws : List ℕ) (vs : List Way) (p : Picked) (e : p ≡ picked ws vs) w
       named true q = absurd (omega (arith, below, empty_full ws vs q))
       named false q = q
 
-pick-ways-requires : tie.Need-pick-ways-requires
-pick-ways-requires c κs = search rules
-
-several-requires : tie.Need-several-requires
-several-requires c κs = search rules
-
-returns : tie.Need-returns
-returns c =
-    let i = c.before.before in
-    let k = i.before.pick-ways in
+pub returns-then-several : goal.returns-then-several
+returns-then-several c = let k = c.pick_ways-p in
     let e = k.ensures in
-    (as_picked _ _ k.result e.0 true (uncrossed _ _ k.result e.0 i.if1.true c.before.several.ensures c.if2.true), e.1, e.2)
+    (as_picked _ _ k.result e.0 true (uncrossed _ _ k.result e.0 c.if-low-high.true c.several.ensures c.if-several.true), e.1, e.2)
 
-returns-2 : tie.Need-returns-2
-returns-2 c =
-    let i = c.before.before in
-    let k = i.before.pick-ways in
+pub returns-else-several : goal.returns-else-several
+returns-else-several c = let k = c.pick_ways-p in
     let e = k.ensures in
-    (as_picked _ _ k.result e.0 false (uncrossed _ _ k.result e.0 i.if1.true c.before.several.ensures c.if2.false), e.1, e.2)
+    (as_picked _ _ k.result e.0 false (uncrossed _ _ k.result e.0 c.if-low-high.true c.several.ensures c.if-several.false), e.1, e.2)
 
-returns-3 : tie.Need-returns-3
-returns-3 c =
-    let k = c.before.pick-ways in
+pub returns-else-low-high : goal.returns-else-low-high
+returns-else-low-high c = let k = c.pick_ways-p in
     let e = k.ensures in
-    (as_picked _ _ k.result e.0 false (crossed _ _ k.result e.0 c.if1.false), e.1, e.2)
-
-pub ends-spec : {M : Type 1} → statement M
-ends-spec = tie.close (tie.spec pick-ways-requires several-requires returns returns-2 returns-3)
+    (as_picked _ _ k.result e.0 false (crossed _ _ k.result e.0 c.if-low-high.false), e.1, e.2)

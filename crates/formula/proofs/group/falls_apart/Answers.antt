@@ -12,8 +12,7 @@ use Rattle.rules.specs.Group.{others, nonempty, fall_apart}
 use Rattle.clauses.specs.declared.Clauses.{Clauses}
 use Rattle.clauses.specs.Leaves.{ways_of, none_left, InTable}
 use Rattle.clauses.proofs.Loops.{none-left, some_way}
-use Rattle.formula.proofs.group.falls_apart.Statement.{statement}
-use Rattle.formula.proofs.group.falls_apart.Tie as tie
+use Rattle.formula.proofs.group.falls_apart.Goals as goal
 
 -- The ways vs fall apart where others are left of them, in the set r.
 some-left : (ps qs : List ℕ) (vs : List Way) (r : Clauses) → r.waysa < 2 ^ 64 → r.waysb < 2 ^ 64 → InTable ps qs r → ways_of ps qs r ≡ others vs
@@ -29,16 +28,6 @@ some-left ps qs vs r x y w e = by (none_left r) refl ∙ ap nonempty e
     by true z = sym (ap nonempty (none-left ps qs r z))
     by false z = there (ways_of ps qs r) (some_way ps qs r w x y z)
 
-other-ways-requires : tie.Need-other-ways-requires
-other-ways-requires c κs = search rules
-
-none-left-requires : tie.Need-none-left-requires
-none-left-requires c κs = search rules
-
-returns : tie.Need-returns
-returns c =
-    let o = c.before.other-ways.ensures in
-    ap not c.none_left.ensures ∙ some-left _ _ _ c.before.other-ways.result (search rules) (search rules) o.1 o.0
-
-pub falls-apart-spec : {M : Type 1} → statement M
-falls-apart-spec = tie.close (tie.spec other-ways-requires none-left-requires returns)
+pub returns : goal.returns
+returns c = let o = c.other_ways.ensures in
+    ap not c.none_left.ensures ∙ some-left _ _ _ c.other_ways.result (search rules) (search rules) o.1 o.0

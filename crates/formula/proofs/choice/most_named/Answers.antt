@@ -14,15 +14,8 @@ use lib.Dec.{ltb}
 use Rattle.rules.specs.declared.Way.{Way}
 use Rattle.rules.specs.Run.{named, most_named}
 use Rattle.clauses.specs.Leaves.{ways_of}
-use Rattle.formula.proofs.choice.most_named.Statement.{statement}
-use Rattle.formula.proofs.choice.most_named.Tie as tie
-
--- Of the first i numbers of a list, the position of the largest, the first if several are.
-unfoldable largest : List ℕ → ℕ → ℕ
-largest ns zero = 0
-largest ns (suc i) =
-    let f = largest ns i in
-    elim (ltb (get_or ns f 0) (get_or ns i 0)) as (λ b. ℕ) [ true ↦ i | false ↦ f ]
+use Rattle.formula.proofs.choice.most_named.Invariants.{Leads, largest}
+use Rattle.formula.proofs.choice.most_named.Goals as goal
 
 -- One number more, by the definition's test.
 next : (ns : List ℕ) (i : ℕ) (t : Bool) → ltb (get_or ns (largest ns i) 0) (get_or ns i 0) ≡ t
@@ -46,12 +39,6 @@ module _ (ns : List ℕ) (vs : List Way) (e : (f : ℕ) → f < 64 → get_or ns
       by true t q p = (rw (sym q) refl, omega arith)
       by false t q p = (rw (sym q) p.0, p.1)
 
--- Of the numbers below i, best is the position of the largest, which is `most`.
-record Leads (n : ℕ) (ns : List ℕ) (best most i : ℕ) : Type 0 where
-  inside : i ≤ n
-  right : best ≡ largest ns i
-  count : most ≡ get_or ns best 0
-
 module _ (n : ℕ) (ns : List ℕ) (best most i : ℕ) (inv : Leads n ns best most i) (below : i < n) where
   -- The code compares the two numbers that the definition compares.
   test : ltb most (get_or ns i 0) ≡ ltb (get_or ns (largest ns i) 0) (get_or ns i 0)
@@ -67,61 +54,21 @@ module _ (n : ℕ) (ns : List ℕ) (best most i : ℕ) (inv : Leads n ns best mo
     count = inv.count;
   }
 
-abbrev invariant-loop : tie.invariant-loop
-invariant-loop n present absent count best₀ most₀ i₀ best most i = Leads n count best most i
-
-abbrev decreases-loop : tie.decreases-loop
-decreases-loop n present absent count best₀ most₀ i₀ best most i = n - i
-
-counts-requires : tie.Need-counts-requires invariant-loop decreases-loop
-counts-requires c κs = search rules
-
-array-read-most : tie.Need-array-read-most invariant-loop decreases-loop
-array-read-most c = search rules
-
-loop-holds : tie.Need-loop-init invariant-loop decreases-loop
+pub loop-i-init : goal.loop-i-init
 unfolding largest
-loop-holds c = record { inside = omega arith; right = refl; count = refl }
+loop-i-init c = record { inside = omega arith; right = refl; count = refl }
 
-mul-k : tie.Need-overflow-mul-k invariant-loop decreases-loop
-mul-k c = search rules
+pub loop-i-preserved : goal.loop-i-preserved
+loop-i-preserved c = let l = c.loop-i in
+    let below : l.i < c.args.n = omega arith in
+    elim c.if-most-k.branch [
+      | goal.then-most-k w ↦ rw (w.best-is, w.most-is) (larger _ _ _ _ _ l.invariant below w.if-most-k.true)
+      | goal.else-most-k w ↦ rw (w.best-is, w.most-is) (not-larger _ _ _ _ _ l.invariant below w.if-most-k.false)
+    ]
 
-array-read-k : tie.Need-array-read-k invariant-loop decreases-loop
-array-read-k c = search rules
-
-add-i : tie.Need-overflow-add-i invariant-loop decreases-loop
-add-i c = search rules
-
-loop-less : tie.Need-loop-smaller invariant-loop decreases-loop
-loop-less c = search rules
-
-loop-again : tie.Need-loop-preserved invariant-loop decreases-loop
-loop-again c =
-    let l = c.before.before.loop in
-    let below : l.i < c.before.before.before.before.before.before.args.n = omega arith in
-    ⊎_elim (λ w. rw (w.1, w.2) (larger _ _ _ _ _ l.invariant below w.0.taken))
-    (λ w. rw (w.1, w.2) (not-larger _ _ _ _ _ l.invariant below w.0.left)) c.if1.branch
-
-returns : tie.Need-returns invariant-loop decreases-loop
-returns c =
-    let l = c.before.loop in
-    let a = c.before.before.before.before.before.args in
+pub returns : goal.returns
+returns c = let l = c.loop-i in
+    let a = c.args in
     let vs = ways_of a.present.now a.absent.now a.c in
     let e : l.i ≡ a.n = omega arith in
-    l.invariant.right ∙ (named-most _ vs c.before.before.counts.ensures l.i (omega arith)).0 ∙ ap (λ (k : ℕ). most_named k vs) e
-
-pub most-named-spec : {M : Type 1} → statement M
-most-named-spec =
-    tie.close
-    (tie.spec
-    invariant-loop
-    decreases-loop
-    counts-requires
-    array-read-most
-    loop-holds
-    mul-k
-    array-read-k
-    add-i
-    loop-less
-    loop-again
-    returns)
+    l.invariant.right ∙ (named-most _ vs c.counts-count.ensures l.i (omega arith)).0 ∙ ap (λ (k : ℕ). most_named k vs) e

@@ -14,8 +14,7 @@ use Rattle.clauses.specs.declared.Clauses.{Clauses}
 use Rattle.clauses.specs.declared.Taken.{Taken}
 use Rattle.clauses.specs.Leaves.{ways_of, none_left, Takes}
 use Rattle.clauses.proofs.Loops.{none-left, some_way}
-use Rattle.formula.proofs.leaf.several.Statement.{statement}
-use Rattle.formula.proofs.leaf.several.Tie as tie
+use Rattle.formula.proofs.leaf.several.Goals as goal
 
 module _ (ps qs : List ℕ) where
   -- The first way and those left, of which there is none (b) or some.
@@ -26,27 +25,18 @@ module _ (ps qs : List ℕ) where
   counted c t off x y false e =
       sym (le-leb 2 (length (ways_of ps qs c)) (omega (arith, ap length off.first, some_way ps qs t.others off.within x y (sym e))))
 
-none-left-requires : tie.Need-none-left-requires
-none-left-requires c κs = search rules
+pub returns-then-none_left : goal.returns-then-none_left
+returns-then-none_left c = sym (ap (λ (vs : List Way). leb 2 (length vs)) (none-left _ _ c.args.c (sym c.none_left.ensures ∙ c.if-none_left.true)))
 
-returns : tie.Need-returns
-returns c =
-    let s = c.before.before.before.before in
-    sym (ap (λ (vs : List Way). leb 2 (length vs)) (none-left _ _ s.args.c (sym c.before.none_left.ensures ∙ c.if1.true)))
+pub taken-t-requires : goal.taken-t-requires
+taken-t-requires c = record {
+      in_table = c.requires;
+      c_value = sym c.none_left.ensures ∙ c.if-none_left.false;
+    }
 
-taken-requires : tie.Need-taken-requires
-taken-requires c κs = (c.before.before.before.before.requires, sym c.before.none_left.ensures ∙ c.if1.false)
-
-none-left-requires-2 : tie.Need-none-left-requires-2
-none-left-requires-2 c κs = search rules
-
-returns-2 : tie.Need-returns-2
-returns-2 c =
-    let t = c.before.taken in
+pub returns : goal.returns
+returns c = let t = c.taken-t in
     let a = t.result.others in
     let x : a.waysa < 2 ^ 64 = search rules in
     let y : a.waysb < 2 ^ 64 = search rules in
-    counted _ _ _ t.result t.ensures x y c.none-left2.result c.none-left2.ensures
-
-pub several-spec : {M : Type 1} → statement M
-several-spec = tie.close (tie.spec none-left-requires returns taken-requires none-left-requires-2 returns-2)
+    counted _ _ _ t.result t.ensures x y c.none_left-2.result c.none_left-2.ensures

@@ -17,8 +17,7 @@ use Rattle.clauses.specs.Leaves.{out_more, leave_out, ways_of, InTable, Takes, A
 use Rattle.clauses.proofs.LeftOut.{out_ways, out_within, alone-ways, alone-within}
 use Rattle.clauses.proofs.Loops.{none-left, numbered}
 use Rattle.formula.specs.Leaves.{Part}
-use Rattle.formula.proofs.common.take_out.Statement.{statement}
-use Rattle.formula.proofs.common.take_out.Tie as tie
+use Rattle.formula.proofs.common.take_out.Goals as goal
 
 -- With nothing left out, nothing more is gone.
 out_none : (g : Gone) (m : ℕ) → m ≡ 0 → g ≡ out_more g m
@@ -61,56 +60,24 @@ module _ (ps qs : List ℕ) (c : Clauses) (w : InTable ps qs c) (t : Taken) (h :
         within = subst (InTable ps qs) (sym r) (out_within ps qs c m w);
       }
 
-none-left-requires : tie.Need-none-left-requires
-none-left-requires c κs = search rules
+pub returns-then-none_left : goal.returns-then-none_left
+returns-then-none_left c = let z = none-left _ _ c.args.c (sym c.none_left.ensures ∙ c.if-none_left.true) in
+    record { on_left = none-part _ _ _ c.requires z left; on_right = none-part _ _ _ c.requires z right }
 
-returns : tie.Need-returns
-returns c =
-    let s = c.before.before.before.before in
-    let z = none-left _ _ s.args.c (sym c.before.none_left.ensures ∙ c.if1.true) in
-    record { on_left = none-part _ _ _ s.requires z left; on_right = none-part _ _ _ s.requires z right }
-
-common-part-requires : tie.Need-common-part-requires
-common-part-requires c κs = search rules
-
-taken-requires : tie.Need-taken-requires
-taken-requires c κs = (c.before.before.before.before.before.requires, sym c.before.before.none_left.ensures ∙ c.before.if1.false)
-
-alone-requires : tie.Need-alone-requires
-alone-requires c κs = numbered _ _ _ _ c.before.before.before.before.before.before.before.requires c.before.taken.ensures
-
-faults-besides-requires : tie.Need-faults-besides-requires
-faults-besides-requires c κs = search rules
-
-leaving-out-requires : tie.Need-leaving-out-requires
-leaving-out-requires c κs = search rules
-
-leaving-out-requires-2 : tie.Need-leaving-out-requires-2
-leaving-out-requires-2 c κs = search rules
-
-returns-2 : tie.Need-returns-2
-returns-2 c =
-    let a = c.before.before.before in
-    let t = a.before.before in
-    let m = t.before in
-    let w = m.before.before.before.before.before.requires in
-    record {
-      on_left =
-          left-part _ _ _ w _ t.taken.ensures _ m.common-part.ensures _ a.alone.ensures
-          _ c.before.before.faults-besides.ensures _ c.before.leaving-out.ensures;
-      on_right = right-part _ _ _ w _ t.taken.ensures _ m.common-part.ensures _ c.leaving-out2.ensures;
+pub taken-t-requires : goal.taken-t-requires
+taken-t-requires c = record {
+      in_table = c.requires;
+      c_value = sym c.none_left.ensures ∙ c.if-none_left.false;
     }
 
-pub take-out-spec : {M : Type 1} → statement M
-take-out-spec =
-    tie.close
-    (tie.spec
-    none-left-requires
-    returns
-    common-part-requires
-    taken-requires
-    alone-requires
-    faults-besides-requires
-    leaving-out-requires
-    leaving-out-requires-2
-    returns-2)
+pub alone-first-requires : goal.alone-first-requires
+alone-first-requires c = numbered _ _ _ _ c.requires c.taken-t.ensures
+
+pub returns : goal.returns
+returns c = let w = c.requires in
+    record {
+      on_left =
+          left-part _ _ _ w _ c.taken-t.ensures _ c.common_part-m.ensures _ c.alone-first.ensures
+          _ c.faults_besides.ensures _ c.leaving_out-left.ensures;
+      on_right = right-part _ _ _ w _ c.taken-t.ensures _ c.common_part-m.ensures _ c.leaving_out-right.ensures;
+    }

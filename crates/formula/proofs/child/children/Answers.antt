@@ -19,8 +19,7 @@ use Rattle.clauses.specs.Leaves.{fix_more, ways_of, InTable, Keeps, Divided}
 use Rattle.clauses.proofs.SomeWays.{has, less_failing, kept-part}
 use Rattle.formula.specs.declared.Children.{Children}
 use Rattle.formula.specs.Leaves.{FaultFits, child_gone, Part, Parts}
-use Rattle.formula.proofs.child.children.Statement.{statement}
-use Rattle.formula.proofs.child.children.Tie as tie
+use Rattle.formula.proofs.child.children.Goals as goal
 
 -- The fault of the kind has a bit in a word.
 fits : (k : Kind) (f : ℕ) → k ≡ Shannon f → FaultFits k → f < 64
@@ -74,76 +73,27 @@ module _ (ps qs : List ℕ) (c : Clauses) where
   of-kind : {k j : Kind} {r : Children} → k ≡ j → Parts ps qs c j r → Parts ps qs c k r
   of-kind e h = rw e h
 
-enum_told : tie.Need-enum-told
-enum_told c = search rules
+pub one_bit-b-requires : goal.one_bit-b-requires
+one_bit-b-requires c = fits _ _ c.in-Shannon.is c.requires.fault_fits
 
-other-ways-requires : tie.Need-other-ways-requires
-other-ways-requires c κs = search rules
+pub staying-left-requires : goal.staying-left-requires
+staying-left-requires c = let w = c.one_bit-b.result in
+    let h = asks _ _ c.args.c c.by_fault-d.result _ w (bit_or w 0) c.one_bit-b.ensures (or_zero_r w) c.by_fault-d.ensures in
+    record { lean = c.requires.lean; divided = h.0; one_fault = h.1 }
 
-minus-requires : tie.Need-minus-requires
-minus-requires c κs = search rules
+pub staying-right-requires : goal.staying-right-requires
+staying-right-requires c = let w = c.one_bit-b.result in
+    let h = asks _ _ c.args.c c.by_fault-d.result _ w (bit_or 0 w) c.one_bit-b.ensures (or_zero_l w) c.by_fault-d.ensures in
+    record { lean = c.requires.lean; divided = h.0; one_fault = h.1 }
 
-enum-told-2 : tie.Need-enum-told-2
-enum-told-2 c = search rules
+pub returns-in-IndependentOr : goal.returns-in-IndependentOr
+returns-in-IndependentOr c = let o = c.other_ways-right.ensures in
+    let m = c.minus-left.ensures in
+    of-kind _ _ _ c.in-IndependentOr.is (by-groups _ _ _ _ _ c.requires.in_table (o.0, o.1, o.2) o.3 m.0 m.1)
 
-take-out-requires : tie.Need-take-out-requires
-take-out-requires c κs = search rules
+pub returns-in-IndependentAnd : goal.returns-in-IndependentAnd
+returns-in-IndependentAnd c = of-kind _ _ _ c.in-IndependentAnd.is c.take_out.ensures
 
-enum-known-k : tie.Need-enum-known-k
-enum-known-k c = search rules
-
-one-bit-requires : tie.Need-one-bit-requires
-one-bit-requires c κs = fits _ _ c.before.k.given.1 c.before.before.before.before.before.requires.0
-
-by-fault-requires : tie.Need-by-fault-requires
-by-fault-requires c κs = search rules
-
-staying-requires : tie.Need-staying-requires
-staying-requires c κs =
-    let o = c.before in
-    let b = o.before.before.before.before.before.before in
-    let w = o.one_bit.result in
-    let h = asks _ _ b.args.c c.by-fault.result _ w (bit_or w 0) o.one_bit.ensures (or_zero_r w) c.by-fault.ensures in
-    (b.requires.1.1, h)
-
-staying-requires-2 : tie.Need-staying-requires-2
-staying-requires-2 c κs =
-    let d = c.before in
-    let o = d.before in
-    let b = o.before.before.before.before.before.before in
-    let w = o.one_bit.result in
-    let h = asks _ _ b.args.c d.by-fault.result _ w (bit_or 0 w) o.one_bit.ensures (or_zero_l w) d.by-fault.ensures in
-    (b.requires.1.1, h)
-
-returns : tie.Need-returns
-returns c =
-    let o = c.before.other-ways.ensures in
-    let b = c.before.before.before.before.before.before in
-    let m = c.minus.ensures in
-    of-kind _ _ _ c.before.before.enum_told.given.1 (by-groups _ _ _ _ _ b.requires.1.0 (o.0, o.1, o.2) o.3 m.0 m.1)
-
-returns-2 : tie.Need-returns-2
-returns-2 c = of-kind _ _ _ c.before.enum-told2.given.1 c.take_out.ensures
-
-returns-3 : tie.Need-returns-3
-returns-3 c =
-    of-kind _ _ _ c.before.before.before.before.before.k.given.1
-    (by-fault _ _ _ _ _ _ _ c.before.before.before.one_bit.ensures c.before.staying.ensures c.staying2.ensures)
-
-pub children-spec : {M : Type 1} → statement M
-children-spec =
-    tie.close
-    (tie.spec
-    enum_told
-    other-ways-requires
-    minus-requires
-    enum-told-2
-    take-out-requires
-    enum-known-k
-    one-bit-requires
-    by-fault-requires
-    staying-requires
-    staying-requires-2
-    returns
-    returns-2
-    returns-3)
+pub returns-in-Shannon : goal.returns-in-Shannon
+returns-in-Shannon c = of-kind _ _ _ c.in-Shannon.is
+    (by-fault _ _ _ _ _ _ _ c.one_bit-b.ensures c.staying-left.ensures c.staying-right.ensures)
