@@ -17,8 +17,7 @@ use Rattle.clauses.proofs.Loops.{low_back, high_back}
 use Rattle.formula.specs.declared.Ends.{Ends}
 use Rattle.formula.specs.Leaves.{ends_of}
 use Rattle.node.specs.Told.{spot_with}
-use Rattle.node.proofs.leaf_record.Statement.{statement}
-use Rattle.node.proofs.leaf_record.Tie as tie
+use Rattle.node.proofs.leaf_record.Goals as goal
 
 -- The two ways to write the open mark.
 mark : (b : Bool) → indicator b ≡ elim b as (λ x. ℕ) [ true ↦ 1 | false ↦ 0 ]
@@ -47,21 +46,13 @@ all-fields : (ws : List ℕ) (vs : List Way) (up-link : ℕ) (c : Clauses) (e : 
 unfolding ends_of kind_code fault_code live_code end
 all-fields ws vs up-link c e h l g = rw (h, l, g, mark (is_open ws vs))
 
-ends-requires : tie.Need-ends-requires
-ends-requires c κs = search rules
-
-returns : tie.Need-returns
-returns c =
-    let s = c.before.before.before.before.before in
-    let a = s.args in
-    let e = c.before.ends.ensures in
-    let w = s.requires.1.1 in
+pub returns : goal.returns
+returns c = let a = c.args in
+    let e = c.ends-e.ensures in
+    let w = c.requires.in_table in
     let l : a.c.waysa < 2 ^ 64 = search rules in
     let h : a.c.waysb < 2 ^ 64 = search rules in (
       all-fields _ _ _ a.c _ e.0 (sym (low_back _ _ a.c w l)) (sym (high_back _ _ a.c w h)),
       e.1,
       e.2,
     )
-
-pub leaf-record-spec : {M : Type 1} → statement M
-leaf-record-spec = tie.close (tie.spec ends-requires returns)

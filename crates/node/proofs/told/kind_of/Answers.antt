@@ -5,8 +5,7 @@ use borrow.Author.Tests.{eq-eqb, ne_eqb}
 use Rattle.rules.specs.declared.Kind.TheVariants.{IndependentOr, IndependentAnd, Shannon}
 use Rattle.records.specs.Records.{kind_of}
 use Rattle.records.specs.declared.Node.{Node}
-use Rattle.node.proofs.told.kind_of.Statement.{statement}
-use Rattle.node.proofs.told.kind_of.Tie as tie
+use Rattle.node.proofs.told.kind_of.Goals as goal
 
 module _ (x : Node) where
   by-groups : x.kind ≡ 2 → IndependentOr ≡ kind_of x
@@ -21,14 +20,11 @@ module _ (x : Node) where
   unfolding kind_of
   by-fault e f = rw (ne_eqb x.kind 2 e, ne_eqb x.kind 4 f, kind_of)
 
-returns : tie.Need-returns
-returns c = by-groups c.before.before.args.x c.if1.true
+pub returns-then-x-eq-INDEPENDENT_OR : goal.returns-then-x-eq-INDEPENDENT_OR
+returns-then-x-eq-INDEPENDENT_OR c = by-groups c.args.x c.if-x-eq-INDEPENDENT_OR.true
 
-returns-2 : tie.Need-returns-2
-returns-2 c = by-common c.before.before.before.before.args.x c.before.before.if1.false c.if2.true
+pub returns-then-x-eq-INDEPENDENT_AND : goal.returns-then-x-eq-INDEPENDENT_AND
+returns-then-x-eq-INDEPENDENT_AND c = by-common c.args.x c.if-x-eq-INDEPENDENT_OR.false c.if-x-eq-INDEPENDENT_AND.true
 
-returns-3 : tie.Need-returns-3
-returns-3 c = by-fault c.before.before.before.before.args.x c.before.before.if1.false c.if2.false
-
-pub kind-of-spec : {M : Type 1} → statement M
-kind-of-spec = tie.close (tie.spec returns returns-2 returns-3)
+pub returns : goal.returns
+returns c = by-fault c.args.x c.if-x-eq-INDEPENDENT_OR.false c.if-x-eq-INDEPENDENT_AND.false

@@ -7,8 +7,7 @@ use borrow.Author.Rules.{rules}
 use Rattle.rules.specs.declared.Kind.{Kind}
 use Rattle.rules.specs.declared.Kind.TheVariants.{IndependentOr, IndependentAnd, Shannon}
 use Rattle.records.specs.Records.{kind_code}
-use Rattle.node.proofs.kind_code.Statement.{statement}
-use Rattle.node.proofs.kind_code.Tie as tie
+use Rattle.node.proofs.kind_code.Goals as goal
 
 by-groups : (k : Kind) → k ≡ IndependentOr → 2 ≡ kind_code (some k)
 unfolding kind_code
@@ -22,23 +21,11 @@ by-fault : (k : Kind) (f : ℕ) → k ≡ Shannon f → 3 ≡ kind_code (some k)
 unfolding kind_code
 by-fault k f e = rw e
 
-enum_told : tie.Need-enum-told
-enum_told c = search rules
+pub returns-in-IndependentOr : goal.returns-in-IndependentOr
+returns-in-IndependentOr c = by-groups _ c.in-IndependentOr.is
 
-enum-told-2 : tie.Need-enum-told-2
-enum-told-2 c = search rules
+pub returns-in-IndependentAnd : goal.returns-in-IndependentAnd
+returns-in-IndependentAnd c = by-common _ c.in-IndependentAnd.is
 
-enum-told-3 : tie.Need-enum-told-3
-enum-told-3 c = search rules
-
-returns : tie.Need-returns
-returns c = by-groups _ c.enum_told.given.1
-
-returns-2 : tie.Need-returns-2
-returns-2 c = by-common _ c.enum-told2.given.1
-
-returns-3 : tie.Need-returns-3
-returns-3 c = by-fault _ _ c.enum-told3.given.1
-
-pub kind-code-spec : {M : Type 1} → statement M
-kind-code-spec = tie.close (tie.spec enum_told enum-told-2 enum-told-3 returns returns-2 returns-3)
+pub returns-in-Shannon : goal.returns-in-Shannon
+returns-in-Shannon c = by-fault _ _ c.in-Shannon.is

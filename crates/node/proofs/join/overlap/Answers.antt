@@ -8,8 +8,7 @@ use borrow.Author.Tests.{ltb-true, ltb-false}
 use lib.Dec.{ltb}
 use Rattle.rules.specs.Tree.{overlap}
 use Rattle.chances.specs.Directions.{dir_of}
-use Rattle.node.proofs.join.overlap.Statement.{statement}
-use Rattle.node.proofs.join.overlap.Tie as tie
+use Rattle.node.proofs.join.overlap.Goals as goal
 
 module _ (a b : ℕ) where
   -- The direction's test and the order of the two agree.
@@ -25,11 +24,8 @@ module _ (a b : ℕ) where
   second false true e h = omega (arith, ltb-true a b e)
   second false false e h = absurd (true≢false h)
 
-returns : tie.Need-returns
-returns c = let s = c.before in (first s.args.a s.args.b s.args.up (ltb s.args.a s.args.b) refl c.if1.true, s.requires.0)
+pub returns-then-up-a : goal.returns-then-up-a
+returns-then-up-a c = (first c.args.a c.args.b c.args.up (ltb c.args.a c.args.b) refl c.if-up-a.true, c.requires.0)
 
-returns-2 : tie.Need-returns-2
-returns-2 c = let s = c.before in (second s.args.a s.args.b s.args.up (ltb s.args.a s.args.b) refl c.if1.false, s.requires.1)
-
-pub overlap-spec : {M : Type 1} → statement M
-overlap-spec = tie.close (tie.spec returns returns-2)
+pub returns-else-up-a : goal.returns-else-up-a
+returns-else-up-a c = (second c.args.a c.args.b c.args.up (ltb c.args.a c.args.b) refl c.if-up-a.false, c.requires.1)

@@ -12,8 +12,7 @@ use Rattle.records.specs.Growing.{with_ends, joined}
 use Rattle.records.specs.declared.Node.{Node}
 use Rattle.store.specs.Safe.{SafeNode}
 use Rattle.store.proofs.SafeLaws.{safe-changed}
-use Rattle.node.proofs.join.joined.Statement.{statement}
-use Rattle.node.proofs.join.joined.Tie as tie
+use Rattle.node.proofs.join.joined.Goals as goal
 
 -- The record with the two ends overlapped is the joined one, and safe if it was safe before.
 both_ends : (ws : List ℕ) (x l r : Node) (k : Kind) (a b lo hi : ℕ) → k ≡ kind_of x
@@ -26,37 +25,7 @@ both_ends ws x l r k a b lo hi e f g h j s = (
   safe-changed x x.kind x.fault x.live x.left lo hi s s.children_inside h.1 j.1,
 )
 
-kind-of-requires : tie.Need-kind-of-requires
-kind-of-requires c κs = search rules
-
-combined-requires : tie.Need-combined-requires
-combined-requires c κs = search rules
-
-combined-requires-2 : tie.Need-combined-requires-2
-combined-requires-2 c κs = search rules
-
-overlap-requires : tie.Need-overlap-requires
-overlap-requires c κs = search rules
-
-overlap-requires-2 : tie.Need-overlap-requires-2
-overlap-requires-2 c κs = search rules
-
-returns : tie.Need-returns
-returns c =
-    let high = c.before.before in
-    let low = high.before in
-    let k = low.before in
-    both_ends _ _ _ _ _ _ _ _ _ k.kind-of.ensures low.combined.ensures.0 high.combined2.ensures.0 c.before.overlap.ensures
-    c.overlap2.ensures
-    k.before.before.requires.1.0
-
-pub joined-spec : {M : Type 1} → statement M
-joined-spec =
-    tie.close
-    (tie.spec
-    kind-of-requires
-    combined-requires
-    combined-requires-2
-    overlap-requires
-    overlap-requires-2
-    returns)
+pub returns : goal.returns
+returns c = both_ends _ _ _ _ _ _ _ _ _ c.kind_of-k.ensures c.combined-low.ensures.0 c.combined-high.ensures.0 c.overlap.ensures
+    c.overlap-2.ensures
+    c.requires.safe_node.0
