@@ -11,8 +11,7 @@ use Rattle.records.specs.Records.{is_live}
 use Rattle.records.specs.Growing.{record_width}
 use Rattle.records.specs.declared.Node.{Node}
 use Rattle.page.specs.Widest.{counts, counted_width}
-use Rattle.page.proofs.counted_width.Statement.{statement}
-use Rattle.page.proofs.counted_width.Tie as tie
+use Rattle.page.proofs.counted_width.Goals as goal
 
 -- The width w of a record that counts.
 abbrev counted : Bool → ℕ → ℕ
@@ -40,17 +39,8 @@ module _ (x : Node) (r : Bool) (e : r ≡ eqb x.kind 1 && is_live x) where
   unfolding counted_width counts
   other h = not-open (eqb x.kind 1) (is_live x) (ltb x.low x.high) (record_width x) (sym e ∙ h)
 
-is-open-leaf-requires : tie.Need-is-open-leaf-requires
-is-open-leaf-requires c κs = search rules
+pub returns-then-is_open_leaf : goal.returns-then-is_open_leaf
+returns-then-is_open_leaf c = open-leaf _ _ c.is_open_leaf.ensures c.if-is_open_leaf.true _ c.width.ensures
 
-width-requires : tie.Need-width-requires
-width-requires c κs = search rules
-
-returns : tie.Need-returns
-returns c = open-leaf _ _ c.before.before.is-open-leaf.ensures c.before.if1.true _ c.width.ensures
-
-returns-2 : tie.Need-returns-2
-returns-2 c = other _ _ c.before.is-open-leaf.ensures c.if1.false
-
-pub counted-width-spec : {M : Type 1} → statement M
-counted-width-spec = tie.close (tie.spec is-open-leaf-requires width-requires returns returns-2)
+pub returns-else-is_open_leaf : goal.returns-else-is_open_leaf
+returns-else-is_open_leaf c = other _ _ c.is_open_leaf.ensures c.if-is_open_leaf.false

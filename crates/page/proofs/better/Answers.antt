@@ -7,8 +7,7 @@ use borrow.Author.Tests.{le-ltb, lt-ltb}
 use Rattle.records.specs.declared.Node.{Node}
 use Rattle.page.specs.declared.Best.{Best}
 use Rattle.page.specs.Widest.{counted_width, better_of}
-use Rattle.page.proofs.better.Statement.{statement}
-use Rattle.page.proofs.better.Tie as tie
+use Rattle.page.proofs.better.Goals as goal
 
 module _ (best : Best) (x : Node) (i : ℕ) where
   takes : best.width < counted_width x → record { at = i; width = counted_width x } ≡ better_of best x i
@@ -26,14 +25,8 @@ module _ (best : Best) (x : Node) (i : ℕ) where
   no_wider : {w : ℕ} → w ≡ counted_width x → w ≤ best.width → best ≡ better_of best x i
   no_wider e h = keeps (rw e at h)
 
-counted-width-requires : tie.Need-counted-width-requires
-counted-width-requires c κs = search rules
+pub returns-then-best-width : goal.returns-then-best-width
+returns-then-best-width c = wider _ _ _ c.counted_width-width.ensures c.if-best-width.true
 
-returns : tie.Need-returns
-returns c = wider _ _ _ c.before.before.counted-width.ensures c.if1.true
-
-returns-2 : tie.Need-returns-2
-returns-2 c = no_wider _ _ _ c.before.before.counted-width.ensures c.if1.false
-
-pub better-spec : {M : Type 1} → statement M
-better-spec = tie.close (tie.spec counted-width-requires returns returns-2)
+pub returns-else-best-width : goal.returns-else-best-width
+returns-else-best-width c = no_wider _ _ _ c.counted_width-width.ensures c.if-best-width.false

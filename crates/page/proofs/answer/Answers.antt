@@ -5,8 +5,7 @@ use borrow.Author.Tests.{eq-eqb, ne_eqb}
 use Rattle.page.specs.declared.Best.{Best}
 use Rattle.page.specs.declared.Spot.TheVariants.{At, Nothing}
 use Rattle.page.specs.Widest.{answer_of}
-use Rattle.page.proofs.answer.Statement.{statement}
-use Rattle.page.proofs.answer.Tie as tie
+use Rattle.page.proofs.answer.Goals as goal
 
 none_found : (best : Best) → best.width ≡ 0 → Nothing ≡ answer_of best
 unfolding answer_of
@@ -16,11 +15,8 @@ one_found : (best : Best) → (best.width ≡ 0 → ⊥) → At best.at ≡ answ
 unfolding answer_of
 one_found best q = rw (ne_eqb best.width 0 q, answer_of)
 
-returns : tie.Need-returns
-returns c = none_found _ c.if1.true
+pub returns-then-best-eq0 : goal.returns-then-best-eq0
+returns-then-best-eq0 c = none_found _ c.if-best-eq0.true
 
-returns-2 : tie.Need-returns-2
-returns-2 c = one_found _ c.if1.false
-
-pub answer-spec : {M : Type 1} → statement M
-answer-spec = tie.close (tie.spec returns returns-2)
+pub returns-else-best-eq0 : goal.returns-else-best-eq0
+returns-else-best-eq0 c = one_found _ c.if-best-eq0.false

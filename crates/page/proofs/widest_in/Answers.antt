@@ -35,7 +35,6 @@ use denote.Slice.{slice_ty, slice_val, Room}
 use denote.Steps.{owned, peeks, heard, nothing}
 use denote.Enum.Laws as EL
 use denote.Struct.Laws as LL
-use denote.Triple.Statement.{Triple}
 use denote.Triple.Call.{calls_at}
 use denote.Triple.Clauses.{ensured}
 use denote.Triple.Entry.{on_entry}
@@ -64,6 +63,7 @@ use Rattle.page.specs.contracts.widest_in as f
 use Rattle.page.proofs.widest_in.Statement as stated
 use Rattle.page.proofs.widest_in.Code as code
 use Rattle.page.proofs.widest_in.Code.Mir as lowered
+use Rattle.page.proofs.widest_in.Goals as goal
 
 -- The array's length.
 abbrev n : ℕ
@@ -181,11 +181,3 @@ module _ {M : Type 1} {𝓤 : Ura M} (𝓛 : Logic 𝓤) (mem : Memory → SProp
   meets =
       walk_Meets 𝓛 f.ended stayed (Goes-none 𝓛 0 (λ _. Nodes) yes (λ κs x f. refl), tt) (f.clauses 𝓛 mem run)
       (WpFn 𝓤 H 𝓣.C 𝓣.Λ code.function) (WpFn-mono 𝓤 H 𝓛.laws 𝓣 code.function) walks
-
-pub widest-in-spec : {M : Type 1} → stated.statement M
-unfolding code.routine tables_of
-widest-in-spec 𝓤 𝓛 𝓜 𝓡 =
-    entered 𝓤 𝓛.H (triple_of 𝓛 f.signature (f.spec 𝓛 𝓜.mem 𝓡.run))
-    (tables 𝓤 𝓛.H 𝓜 𝓡 code.env).C (tables 𝓤 𝓛.H 𝓜 𝓡 code.env).Λ #page·widest-in code.function (code.unfolded 𝓤 𝓛.H 𝓜 𝓡)
-    (meets 𝓛 𝓜.mem 𝓡.run (tables_of 𝓤 𝓛.H 𝓜 (tables 𝓤 𝓛.H 𝓜 𝓡 code.env))
-    (cited 𝓤 𝓛.H (Widest 𝓛 𝓜.mem 𝓡.run) 𝓜 𝓡 code.env #page·widest widest-def.routine code.calls-page::widest (widest-thm.met 𝓤 𝓛 𝓜 𝓡)))

@@ -5,8 +5,7 @@ use mathlib.Core.Bool.{Bool, true, false}
 use Prim.Native.Nat.{ℕ}
 use Rattle.pick.specs.declared.Found.{Found}
 use Rattle.pick.specs.declared.Found.TheVariants.{At, Nothing}
-use Rattle.pick.proofs.found_by.Statement.{statement}
-use Rattle.pick.proofs.found_by.Tie as tie
+use Rattle.pick.proofs.found_by.Goals as goal
 
 some-leaf : (b : Bool) (i w : ℕ) → b ≡ true → ◌≡◌ {A = Found} (At i w) (elim b as (λ b. Found) [ true ↦ At i w | false ↦ Nothing ])
 some-leaf b i w e = rw e
@@ -14,11 +13,8 @@ some-leaf b i w e = rw e
 no-leaf : (b : Bool) (i w : ℕ) → b ≡ false → ◌≡◌ {A = Found} Nothing (elim b as (λ b. Found) [ true ↦ At i w | false ↦ Nothing ])
 no-leaf b i w e = rw e
 
-returns : tie.Need-returns
-returns c = some-leaf _ _ _ c.if1.true
+pub returns-then-s : goal.returns-then-s
+returns-then-s c = some-leaf _ _ _ c.if-s.true
 
-returns-2 : tie.Need-returns-2
-returns-2 c = no-leaf _ _ _ c.if1.false
-
-pub found-by-spec : {M : Type 1} → statement M
-found-by-spec = tie.close (tie.spec returns returns-2)
+pub returns : goal.returns
+returns c = no-leaf _ _ _ c.if-s.false

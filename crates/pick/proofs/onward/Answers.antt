@@ -10,8 +10,7 @@ use borrow.Author.Tests.{eq-eqb, ne_eqb}
 use Rattle.records.specs.declared.Node.{Node}
 use Rattle.pick.specs.Picks.{own_found, wider_of}
 use Rattle.pick.specs.Steps.{View, view, came, gone_down, gone_up, came_up, stepped}
-use Rattle.pick.proofs.onward.Statement.{statement}
-use Rattle.pick.proofs.onward.Tie as tie
+use Rattle.pick.proofs.onward.Goals as goal
 
 module _ (s : View) (n p : Node) where
   module _ (d : s.down ≡ true) where
@@ -38,68 +37,22 @@ module _ (s : View) (n p : Node) where
       unfolding stepped came_up gone_up
       to-parent e h = rw (d, stepped, ne_eqb s.at 0 q, came_up, ne_eqb p.left s.at e, gone_up) h
 
-entered-requires : tie.Need-entered-requires
-entered-requires c κs = search rules
+pub returns-then-n-eq0 : goal.returns-then-n-eq0
+returns-then-n-eq0 c = let a = c.args in
+    at_leaf (view a.s) _ a.p c.if-s.true c.if-n-eq0.true c.entered.ensures
 
-returns : tie.Need-returns
-returns c =
-    let k = c.before.before.before in
-    let a = k.before.args in
-    at_leaf (view a.s) _ a.p k.if1.true c.before.if2.true c.entered.ensures
+pub returns-then-s : goal.returns-then-s
+returns-then-s c = let a = c.args in
+    to_left (view a.s) _ a.p c.if-s.true c.if-n-eq0.false c.moved.ensures
 
-add-moved : tie.Need-overflow-add-moved
-add-moved c = search rules
+pub returns-then-s-eq0 : goal.returns-then-s-eq0
+returns-then-s-eq0 c = let a = c.args in
+    at-root (view a.s) a.n a.p c.if-s.false c.if-s-eq0.true refl
 
-moved-requires : tie.Need-moved-requires
-moved-requires c κs = search rules
+pub returns-then-p-s : goal.returns-then-p-s
+returns-then-p-s c = let a = c.args in
+    to-right (view a.s) a.n _ c.if-s.false c.if-s-eq0.false c.if-p-s.true c.moved-then-p-s.ensures
 
-returns-2 : tie.Need-returns-2
-returns-2 c =
-    let k = c.before.before.before.before in
-    let a = k.before.args in
-    to_left (view a.s) _ a.p k.if1.true c.before.before.if2.false c.moved.ensures
-
-returns-3 : tie.Need-returns-3
-returns-3 c =
-    let k = c.before.before in
-    let a = k.before.args in
-    at-root (view a.s) a.n a.p k.if1.false c.if3.true refl
-
-add-moved-2 : tie.Need-overflow-add-moved-2
-add-moved-2 c = search rules
-
-moved-requires-2 : tie.Need-moved-requires-2
-moved-requires-2 c κs = search rules
-
-returns-4 : tie.Need-returns-4
-returns-4 c =
-    let e = c.before.before.before.before.before in
-    let k = e.before.before in
-    let a = k.before.args in
-    to-right (view a.s) a.n _ k.if1.false e.if3.false c.before.before.if4.true c.moved2.ensures
-
-moved-requires-3 : tie.Need-moved-requires-3
-moved-requires-3 c κs = search rules
-
-returns-5 : tie.Need-returns-5
-returns-5 c =
-    let e = c.before.before.before.before in
-    let k = e.before.before in
-    let a = k.before.args in
-    to-parent (view a.s) _ _ k.if1.false e.if3.false c.before.if4.false c.moved3.ensures
-
-pub onward-spec : {M : Type 1} → statement M
-onward-spec =
-    tie.close
-    (tie.spec
-    entered-requires
-    returns
-    add-moved
-    moved-requires
-    returns-2
-    returns-3
-    add-moved-2
-    moved-requires-2
-    returns-4
-    moved-requires-3
-    returns-5)
+pub returns : goal.returns
+returns c = let a = c.args in
+    to-parent (view a.s) _ _ c.if-s.false c.if-s-eq0.false c.if-p-s.false c.moved-2.ensures

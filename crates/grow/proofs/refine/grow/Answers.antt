@@ -23,15 +23,7 @@ use Rattle.grow.specs.Branched.{Branched, three}
 use Rattle.grow.specs.declared.refine.Branch.{Branch}
 use Rattle.store.proofs.SafeLaws.{safe-read}
 use Rattle.grow.proofs.Leaves.{safe-three, three_refined}
-use Rattle.grow.proofs.refine.grow.Statement.{statement}
-use Rattle.grow.proofs.refine.grow.Tie as tie
-
--- The table and the tree of the call.
-abbrev table_of : tie.Start → Table
-table_of s = record { weights = s.args.weights.now; present = s.args.present.now; absent = s.args.absent.now }
-
-abbrev given : tie.Start → Tree
-given s = tree_of s.args.tree.now
+use Rattle.grow.proofs.refine.grow.Goals as goal
 
 -- The record that was read has the ways of record j, and there is room behind the records in use.
 read : (t : Table) (xs : List Node) (x : Node) (c : Clauses) (j : ℕ) → x ≡ record_in xs j → LeafWays t.present t.absent (record_in xs j) c
@@ -65,83 +57,3 @@ module _ (t : Table) (u v : Tree) (x : Node) (c : Clauses) (k : Kind) (j next : 
         → (w.nodes ≡ grown_at t u.nodes u.used j k) × (w.used ≡ u.used + 2) × Safe w.nodes
     unfolding grown_at
     grown w r = (r.0 ∙ ap (λ (xs : List Node). raise t.weights 64 xs j) refined-here, rw (r.1, put, next_is), r.2)
-
-record-at-requires : tie.Need-record-at-requires
-record-at-requires c κs = search rules
-
-used-in-requires : tie.Need-used-in-requires
-used-in-requires c κs = search rules
-
-branch-of-requires : tie.Need-branch-of-requires
-branch-of-requires c κs =
-    let r = c.before.before in
-    let s = r.before.before.before.before.before in
-    let a = s.args in
-    let p = s.requires.1 in
-    let t = table_of s in
-    let e = r.record-at.ensures in (
-      few_faults t s.requires.0,
-      (
-        light t s.requires.0,
-        (
-          read t (given s).nodes _ a.c a.j e p.0,
-          (
-            p.1.0,
-            (
-              safe-read _ _ _ p.1.1.0 e,
-              (
-                (
-                  p.1.1.1.0.0,
-                  room _ _ c.used-in.ensures p.1.1.1.0.1,
-                ),
-                lean-leaf t (record_in (given s).nodes a.j) a.c p.0 p.1.1.1.1,
-              ),
-            ),
-          ),
-        ),
-      ),
-    )
-
-put-branch-requires : tie.Need-put-branch-requires
-put-branch-requires c κs =
-    let p = c.before.before in
-    let s = p.before.before.before.before.before.before.before in
-    let q = s.requires.1.1.1.1.0 in
-    (q.0, room _ _ p.used-in.ensures q.1)
-
-raise-requires : tie.Need-raise-requires
-raise-requires c κs =
-    let p = c.before.before.before.before in
-    let s = p.before.before.before.before.before.before.before in
-    let a = s.args in
-    let q = s.requires.1.1.1 in (
-      light (table_of s) s.requires.0,
-      (
-        safe-put (table_of s) (given s) _ _ a.c a.k a.j _ _ c.before.before.before.branch-of.ensures c.before.put-branch.ensures (long _)
-            q.1.0.0 (room _ _ p.used-in.ensures q.1.0.1) q.0,
-        q.1.0.0,
-      ),
-    )
-
-returns : tie.Need-returns
-returns c =
-    let p = c.before.before.before.before.before in
-    let s = p.before.before.before.before.before.before.before in
-    let a = s.args in
-    grown (table_of s) (given s) _ _ a.c a.k a.j _ _ c.before.before.before.before.branch-of.ensures c.before.before.put-branch.ensures
-    p.before.before.record-at.ensures
-    p.used-in.ensures
-    s.requires.1.0
-    _
-    c.raise.ensures
-
-pub grow_spec : {M : Type 1} → statement M
-grow_spec =
-    tie.close
-    (tie.spec
-    record-at-requires
-    used-in-requires
-    branch-of-requires
-    put-branch-requires
-    raise-requires
-    returns)

@@ -40,7 +40,6 @@ use denote.Signature.{plain}
 use denote.Steps.{only, owned, peeks, heard, nothing}
 use denote.Enum.Laws as EL
 use denote.Struct.Laws as LL
-use denote.Triple.Statement.{Contract, Triple}
 use denote.Triple.Call.{calls_at}
 use denote.Triple.Clauses.{ensured, lasts}
 use denote.Triple.Entry.{Vals, on_entry}
@@ -78,12 +77,11 @@ use Rattle.page.specs.contracts.widest as f
 use Rattle.page.proofs.widest.Statement as stated
 use Rattle.page.proofs.widest.Code as code
 use Rattle.page.proofs.widest.Code.Mir as lowered
+use Rattle.page.proofs.widest.Goals as goal
 
 -- The bytes of a record.
 abbrev record_bytes : ℕ
 record_bytes = 8 * record_fields
-
--- ---- the definition, turn by turn
 
 begins : (ys : List Node) {r : Best} → r ≡ none_yet → r ≡ widest_up_to ys 0
 unfolding widest_up_to
@@ -96,8 +94,6 @@ goes_on ys i e = e ∙ ap (widest_up_to ys) (sym (add-one i))
 ends : (ys : List Node) (i : ℕ) {r : Spot} → r ≡ answer_of (widest_up_to ys i) → i ≡ length ys → r ≡ widest_of ys
 unfolding widest_of
 ends ys i e q = e ∙ ap (λ (m : ℕ). answer_of (widest_up_to ys m)) q
-
--- ---- the walk
 
 abbrev stayed : Stays (f.ended).signature.params (f.ended).kept
 stayed = (stay_none_slice (0 ∷ []) tt (plain (λ _. T.the_row)) yes, tt)
@@ -344,16 +340,3 @@ module _ {M : Type 1} {𝓤 : Ura M} (𝓛 : Logic 𝓤) (mem : Memory → SProp
   meets =
       walk_Meets 𝓛 f.ended stayed (Goes-none_slice 𝓛 1 (0 ∷ []) tt (plain (λ _. T.the_row)) yes, tt) (f.clauses 𝓛 mem run)
       (WpFn 𝓤 H 𝓣.C 𝓣.Λ code.function) (WpFn-mono 𝓤 H 𝓛.laws 𝓣 code.function) walks
-
-pub widest-spec : {M : Type 1} → stated.statement M
-unfolding code.routine tables_of
-widest-spec 𝓤 𝓛 𝓜 𝓡 =
-    entered 𝓤 𝓛.H (triple_of 𝓛 f.signature (f.spec 𝓛 𝓜.mem 𝓡.run))
-    (tables 𝓤 𝓛.H 𝓜 𝓡 code.env).C (tables 𝓤 𝓛.H 𝓜 𝓡 code.env).Λ #page·widest code.function (code.unfolded 𝓤 𝓛.H 𝓜 𝓡)
-    (meets 𝓛 𝓜.mem 𝓡.run (tables_of 𝓤 𝓛.H 𝓜 (tables 𝓤 𝓛.H 𝓜 𝓡 code.env)) (record {
-      of-start = cited 𝓤 𝓛.H (Start 𝓛 𝓜.mem 𝓡.run) 𝓜 𝓡 code.env #page·start start-def.routine code.calls-page::start (start-thm.met 𝓤 𝓛 𝓜 𝓡);
-      of-better =
-          cited 𝓤 𝓛.H (Better 𝓛 𝓜.mem 𝓡.run) 𝓜 𝓡 code.env #page·better better-def.routine code.calls-page::better (better-thm.met 𝓤 𝓛 𝓜 𝓡);
-      of-answer =
-          cited 𝓤 𝓛.H (Answer 𝓛 𝓜.mem 𝓡.run) 𝓜 𝓡 code.env #page·answer answer-def.routine code.calls-page::answer (answer-thm.met 𝓤 𝓛 𝓜 𝓡);
-    }))

@@ -15,8 +15,7 @@ use Rattle.pick.specs.declared.Search.{Search}
 use Rattle.pick.specs.Picks.{own_found, wider_of}
 use Rattle.pick.specs.Steps.{view, came}
 use Rattle.pick.proofs.Wider.{wider-second, wider-first, wider-nothing}
-use Rattle.pick.proofs.entered.Statement.{statement}
-use Rattle.pick.proofs.entered.Tie as tie
+use Rattle.pick.proofs.entered.Goals as goal
 
 closed : (best : Found) (i : ℕ) (n : Node) → is_live n ≡ false → best ≡ wider_of best (own_found i n)
 unfolding own_found
@@ -49,55 +48,18 @@ module _ (s : Search) (n : Node) (live : is_live n ≡ true) (w : ℕ) (e : w �
 with-best : (i : ℕ) {x y : Found} → x ≡ y → came i false x ≡ came i false y
 with-best i e = ap (came i false) e
 
-is-live-requires : tie.Need-is-live-requires
-is-live-requires c κs = search rules
+pub returns-then-not-is_live : goal.returns-then-not-is_live
+returns-then-not-is_live c = c.moved.ensures ∙ with-best _ (closed _ _ _ (sym c.is_live.ensures ∙ c.if-not-is_live.true))
 
-moved-requires : tie.Need-moved-requires
-moved-requires c κs = search rules
+pub returns-then-w-s : goal.returns-then-w-s
+returns-then-w-s c = let s = c.args.s in
+    c.moved-then-w-s.ensures ∙ with-best _
+    (not-larger s _ ((let it : is_live c.args.n ≡ true = sym c.is_live.ensures ∙ c.if-not-is_live.false in it)) _ c.width-w.ensures c.if-s.true (omega (arith, c.if-w-s.true)))
 
-returns : tie.Need-returns
-returns c =
-    let i = c.before in
-    c.moved.ensures ∙ with-best _ (closed _ _ _ (sym i.before.is_live.ensures ∙ not-true _ i.if1.true))
+pub returns-else-w-s : goal.returns-else-w-s
+returns-else-w-s c = let s = c.args.s in
+    with-best _ (larger s _ ((let it : is_live c.args.n ≡ true = sym c.is_live.ensures ∙ c.if-not-is_live.false in it)) _ c.width-w.ensures c.if-s.true c.if-w-s.false)
 
-width-requires : tie.Need-width-requires
-width-requires c κs = search rules
-
-moved-requires-2 : tie.Need-moved-requires-2
-moved-requires-2 c κs = search rules
-
--- The leaf is open.
-live-there : (c : tie.After-width) → is_live c.before.before.before.args.n ≡ true
-live-there c = sym c.before.before.is_live.ensures ∙ not-false _ c.before.if1.false
-
-returns-2 : tie.Need-returns-2
-returns-2 c =
-    let w = c.before.before.before.before in
-    let s = w.before.before.before.args.s in
-    c.moved2.ensures ∙ with-best _
-    (not-larger s _ (live-there w) _ w.width.ensures c.before.before.before.if2.true (omega (arith, c.before.if3.true)))
-
-returns-3 : tie.Need-returns-3
-returns-3 c =
-    let w = c.before.before.before in
-    let s = w.before.before.before.args.s in
-    with-best _ (larger s _ (live-there w) _ w.width.ensures c.before.before.if2.true c.if3.false)
-
-returns-4 : tie.Need-returns-4
-returns-4 c =
-    let w = c.before in
-    let s = w.before.before.before.args.s in
-    with-best _ (first s _ (live-there w) _ w.width.ensures c.if2.false)
-
-pub entered-spec : {M : Type 1} → statement M
-entered-spec =
-    tie.close
-    (tie.spec
-    is-live-requires
-    moved-requires
-    returns
-    width-requires
-    moved-requires-2
-    returns-2
-    returns-3
-    returns-4)
+pub returns-else-s : goal.returns-else-s
+returns-else-s c = let s = c.args.s in
+    with-best _ (first s _ ((let it : is_live c.args.n ≡ true = sym c.is_live.ensures ∙ c.if-not-is_live.false in it)) _ c.width-w.ensures c.if-s.false)

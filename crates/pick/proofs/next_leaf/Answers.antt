@@ -1,0 +1,49 @@
+-- `next_leaf` meets its contract. The loop: the search is on its way to the answer.
+-- Rests on Searching.antt and the contracts of `onward`, `found_by` and `store`'s `record_at`.
+use mathlib.Core.Path.{◌≡◌, sym, ◌∙◌, subst}
+use mathlib.Core.Bool.{false}
+use mathlib.Core.List.{List}
+use borrow.Author.Rules.{rules}
+use borrow.Author.Tests.{not-true, not-false}
+use Rattle.records.specs.Records.{record_in}
+use Rattle.records.specs.declared.Node.{Node}
+use Rattle.store.specs.Lent.{tree_of}
+use Rattle.store.proofs.SafeLaws.{safe-read}
+use Rattle.pick.specs.Steps.{View, view, stepped}
+use Rattle.pick.proofs.Searching.{Searching, steps_left, begins, inside, keeps, less}
+use Rattle.pick.proofs.next_leaf.Goals as goal
+
+-- The step at the records that were read is the one at the records of the tree.
+step-there : (xs : List Node) (s : View) {r : View} (n p : Node) → n ≡ record_in xs s.at → p ≡ record_in xs n.parent → r ≡ stepped s n p
+    → r ≡ stepped s (record_in xs s.at) (record_in xs (record_in xs s.at).parent)
+step-there xs s n p e f h = rw (f, e) at h
+
+pub loop-s-init : goal.loop-s-init
+loop-s-init c = subst (Searching _ _) (sym c.begin-s.ensures) (begins _ _ c.requires.linked)
+
+pub record_at-n-requires : goal.record_at-n-requires
+record_at-n-requires c = let l = c.loop-s in inside (view l.s) l.invariant ((let it : c.loop-s.s.over ≡ false = not-true _ c.loop-s-test.true in it))
+
+pub record_at-p-requires : goal.record_at-p-requires
+record_at-p-requires c = (safe-read (((tree_of c.args.tree.now).nodes)) _ _ c.requires.safe c.record_at-n.ensures).parent_inside
+
+pub onward-s-requires : goal.onward-s-requires
+onward-s-requires c = (
+      (safe-read (((tree_of c.args.tree.now).nodes)) _ _ c.requires.safe c.record_at-n.ensures).children_inside,
+      (safe-read (((tree_of c.args.tree.now).nodes)) _ _ c.requires.safe c.record_at-p.ensures).children_inside,
+    )
+
+pub loop-s-smaller : goal.loop-s-smaller
+loop-s-smaller c = let l = c.loop-s in less (view l.s) l.invariant ((let it : c.loop-s.s.over ≡ false = not-true _ c.loop-s-test.true in it)) ((let it : view c.onward-s.result ≡ (let xs = ((tree_of c.args.tree.now).nodes) in
+    let s = view c.loop-s.s in
+    stepped s (record_in xs s.at) (record_in xs (record_in xs s.at).parent)) = step-there (((tree_of c.args.tree.now).nodes)) (view c.loop-s.s) _ _
+    c.record_at-n.ensures c.record_at-p.ensures c.onward-s.ensures in it))
+
+pub loop-s-preserved : goal.loop-s-preserved
+loop-s-preserved c = let l = c.loop-s in keeps (view l.s) l.invariant ((let it : c.loop-s.s.over ≡ false = not-true _ c.loop-s-test.true in it)) ((let it : view c.onward-s.result ≡ (let xs = ((tree_of c.args.tree.now).nodes) in
+    let s = view c.loop-s.s in
+    stepped s (record_in xs s.at) (record_in xs (record_in xs s.at).parent)) = step-there (((tree_of c.args.tree.now).nodes)) (view c.loop-s.s) _ _
+    c.record_at-n.ensures c.record_at-p.ensures c.onward-s.ensures in it))
+
+pub returns : goal.returns
+returns c = c.found_by.ensures ∙ c.loop-s.invariant.found (not-false _ c.loop-s-test.false)
