@@ -10,7 +10,7 @@ use Rattle.grow.proofs.Climb.{Climb, turn, done, spent}
 use Rattle.grow.proofs.raise.raise.Goals as goal
 
 pub loop-left-init : goal.loop-left-init
-loop-left-init c = let p = c.requires.1{-REQ-} in record { inside = p.1; long = long _; safe = p.0; same = refl; rest = refl }
+loop-left-init c = record { inside = c.requires.j_lt_tree_records; long = long _; safe = c.requires.safe; same = refl; rest = refl }
 
 pub record_at-x-requires : goal.record_at-x-requires
 record_at-x-requires c = c.loop-left.invariant.inside
@@ -18,6 +18,48 @@ record_at-x-requires c = c.loop-left.invariant.inside
 pub record_at-l-requires : goal.record_at-l-requires
 record_at-l-requires c = let l = c.loop-left in
     omega (arith, (safe-read _ l.i _ l.invariant.safe c.record_at-x.ensures).children_inside)
+
+pub overflow_add-x : goal.overflow_add-x
+overflow_add-x c = let l = c.loop-left in
+    omega (arith, (safe-read _ l.i _ l.invariant.safe c.record_at-x.ensures).children_inside)
+
+pub record_at-r-requires : goal.record_at-r-requires
+record_at-r-requires c = let l = c.loop-left in
+    (safe-read _ l.i _ l.invariant.safe c.record_at-x.ensures).children_inside
+
+pub joined-requires : goal.joined-requires
+joined-requires c = let l = c.loop-left in
+    let s = l.invariant.safe in record {
+      weights_value = c.requires.weights_value;
+      safe_node = (
+        safe-read _ _ _ s c.record_at-x.ensures,
+        safe-read _ _ _ s c.record_at-l.ensures,
+        safe-read _ _ _ s c.record_at-r.ensures,
+      );
+    }
+
+pub put_record-requires : goal.put_record-requires
+put_record-requires c = c.loop-left.invariant.inside
+
+pub returns-then-i-eq0 : goal.returns-then-i-eq0
+returns-then-i-eq0 c = let l = c.loop-left in
+    done _ _ _ _ l.i l.left l.invariant c.loop-left-test.true _ _ _ _ _
+    c.record_at-x.ensures
+    c.record_at-l.ensures
+    c.record_at-r.ensures
+    c.joined.ensures
+    c.put_record.ensures
+    c.if-i-eq0.true
+
+pub loop-left-preserved : goal.loop-left-preserved
+loop-left-preserved c = let l = c.loop-left in
+    turn _ _ _ _ l.i l.left l.invariant c.loop-left-test.true _ _ _ _ _
+    c.record_at-x.ensures
+    c.record_at-l.ensures
+    c.record_at-r.ensures
+    c.joined.ensures
+    c.put_record.ensures
+    c.if-i-eq0.false
 
 pub returns : goal.returns
 returns c = let l = c.loop-left in spent _ _ _ _ l.i l.left l.invariant c.loop-left-test.false

@@ -7,14 +7,13 @@ use Rattle.grow.proofs.refine.branch_of.Goals as goal
 
 pub returns : goal.returns
 returns c = let n = c.refined-node.ensures in
-    let q = c.requires.1.1{-REQ-} in
     let l = c.leaf_record-left.ensures.0 in
     let r = c.leaf_record-right.ensures.0 in
     record {
       node_is = n.0;
-      left_is = as-child _ _ _ c.args.x c.args.c _ c.args.k left c.args.j _ q.0 c.children-s.ensures.on_left l;
-      right_is = as-child _ _ _ c.args.x c.args.c _ c.args.k right c.args.j _ q.0 c.children-s.ensures.on_right r;
+      left_is = as-child _ _ _ c.args.x c.args.c _ c.args.k left c.args.j _ c.requires.leaf_ways c.children-s.ensures.on_left l;
+      right_is = as-child _ _ _ c.args.x c.args.c _ c.args.k right c.args.j _ c.requires.leaf_ways c.children-s.ensures.on_right r;
       node_safe = n.1;
-      left_safe = safe-fresh _ _ _ _ _ q.1.1.1.0.0 l;
-      right_safe = safe-fresh _ _ _ _ _ q.1.1.1.0.0 r;
+      left_safe = safe-fresh _ _ _ _ _ c.requires.j_lt_tree_records.0 l;
+      right_safe = safe-fresh _ _ _ _ _ c.requires.j_lt_tree_records.0 r;
     }

@@ -57,3 +57,40 @@ module _ (t : Table) (u v : Tree) (x : Node) (c : Clauses) (k : Kind) (j next : 
         → (w.nodes ≡ grown_at t u.nodes u.used j k) × (w.used ≡ u.used + 2) × Safe w.nodes
     unfolding grown_at
     grown w r = (r.0 ∙ ap (λ (xs : List Node). raise t.weights 64 xs j) refined-here, rw (r.1, put, next_is), r.2)
+
+pub branch_of-b-requires : goal.branch_of-b-requires
+branch_of-b-requires c = let a = c.args in
+    let t : Table = (record { weights = c.args.weights.now; present = c.args.present.now; absent = c.args.absent.now }) in
+    let e = c.record_at-x.ensures in record {
+      weights_len_bound = few_faults t c.requires.accepted;
+      weights_value = light t c.requires.accepted;
+      leaf_ways = read t ((tree_of c.args.tree.now)).nodes _ a.c a.j e c.requires.leaf_ways;
+      fault_fits = c.requires.fault_fits;
+      safe_node = safe-read _ _ _ c.requires.safe e;
+      j_lt_tree_records = (
+                  c.requires.j_lt_tree_records.0,
+                  room _ _ c.used_in-next.ensures c.requires.j_lt_tree_records.1,
+                );
+      lean = lean-leaf t (record_in ((tree_of c.args.tree.now)).nodes a.j) a.c c.requires.leaf_ways c.requires.lean;
+    }
+
+pub put_branch-requires : goal.put_branch-requires
+put_branch-requires c = let q = c.requires.j_lt_tree_records in
+    (q.0, room _ _ c.used_in-next.ensures q.1)
+
+pub raise-requires : goal.raise-requires
+raise-requires c = let a = c.args in record {
+      weights_value = light ((record { weights = c.args.weights.now; present = c.args.present.now; absent = c.args.absent.now })) c.requires.accepted;
+      safe = safe-put ((record { weights = c.args.weights.now; present = c.args.present.now; absent = c.args.absent.now })) ((tree_of c.args.tree.now)) _ _ a.c a.k a.j _ _ c.branch_of-b.ensures c.put_branch.ensures (long _)
+            c.requires.j_lt_tree_records.0 (room _ _ c.used_in-next.ensures c.requires.j_lt_tree_records.1) c.requires.safe;
+      j_lt_tree_records = c.requires.j_lt_tree_records.0;
+    }
+
+pub returns : goal.returns
+returns c = let a = c.args in
+    grown ((record { weights = c.args.weights.now; present = c.args.present.now; absent = c.args.absent.now })) ((tree_of c.args.tree.now)) _ _ a.c a.k a.j _ _ c.branch_of-b.ensures c.put_branch.ensures
+    c.record_at-x.ensures
+    c.used_in-next.ensures
+    c.requires.leaf_ways
+    _
+    c.raise.ensures
