@@ -1,6 +1,6 @@
 -- Sums of fractions: when they are refused, that lists may be joined in any order, and one turn of a loop that adds.
 -- Rests on specs/Fractions.antt and Counting.antt.
-use Rattle.std.proofs.Common.{◌≡◌, ℕ, zero, suc, ◌+◌, ◌-◌, ◌<◌, ◌≤◌, Bool, true, false, ◌||◌, ltb, List, [], ◌∷◌, ◌++◌, map, length, get_or, take, drop, sym, refl, ap, ◌∙◌, ap₂, zero-le, le_trans, lt_of_lt_of_le, arith, take-append-drop, take-suc, ltb-false, ltb-true, le-ltb, lt-ltb}
+use Rattle.std.proofs.Common.{◌≡◌, ℕ, zero, suc, ◌<◌, ◌≤◌, Bool, true, false, ◌||◌, ltb, List, [], ◌∷◌, ◌++◌, map, length, get_or, take, drop, sym, refl, ap, ◌∙◌, ap₂, zero-le, le_trans, lt_of_lt_of_le, arith, take-append-drop, take-suc, ltb-false, ltb-true, le-ltb, lt-ltb}
 use mathlib.Core.Bool.{or-false, or_assoc, or_comm}
 use mathlib.Core.List.Permᴰ
 use mathlib.Core.List.{Permᴰ}

@@ -1,6 +1,6 @@
 -- `accept` meets its contract: 25, or the fraction.
 -- Rests on Sums.antt.
-use Rattle.std.proofs.Common.{sym, ◌∙◌, rules}
+use Rattle.std.proofs.Common.{sym, ◌∙◌}
 use Rattle.captures.proofs.Sums.{fraction-refused, fraction-counted}
 use Rattle.captures.proofs.fractions.accept.Goals as goal
 

@@ -1,6 +1,6 @@
 -- `add` meets its contract: either fraction by itself, then the sum, which cannot overflow.
 -- Rests on Sums.antt.
-use Rattle.std.proofs.Common.{◌≡◌, ◌+◌, ◌<◌, false, [], ◌∷◌, sym, ◌∙◌, arith, rules}
+use Rattle.std.proofs.Common.{◌≡◌, ◌+◌, ◌<◌, false, [], ◌∷◌, sym, ◌∙◌, arith}
 use Rattle.captures.specs.declared.Fraction.{Fraction}
 use Rattle.captures.specs.Fractions.{beyond}
 use Rattle.captures.proofs.Sums.{within-is, some-refused, two-added}
@@ -22,23 +22,23 @@ returns-then-is_beyond-2 c = sym (some-refused (c.args.x ∷ []) [] c.args.y (sy
 
 pub overflow_add-discarded : goal.overflow_add-discarded
 overflow_add-discarded c = record {
-      fits =
-          discarded-fits
-          c.args.x
-          c.args.y
-          (sym c.is_beyond.ensures ∙ c.if-is_beyond.false)
-          (sym c.is_beyond-2.ensures ∙ c.if-is_beyond-2.false);
-    }
+  fits =
+      discarded-fits
+      c.args.x
+      c.args.y
+      (sym c.is_beyond.ensures ∙ c.if-is_beyond.false)
+      (sym c.is_beyond-2.ensures ∙ c.if-is_beyond-2.false);
+}
 
 pub overflow_add-judged : goal.overflow_add-judged
 overflow_add-judged c = record {
-      fits =
-          judged-fits
-          c.args.x
-          c.args.y
-          (sym c.is_beyond.ensures ∙ c.if-is_beyond.false)
-          (sym c.is_beyond-2.ensures ∙ c.if-is_beyond-2.false);
-    }
+  fits =
+      judged-fits
+      c.args.x
+      c.args.y
+      (sym c.is_beyond.ensures ∙ c.if-is_beyond.false)
+      (sym c.is_beyond-2.ensures ∙ c.if-is_beyond-2.false);
+}
 
 pub returns : goal.returns
 returns c = c.accept.ensures

@@ -1,6 +1,6 @@
 -- `rounded_up` meets its contract: discarded × S is at most 4 × 10^18, and the quotient at most S.
 -- Rests on Exact.antt.
-use Rattle.std.proofs.Common.{◌≡◌, ◌-◌, ◌*◌, ◌<◌, false, refl, arith}
+use Rattle.std.proofs.Common.{◌≡◌, ◌*◌, ◌<◌, false, refl, arith}
 use Rattle.rules.specs.Rounding.{S}
 use Rattle.captures.specs.declared.Fraction.{Fraction}
 use Rattle.captures.specs.Fractions.{unjudged, beyond, weight_of}
@@ -21,6 +21,9 @@ overflow_mul-result c = record { fits = product-fits c.args.x c.requires.x_value
 
 pub overflow_sub-result : goal.overflow_sub-result
 overflow_sub-result c = judged-some c.args.x c.requires.x_value
+
+pub nonzero_div-result : goal.nonzero_div-result
+nonzero_div-result c = judged-some c.args.x c.requires.x_value
 
 pub overflow_add-result : goal.overflow_add-result
 overflow_add-result c = record { fits = weight-fits c.args.x c.requires.x_value_2 }

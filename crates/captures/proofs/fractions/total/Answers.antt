@@ -1,6 +1,6 @@
 -- `total` meets its contract. The loop's invariant: so far the first i fractions are added, and none was refused.
 -- Rests on Listed.antt and Sums.antt.
-use Rattle.std.proofs.Common.{◌≡◌, ℕ, ◌+◌, ◌-◌, ◌<◌, ◌≤◌, max, List, [], ◌∷◌, length, get_or, take, sym, ap, ◌∙◌, subst, ap₂, zero-le, arith, take_all, rules}
+use Rattle.std.proofs.Common.{◌≡◌, ℕ, ◌+◌, ◌<◌, max, List, [], ◌∷◌, length, get_or, take, sym, ap, ◌∙◌, subst, ap₂, zero-le, arith, take_all}
 use Rattle.captures.specs.declared.Fraction.{Fraction}
 use Rattle.captures.specs.declared.FractionAnswer.{FractionAnswer}
 use Rattle.captures.specs.Fractions.{fraction, total_answer, fractions_in}
@@ -36,6 +36,8 @@ loop-i-preserved c = let sum = one-turn _ _ _ c.loop-i.i _ _ _ _ c.larger-n.ensu
 pub returns : goal.returns
 returns c = let ds = c.args.discarded.now in
     let js = c.args.judged.now in
-    let all = fractions_in ds js in record { promise = subst (Added all)
-    (ap total_answer (sym (take_all c.loop-i.i all (rw (fractions-length ds js ∙ sym c.larger-n.ensures) c.loop-i-test.false))) ∙ c.loop-i.invariant.1)
-    (fractions-any-order all) }
+    let all = fractions_in ds js in record {
+      promise = subst (Added all)
+          (ap total_answer (sym (take_all c.loop-i.i all (rw (fractions-length ds js ∙ sym c.larger-n.ensures) c.loop-i-test.false))) ∙ c.loop-i.invariant.1)
+          (fractions-any-order all);
+    }

@@ -1,6 +1,6 @@
 -- `hear` meets its contract: the first packet, a discarded one, an accepted one; a log that is not full has room for one more.
 -- Rests on Counting.antt.
-use Rattle.std.proofs.Common.{◌≡◌, ◌+◌, ◌<◌, false, sym, ◌∙◌, arith, rules}
+use Rattle.std.proofs.Common.{◌≡◌, ◌+◌, ◌<◌, false, sym, ◌∙◌, arith}
 use borrow.Author.Tests.{not-true, not-false}
 use Rattle.captures.specs.declared.Log.{Log}
 use Rattle.captures.specs.Logs.{is_full}

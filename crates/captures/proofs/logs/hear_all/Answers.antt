@@ -1,6 +1,6 @@
 -- `hear_all` meets its contract. The loop's invariant: so far the first i packets were heard, none of the counts capped.
 -- Rests on Counting.antt.
-use Rattle.std.proofs.Common.{◌≡◌, ◌-◌, ◌≤◌, length, take, sym, refl, ap, ◌∙◌, arith, rules}
+use Rattle.std.proofs.Common.{sym, refl, ap, ◌∙◌, arith}
 use Rattle.captures.specs.Logs.{heard_all, capped}
 use Rattle.captures.proofs.Counting.{heard-again, heard-ended, full-early, capped-open}
 use Rattle.captures.proofs.logs.hear_all.Goals as goal
@@ -17,9 +17,9 @@ hear-so_far-requires c = sym c.is_full.ensures ∙ c.if-is_full.false
 
 pub loop-i-preserved : goal.loop-i-preserved
 loop-i-preserved c = (
-      omega (arith, c.loop-i-test.true),
-      c.hear-so_far.ensures ∙ heard-again c.args.log c.loop-i.so_far c.args.piece.now c.loop-i.i c.loop-i-test.true c.loop-i.invariant.1,
-    )
+  omega (arith, c.loop-i-test.true),
+  c.hear-so_far.ensures ∙ heard-again c.args.log c.loop-i.so_far c.args.piece.now c.loop-i.i c.loop-i-test.true c.loop-i.invariant.1,
+)
 
 pub returns-then-is_full-2 : goal.returns-then-is_full-2
 returns-then-is_full-2 c = full-early _ _ _ c.loop-i.i c.loop-i.invariant.1 (sym c.is_full-2.ensures ∙ c.if-is_full-2.true)

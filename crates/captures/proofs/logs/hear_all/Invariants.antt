@@ -1,8 +1,7 @@
 -- `hear_all` meets its contract. The loop's invariant: so far the first i packets were heard, none of the counts capped.
 -- Rests on Counting.antt.
-use Rattle.std.proofs.Common.{◌≡◌, ◌-◌, ◌≤◌, length, take, sym, refl, ap, ◌∙◌, arith, rules}
-use Rattle.captures.specs.Logs.{heard_all, capped}
-use Rattle.captures.proofs.Counting.{heard-again, heard-ended, full-early, capped-open}
+use Rattle.std.proofs.Common.{◌≡◌, ◌-◌, ◌≤◌, length, take}
+use Rattle.captures.specs.Logs.{heard_all}
 use Rattle.captures.proofs.logs.hear_all.Given as goal
 
 abbrev pub invariant-loop-i : goal.invariant-loop-i

@@ -1,6 +1,6 @@
 -- `logs` meets its contract. The loop's invariant: so far the first i logs are added, none was refused, and the next begins at `at`.
 -- Rests on Listed.antt and Sums.antt.
-use Rattle.std.proofs.Common.{◌≡◌, ℕ, ◌+◌, ◌-◌, ◌≤◌, min, List, [], ◌∷◌, map, length, take, drop, sym, ap, ◌∙◌, subst, arith, rules}
+use Rattle.std.proofs.Common.{◌≡◌, ℕ, ◌+◌, ◌-◌, ◌≤◌, min, List, [], ◌∷◌, map, take, drop, sym, ap, ◌∙◌, subst, arith}
 use Rattle.captures.specs.declared.Log.{Log}
 use Rattle.captures.specs.declared.Fraction.{Fraction}
 use Rattle.captures.specs.declared.FractionAnswer.{FractionAnswer}
@@ -8,7 +8,7 @@ use Rattle.captures.specs.Logs.{heard_all, silent, counted, fraction_of, capped,
 use Rattle.captures.specs.Fractions.{total_answer}
 use Rattle.captures.specs.Promises.{LogsCounted}
 use Rattle.captures.proofs.Sums.{front-refused}
-use Rattle.captures.proofs.Listed.{end_of, SoFar, so-far-none, so-far-next, so-far-all, logs-turn}
+use Rattle.captures.proofs.Listed.{end_of, so-far-none, so-far-next, so-far-all, logs-turn}
 use Rattle.captures.proofs.Claims.{logs-any-order}
 use Rattle.captures.proofs.logs.logs.Goals as goal
 
@@ -36,8 +36,33 @@ loop-i-init c = so-far-none c.args.lengths.now c.args.bytes.now
 pub end_of-end-requires : goal.end_of-end-requires
 end_of-end-requires c = c.loop-i.invariant.within
 
+pub returns-in-Refused : goal.returns-in-Refused
+returns-in-Refused c =
+    let ns = c.args.lengths.now in
+    let bs = c.args.bytes.now in
+    record {
+      promise =
+          subst (LogsCounted (logs_in ns bs))
+          (front-refused (map fraction_of (logs_in ns bs)) (c.loop-i.i + 1) _
+          (sym (logs-turn ns bs c.loop-i.sum c.loop-i.at c.loop-i.i c.loop-i-test.true c.loop-i.invariant)
+          ∙ one-turn bs c.loop-i.sum c.loop-i.at _ _ _ _ _ c.end_of-end.ensures c.hear_all-heard.ensures c.counted.ensures c.add.ensures
+          ∙ c.in-Refused.is))
+          (logs-any-order (logs_in ns bs));
+    }
+
+pub loop-i-preserved : goal.loop-i-preserved
+loop-i-preserved c =
+    let ns = c.args.lengths.now in
+    let bs = c.args.bytes.now in
+    rw c.end_of-end.ensures
+    (so-far-next ns bs c.loop-i.sum _ c.loop-i.at c.loop-i.i c.loop-i-test.true c.loop-i.invariant
+    (one-turn bs c.loop-i.sum c.loop-i.at _ _ _ _ _ c.end_of-end.ensures c.hear_all-heard.ensures c.counted.ensures c.add.ensures
+    ∙ c.in-Counted.is))
+
 pub returns : goal.returns
 returns c = let ns = c.args.lengths.now in
-    let bs = c.args.bytes.now in record { promise = subst (LogsCounted (logs_in ns bs))
-    (sym (so-far-all ns bs c.loop-i.sum c.loop-i.at c.loop-i.i c.loop-i-test.false c.loop-i.invariant))
-    (logs-any-order (logs_in ns bs)) }
+    let bs = c.args.bytes.now in record {
+      promise = subst (LogsCounted (logs_in ns bs))
+          (sym (so-far-all ns bs c.loop-i.sum c.loop-i.at c.loop-i.i c.loop-i-test.false c.loop-i.invariant))
+          (logs-any-order (logs_in ns bs));
+    }

@@ -1,11 +1,9 @@
 -- Below 128 the byte as it is, else minus one less what is missing to 255.
-use Rattle.std.proofs.Common.{◌≡◌, ℕ, ◌-◌, ◌<◌, ◌≤◌, negsuc, ◌-ℤ◌, sym, ◌∙◌, arith, to_z-of_z, w8, to_z, of_z, rules}
+use Rattle.std.proofs.Common.{◌≡◌, ℕ, ◌-◌, ◌<◌, ◌≤◌, negsuc, ◌-ℤ◌, sym, ◌∙◌, arith, to_z-of_z, w8, to_z, of_z}
 use mir.Facts.{to_z_pos}
 use Rattle.captures.specs.Logs.{signed}
 use Rattle.captures.proofs.Circle.{signed_low, signed_high}
 use Rattle.captures.proofs.Bits8.{one_less, one_less_fits}
-use Rattle.captures.proofs.logs.signed.Reads as reads
-use Rattle.captures.proofs.logs.signed.Lts as lts
 use Rattle.captures.proofs.logs.signed.Goals as goal
 
 -- What is missing to 255 is below 128.
