@@ -61,7 +61,7 @@ module _ (t : Table) (ok : Accepted t) (x : Tree) (g : Good t x) (b : bad t x �
   unfolding call_number
   by_leaf n e =
       number_is t ns g.accepted x g.is b (by_hand bs k)
-      ∙ sym (finding.by_hand t ns g.accepted bs k ok)
+      ∙ sym (finding.by-hand t ns g.accepted bs k ok)
       ∙ ap (λ (y : Tree). leaf_number t y bs k) (sym g.is)
       ∙ sym (weightless t x bs k) ∙ e
 
@@ -84,7 +84,7 @@ module _ (t : Table) (ok : Accepted t) (x : Tree) (g : Good t x) (b : bad t x �
       n = record { place = w.place; kind = k }
 
       zeroed : hand_number t false (tree ns) bs k ≡ 0
-      zeroed = sym (finding.by_hand t ns h bs k ok) ∙ free
+      zeroed = sym (finding.by-hand t ns h bs k ok) ∙ free
 
       grown : y ≡ layout t (ns ++ (n ∷ []))
       grown =

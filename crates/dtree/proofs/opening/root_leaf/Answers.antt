@@ -13,28 +13,26 @@ use Rattle.clauses.specs.declared.Gone.{Gone}
 use Rattle.clauses.specs.Leaves.{none_gone}
 use Rattle.node.specs.Told.{spot_with}
 use Rattle.dtree.proofs.Opens.{root-record}
-use Rattle.dtree.proofs.opening.root_leaf.Statement.{statement}
-use Rattle.dtree.proofs.opening.root_leaf.Tie as tie
+use Rattle.dtree.proofs.opening.root_leaf.Goals as goal
 
 from-ways : (t : Table) (vs : List Way) (g : Gone) (x : Node) → vs ≡ root_ways t → g ≡ none_gone
     → x ≡ fresh_record (record { weights = t.weights; present = []; absent = [] }) (spot_with g vs) 0 → x ≡ record_at t [] []
 from-ways t vs g x e h f = f ∙ rw (e, h) (root-record t)
 
-staying-rows-requires : tie.Need-staying-rows-requires
-staying-rows-requires c κs =
-    let ok = c.before.before.before.requires in
-    (few_ways _ ok, sym (paired_words _ ok))
+pub staying_rows-requires : goal.staying_rows-requires
+staying_rows-requires c = let ok = c.requires in record {
+      present_len_bound = few_ways _ ok;
+      absent_len = sym (paired_words _ ok);
+    }
 
-leaf-record-requires : tie.Need-leaf-record-requires
-leaf-record-requires c κs =
-    let ok = c.before.before.before.before.requires in
-    (few_faults _ ok, (light _ ok, c.staying-rows.ensures.1))
+pub leaf_record-requires : goal.leaf_record-requires
+leaf_record-requires c = let ok = c.requires in record {
+      weights_len_bound = few_faults _ ok;
+      weights_value = light _ ok;
+      in_table = c.staying_rows.ensures.1;
+    }
 
-returns : tie.Need-returns
+pub returns : goal.returns
 unfolding ways root_ways
-returns c =
-    let w = c.before.staying-rows.ensures in
-    from-ways _ _ _ _ w.0 w.2 c.leaf-record.ensures.0
-
-pub root-leaf-spec : {M : Type 1} → statement M
-root-leaf-spec = tie.close (tie.spec staying-rows-requires leaf-record-requires returns)
+returns c = let w = c.staying_rows.ensures in
+    from-ways _ _ _ _ w.0 w.2 c.leaf_record.ensures.0

@@ -21,19 +21,7 @@ use Rattle.dtree.specs.Promises.{Refining}
 use Rattle.dtree.proofs.Refuses.{refused-call}
 use Rattle.dtree.proofs.ByHand.{by_leaf}
 use Rattle.dtree.proofs.One.{refining}
-use Rattle.dtree.proofs.refining.refine_good.Statement.{statement}
-use Rattle.dtree.proofs.refining.refine_good.Tie as tie
-
--- Where the call began, seen from the leaf's search.
-abbrev entry : tie.After-leaf-at → tie.Start
-entry c = c.before.before.before.before.before.before
-
--- The table and the tree.
-abbrev given : tie.Start → Table
-given s = table s.args.weights.now s.args.present.now s.args.absent.now
-
-abbrev lent : tie.Start → Tree
-lent s = tree_of s.args.tree.now
+use Rattle.dtree.proofs.refining.refine_good.Goals as goal
 
 -- What the answer `leaf_at` gave tells: a leaf that can be refined, or the number that refuses.
 module _ (t : Table) (x : Tree) (bs : List ℕ) (k : Kind) (r : Named) (told : Tells (word_table t.present t.absent) x bs k r) where
@@ -50,43 +38,25 @@ module _ (t : Table) (x : Tree) (bs : List ℕ) (k : Kind) (r : Named) (told : T
       refining t x bs k x (Answer.Refused n)
       (refused-call t x (by_hand bs k) n (by_leaf t ok x g ((sixteen t x).1 g) bs k n (number n e).0) (number n e).1)
 
-leaf-at-requires : tie.Need-leaf-at-requires
-leaf-at-requires c κs =
-    let s = c.before.before.before.before.before in
-    (few_ways (given s) s.requires.0, (sym (paired_words (given s) s.requires.0), s.requires.1.1))
+pub leaf_at-requires : goal.leaf_at-requires
+leaf_at-requires c = record {
+      present_len_bound = few_ways ((table c.args.weights.now c.args.present.now c.args.absent.now)) c.requires.accepted;
+      absent_len = sym (paired_words ((table c.args.weights.now c.args.present.now c.args.absent.now)) c.requires.accepted);
+      safe = c.requires.safe;
+    }
 
-enum-known-n : tie.Need-enum-known-n
-enum-known-n c = search rules
+pub refine_leaf-requires : goal.refine_leaf-requires
+refine_leaf-requires c = record {
+      accepted = c.requires.accepted;
+      good = c.requires.good;
+      safe = c.requires.safe;
+      refinable = refinable ((table c.args.weights.now c.args.present.now c.args.absent.now)) ((tree_of c.args.tree.now)) c.args.place.now c.args.kind c.leaf_at.result c.leaf_at.ensures
+              _ c.in-Leaf.is;
+    }
 
-enum-known-j : tie.Need-enum-known-j
-enum-known-j c = search rules
+pub returns-in-Refused : goal.returns-in-Refused
+returns-in-Refused c = record { promise = refused ((table c.args.weights.now c.args.present.now c.args.absent.now)) ((tree_of c.args.tree.now)) c.args.place.now c.args.kind c.leaf_at.result c.leaf_at.ensures c.requires.accepted c.requires.good _
+    c.in-Refused.is }
 
-refine-leaf-requires : tie.Need-refine-leaf-requires
-refine-leaf-requires c κs =
-    let j = c.before.before in
-    let l = j.before.before in
-    let s = entry l in (
-      s.pre.0,
-      (
-        s.pre.1.0,
-        (
-          s.pre.1.1,
-          refinable (given s) (lent s) s.args.place.now s.args.kind l.leaf-at.result l.leaf-at.ensures
-              _ j.j.given.1,
-        ),
-      ),
-    )
-
-returns : tie.Need-returns
-returns c =
-    let n = c.before in
-    let l = n.before.before in
-    let s = entry l in
-    refused (given s) (lent s) s.args.place.now s.args.kind l.leaf-at.result l.leaf-at.ensures s.pre.0 s.pre.1.0 _
-    n.n.given.1
-
-returns-2 : tie.Need-returns-2
-returns-2 c = c.refine-leaf.ensures
-
-pub refine-good-spec : {M : Type 1} → statement M
-refine-good-spec = tie.close (tie.spec leaf-at-requires enum-known-n enum-known-j refine-leaf-requires returns returns-2)
+pub returns-in-Leaf : goal.returns-in-Leaf
+returns-in-Leaf c = record { promise = c.refine_leaf.ensures.promise }

@@ -22,19 +22,7 @@ use Rattle.dtree.specs.Promises.{root_of, Refining}
 use Rattle.dtree.proofs.Refuses.{odd-room, ways-there}
 use Rattle.dtree.proofs.ByHand.{made}
 use Rattle.dtree.proofs.One.{refining}
-use Rattle.dtree.proofs.refining.refine_leaf.Statement.{statement}
-use Rattle.dtree.proofs.refining.refine_leaf.Tie as tie
-
--- Where the call began, seen from the leaf's record.
-abbrev entry : tie.After-record-at → tie.Start
-entry c = c.before.before.before.before.before.before
-
--- The table and the tree.
-abbrev given : tie.Start → Table
-given s = table s.args.weights.now s.args.present.now s.args.absent.now
-
-abbrev lent : tie.Start → Tree
-lent s = tree_of s.args.tree.now
+use Rattle.dtree.proofs.refining.refine_leaf.Goals as goal
 
 -- What the contract says of the tree y that is left, where `top` is its root's record.
 made_so : (t : Table) (x : Tree) (bs : List ℕ) (k : Kind) (j : ℕ) → Accepted t → Good t x → Refinable (word_table t.present t.absent) x bs k j
@@ -44,35 +32,26 @@ made_so t x bs k j ok g r y grown top e =
     refining t x bs k y (Answer.Accepted (record { low = top.low; high = top.high; count = 1 }))
     (made t ok x g ((sixteen t x).1 g) bs k j r y grown.0 grown.1 top e)
 
-record-at-requires : tie.Need-record-at-requires
-record-at-requires c κs = c.before.before.before.before.before.requires.1.1.1.inside
+pub record_at-requires : goal.record_at-requires
+record_at-requires c = c.requires.refinable.inside
 
-ways-of-requires : tie.Need-ways-of-requires
-ways-of-requires c κs = let s = entry c in (few_ways (given s) s.pre.0, sym (paired_words (given s) s.pre.0))
+pub ways_of-c-requires : goal.ways_of-c-requires
+ways_of-c-requires c = record {
+      present_len_bound = few_ways ((table c.args.weights.now c.args.present.now c.args.absent.now)) c.requires.accepted;
+      absent_len = sym (paired_words ((table c.args.weights.now c.args.present.now c.args.absent.now)) c.requires.accepted);
+    }
 
-grow-requires : tie.Need-grow-requires
-grow-requires c κs =
-    let w = c.before in
-    let n = w.before in
-    let s = entry n in
-    let g = s.pre.1.0 in
-    let r = s.pre.1.1.1 in (
-      s.pre.0,
-      (
-        ways-there s.args.present.now s.args.absent.now _ _ _ n.record-at.ensures w.ways-of.ensures,
-        (r.fault, (s.pre.1.1.0, ((r.inside, odd-room (given s) (lent s) g r.room), lean-at (given s) s.pre.0 (lent s) g s.args.j))),
-      ),
-    )
+pub grow-requires : goal.grow-requires
+grow-requires c = let g = c.requires.good in
+    let r = c.requires.refinable in record {
+      accepted = c.requires.accepted;
+      leaf_ways = ways-there c.args.present.now c.args.absent.now _ _ _ c.record_at.ensures c.ways_of-c.ensures;
+      fault_fits = r.fault;
+      safe = c.requires.safe;
+      j_lt_tree_records = (r.inside, odd-room ((table c.args.weights.now c.args.present.now c.args.absent.now)) ((tree_of c.args.tree.now)) g r.room);
+      lean = lean-at ((table c.args.weights.now c.args.present.now c.args.absent.now)) c.requires.accepted ((tree_of c.args.tree.now)) g c.args.j;
+    }
 
-record-at-requires-2 : tie.Need-record-at-requires-2
-record-at-requires-2 c κs = search rules
-
-returns : tie.Need-returns
-returns c =
-    let g = c.before.before in
-    let s = entry g.before.before.before in
-    made_so (given s) (lent s) s.args.place.now s.args.kind s.args.j s.pre.0 s.pre.1.0 s.pre.1.1.1 _ g.grow.ensures _
-    c.record-at2.ensures
-
-pub refine-leaf-spec : {M : Type 1} → statement M
-refine-leaf-spec = tie.close (tie.spec record-at-requires ways-of-requires grow-requires record-at-requires-2 returns)
+pub returns : goal.returns
+returns c = record { promise = made_so ((table c.args.weights.now c.args.present.now c.args.absent.now)) ((tree_of c.args.tree.now)) c.args.place.now c.args.kind c.args.j c.requires.accepted c.requires.good c.requires.refinable _ c.grow.ensures _
+    c.record_at-root.ensures }
