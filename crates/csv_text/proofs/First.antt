@@ -107,7 +107,7 @@ rows_told k n b (r ∷ rs) e = split (is_row r && follows b (row_in r)) refl (ro
           omega (arith, found.1),
           record {
             there = omega (arith, told.there);
-            before = λ j. elim j [ zero ↦ λ h. row_first b r rs x | suc m ↦ λ h. row-down b r rs m (told.before m (omega arith)) ];
+            before = λ j. elim j as (λ m. m < suc found.0 → Row b (r ∷ rs) m) [ zero ↦ λ h. row_first b r rs x | suc m ↦ λ h. row-down b r rs m (told.before m (omega arith)) ];
             amiss = λ h. told.amiss (row_up b r rs found.0 h);
           },
         )
@@ -170,7 +170,7 @@ module _ (r w : List (List ℕ)) (rs : List (List (List ℕ))) where
   weights_told (suc zero) x y e =
       record {
         asked = omega arith;
-        before = λ j. elim j [ zero ↦ λ h. (omega arith, x) | suc m ↦ λ h. absurd (omega arith) ];
+        before = λ j. elim j as (λ m. m < 1 → Fine (r ∷ w ∷ rs) m) [ zero ↦ λ h. (omega arith, x) | suc m ↦ λ h. absurd (omega arith) ];
         amiss = λ h. true≢false (sym h.1 ∙ y);
       }
   weights_told (suc (suc k)) x y e = absurd (omega arith)
@@ -223,7 +223,7 @@ first-told k (r ∷ []) e = split (is_run r) refl
         let z : 2 ≡ suc k = rw (x, misread_records) at e in
         record {
           asked = omega arith;
-          before = λ j. elim j [ zero ↦ λ h. (omega arith, x) | suc m ↦ λ h. absurd (omega arith) ];
+          before = λ j. elim j as (λ m. m < k → Fine (r ∷ []) m) [ zero ↦ λ h. (omega arith, x) | suc m ↦ λ h. absurd (omega arith) ];
           amiss = λ h. omega (arith, h.0);
         }
     split false x = head-told r [] k x (rw (x, misread_records) at e)

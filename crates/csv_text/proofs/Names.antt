@@ -3,7 +3,7 @@
 use mathlib.Core.Path.{◌≡◌, refl, ap, ap₂, ◌∙◌}
 use mathlib.Core.Bool.{Bool, true, false}
 use mathlib.Core.List.{List, [], ◌∷◌, map}
-use Prim.Native.Nat.{ℕ, zero, suc, ◌+◌, ◌-◌, ◌*◌, ◌/◌, ◌%◌, ◌^◌, ◌<◌, ◌≤◌}
+use Prim.Native.Nat.{ℕ, zero, suc, ◌+◌, ◌*◌, ◌/◌, ◌%◌, ◌^◌, ◌<◌, ◌≤◌}
 use native.Mathlib.Nat.{pow-suc, one-le-pow, zero-lt-suc}
 use native.Mathlib.Omega.{arith}
 use lib.Dec.{eqb, ltb}
@@ -133,9 +133,12 @@ two_marks i a b fs = mark a (record { place = i; absent = false }) (mark b (reco
 two-marks : (i hi : ℕ) (a b : Bool) (fs : List Fault) → Placed (suc i) hi fs → repeats fs ≡ false
     → repeats (two_marks i a b fs) ≡ false
 unfolding mark repeats among same_sense
-two-marks i hi true true fs h e = or-neither _ _ (or-neither _ _ (and-false (eqb i i)) (not-among _ hi fs h)) (or-neither _ _ (not-among _ hi fs h) e)
-two-marks i hi true false fs h e = or-neither _ _ (not-among _ hi fs h) e
-two-marks i hi false true fs h e = or-neither _ _ (not-among _ hi fs h) e
+two-marks i hi true true fs h e =
+    let present : Fault = record { place = i; absent = false } in
+    let absent : Fault = record { place = i; absent = true } in
+    or-neither _ _ (or-neither _ _ (and-false (eqb i i)) (not-among present hi fs h)) (or-neither _ _ (not-among absent hi fs h) e)
+two-marks i hi true false fs h e = or-neither _ _ (not-among (record { place = i; absent = false }) hi fs h) e
+two-marks i hi false true fs h e = or-neither _ _ (not-among (record { place = i; absent = true }) hi fs h) e
 two-marks i hi false false fs h e = e
 
 -- No fault is named twice in the same sense.
