@@ -1,1 +1,2 @@
--- No file of its own: each function's proof stands in its own directory and rests on `captures`, Counting, and on the contracts that it cites.
+-- What the proofs of this program share.
+mod Unbroken

@@ -3,128 +3,148 @@
 //! file is read in pieces, so that it may be of any length.
 #![tactic(auto)]
 
-ghost use Rattle.cue_weight.specs.Reading.{GoesOn};
+ghost use Rattle.std.specs.Prelude.{◌≡◌, IfOk, IfSome};
+ghost use Rattle.captures.specs.Logs.{heard_all, capped, silent};
+ghost use Rattle.cue_weight.specs.Reading.{GoesOn, Hears};
 
 use captures::fractions::{add, weight};
 use captures::logs::{counted, hear_all, is_full};
 use captures::{Fraction, FractionAnswer, Log, SILENT, WeightAnswer};
+use std::env::FillError;
+use std::io::Read;
+use std::rt::{Env, Files};
+use std::{fs, io, str};
 
-/// What one read of a file comes to: the log after one more piece, the end of the file, or a read that failed.
+/// The longest name of a log, in bytes.
+const LONGEST_NAME: usize = 4096;
+
+/// What one read of a file comes to: the log after one more piece, or the end of the file.
 #[derive(Clone, Copy)]
 pub enum Piece {
     More(Log),
     End,
-    Failed,
 }
 
-/// What a file comes to: its log, or nothing, which standard error tells.
+/// What an argument comes to: its log, a file that cannot be had, which standard error tells, or no argument.
 #[derive(Clone, Copy)]
 enum Heard {
     Whole(Log),
     Unread,
+    Past,
 }
 
 /// The line of a refusal.
-fn refused(n: u8) {
-    io::write_all(1, b"refused ");
-    io::print_decimal(1, n as u64);
-    io::write_all(1, b"\n");
+fn refused(rt: &impl Print, n: u8) -> io::Result<()> {
+    println!(rt; "refused {n}")
 }
 
 /// The line of a fraction and its weight.
-fn tell(x: Fraction) {
+fn tell(rt: &impl Print, x: Fraction) -> io::Result<()> {
+    let discarded = x.discarded;
+    let judged = x.judged;
     match weight(x) {
-        WeightAnswer::Weight(w) => {
-            io::print_decimal(1, x.discarded);
-            io::write_all(1, b" ");
-            io::print_decimal(1, x.judged);
-            io::write_all(1, b" ");
-            io::print_decimal(1, w as u64);
-            io::write_all(1, b"\n");
-        }
-        WeightAnswer::Refused(n) => refused(n),
+        WeightAnswer::Weight(w) => println!(rt; "{discarded} {judged} {w}"),
+        WeightAnswer::Refused(n) => refused(rt, n),
     }
 }
 
 /// Reads one piece.
-fn read_piece(fd: i32, log: Log) -> Piece
-    ensures { GoesOn log result }
+fn read_piece<F: Read>(file: &mut F, log: Log) -> io::Result<Piece>
+    ensures grows { IfOk result (λ piece. GoesOn log piece) }
+    ensures bytes { IfOk result (λ piece. Hears (F.remaining file.old) (F.remaining file.new) log piece) }
 {
-    let mut buf = io::large_buffer();
-    let got = libc::read(fd, &mut buf);
-    if got < 0 {
-        return Piece::Failed;
-    }
-    let n = io::count(got, &buf);
+    let mut buf = [0u8; 65536];
+    let n = file.read(&mut buf)?;
     if n == 0 {
-        return Piece::End;
+        return Ok(Piece::End);
     }
-    Piece::More(hear_all(log, &buf[..n]))
+    Ok(Piece::More(hear_all(log, &buf[..n])))
 }
 
-/// Reads a file to its end, or to where its log is too long whatever follows; so it ends even where the file does not. A read that fails is told
-/// on standard error.
-fn read_log(fd: i32, path: &[u8]) -> Heard {
+/// Reads a file to its end, or to where its log is too long whatever follows; so it ends even where the file does not.
+fn read_log<F: Read>(file: &mut F) -> io::Result<Log>
+    ensures bytes { IfOk result (λ log. IfSome (F.remaining file.old) (λ bs. log ≡ capped (heard_all silent bs))) }
+{
     let mut log = SILENT;
     while !is_full(log) {
-        match read_piece(fd, log) {
+        match read_piece(file, log)? {
             Piece::More(l) => {
                 log = l;
             }
-            Piece::End => {
-                return Heard::Whole(log);
-            }
-            Piece::Failed => {
-                os::fail(path);
-                return Heard::Unread;
-            }
+            Piece::End => break,
         }
     }
-    Heard::Whole(log)
+    Ok(log)
 }
 
-/// The log in the file that argument i names. A file that cannot be opened is told on standard error.
-fn log_in(i: usize) -> Heard {
-    let mut path = io::buffer();
-    let n = os::arg(i, &mut path);
-    if os::errno() != 0 {
-        os::fail(b"the name of a log");
-        return Heard::Unread;
+/// The log in the file of this name.
+fn log_of(files: &impl Files, name: &str) -> io::Result<Log> {
+    let mut file = fs::open(files, name)?;
+    read_log(&mut file)
+}
+
+/// The system's words for an error, without its number.
+fn in_words(text: &str) -> &str {
+    match text.split_once(" (os error ") {
+        Some((words, _)) => words,
+        None => text,
     }
-    let fd = os::open_read(&path[..n]);
-    if fd < 0 {
-        os::fail(&path[..n]);
-        return Heard::Unread;
+}
+
+/// The line of a log that cannot be had, on standard error: its name, and why.
+fn lacks(rt: &(impl Eprint + Alloc), name: &str, why: &io::Error) -> io::Result<()> {
+    let text = format!(in rt.alloc(); "{why}")?;
+    let words = in_words(text.as_str());
+    eprintln!(rt; "{name}: {words}")
+}
+
+/// The log in the file of this name, or the line that says why it cannot be had.
+fn heard_in(rt: &(impl Files + Eprint + Alloc), name: &str) -> io::Result<Heard> {
+    match log_of(rt, name) {
+        Ok(log) => Ok(Heard::Whole(log)),
+        Err(why) => {
+            lacks(rt, name, &why)?;
+            Ok(Heard::Unread)
+        }
     }
-    let heard = read_log(fd, &path[..n]);
-    libc::close(fd);
-    heard
+}
+
+/// The log in the file that argument i names. A name that is too long or no text is told on standard error as well.
+fn log_in(rt: &(impl Env + Files + Eprint + Alloc), i: usize) -> io::Result<Heard> {
+    let mut name = [0u8; LONGEST_NAME];
+    match rt.arg(i, &mut name) {
+        Ok(n) => match str::from_utf8(&name[..n]) {
+            Ok(text) => heard_in(rt, text),
+            Err(_) => {
+                eprintln!(rt; "the name of a log: not in UTF-8")?;
+                Ok(Heard::Unread)
+            }
+        },
+        Err(FillError::TooLong) => {
+            eprintln!(rt; "the name of a log: File name too long")?;
+            Ok(Heard::Unread)
+        }
+        Err(FillError::NotPresent) => Ok(Heard::Past),
+    }
 }
 
 /// Adds the logs one by one, up to the first that cannot be read, is refused or makes the sum so.
-fn main() {
-    let n = os::arg_count();
+fn main(rt: HostRuntime) -> io::Result<()> {
     let mut sum = Fraction {
         discarded: 0,
         judged: 0,
     };
-    let mut i: usize = 1;
-    while i < n {
-        match log_in(i) {
+    for i in 1..usize::MAX {
+        match log_in(&rt, i)? {
             Heard::Whole(l) => match add(sum, counted(l)) {
                 FractionAnswer::Counted(s) => {
                     sum = s;
                 }
-                FractionAnswer::Refused(k) => {
-                    refused(k);
-                    return;
-                }
+                FractionAnswer::Refused(k) => return refused(&rt, k),
             },
-            Heard::Unread => {
-                return;
-            }
+            Heard::Unread => return Ok(()),
+            Heard::Past => break,
         }
-        i += 1;
     }
-    tell(sum);
+    tell(&rt, sum)
 }
