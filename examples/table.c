@@ -3,7 +3,7 @@
  *   cc -std=c11 -Wall -Wextra -I../include table.c ../target/staticlib/libcuerisk.a -o table
  *   ./table ../samples/show.sheet
  *
- * `rt staticlib cuerisk` makes the library. */
+ * `../build.sh cuerisk` makes the library. */
 #include <inttypes.h>
 #include <stdio.h>
 #include "cue_risk.h"

@@ -3,7 +3,7 @@
 //   rustc --edition 2021 table.rs -L ../target/staticlib -l static=cuerisk -o table
 //   ./table ../samples/show.sheet
 //
-// `rt staticlib cuerisk` makes the library. The declarations repeat those of ../include/cue_risk.h.
+// `../build.sh cuerisk` makes the library. The declarations repeat those of ../include/cue_risk.h.
 use std::io::Write;
 
 #[repr(C)]

@@ -5,7 +5,7 @@
  *   ./tree ../samples/show.sheet 12 8 > finale.svg
  *   ./tree --text ../samples/show.sheet 12 8
  *
- * `rt staticlib cuerisk` makes the library. After the sheet come the cue's number, as the report prints it, and the
+ * `../build.sh cuerisk` makes the library. After the sheet come the cue's number, as the report prints it, and the
  * most refinements, 0 to 255. The allowance is the sheet's own. */
 #include <inttypes.h>
 #include <stdarg.h>

@@ -7,7 +7,7 @@
 set -e
 here=$(realpath "$(dirname "$0")")
 if [ -z "$CUE_RISK_LIB" ]; then
-    (cd "$here/.." && rt staticlib cuerisk)
+    "$here/../build.sh" cuerisk
 fi
 if [ "$1" = beside ]; then
     made=$here/bench/target/beside

@@ -3,7 +3,7 @@
 # prototype with the names of its parameters, the words of the refusals, and what each call answers. Usage: tests/run_header.sh.
 set -eo pipefail
 cd "$(dirname "$0")/.."
-rt staticlib cuerisk
+./build.sh cuerisk
 archive=target/staticlib/libcuerisk.a
 built=target/header
 strict="-Wall -Wextra -Werror -pedantic -Iinclude"

@@ -4,6 +4,6 @@
 # with --trace the last case of each family too, each step before it is made, should a call never return.
 set -e
 cd "$(dirname "$0")/.."
-rt staticlib cuerisk
+./build.sh cuerisk
 mkdir -p target/outside
 cargo run --quiet --release --offline --manifest-path tests/outside/Cargo.toml -- --folder target/outside "$@"

@@ -8,7 +8,7 @@
 # cue_weight, built first; an input that fails is left in target/failed.sheet or target/failed.input, logs in target/failed.logs.
 set -e
 cd "$(dirname "$0")/.."
-rt check cue_risk cue_import cue_export cue_weight
+./build.sh cue_risk cue_import cue_export cue_weight
 programs=target/bin
 reference="--quiet --release --offline --manifest-path tests/reference/Cargo.toml"
 cargo build $reference --bins

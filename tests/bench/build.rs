@@ -1,4 +1,4 @@
-//! Links the library that `rt staticlib cuerisk` writes; CUE_RISK_LIB names another folder that holds libcuerisk.a.
+//! Links the library that `./build.sh cuerisk` writes; CUE_RISK_LIB names another folder that holds libcuerisk.a.
 //! If the folder holds a libother.a, another build with its symbols renamed, this is linked too.
 
 use std::{env, path::PathBuf};

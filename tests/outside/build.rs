@@ -1,4 +1,4 @@
-//! Links the static library that `rt staticlib cuerisk` writes; CUE_RISK_LIB names another folder that has one.
+//! Links the static library that `./build.sh cuerisk` writes; CUE_RISK_LIB names another folder that has one.
 
 use std::{env, path::PathBuf};
 
@@ -7,7 +7,7 @@ fn main() {
     let folder = env::var_os("CUE_RISK_LIB").map_or_else(|| "../../target/staticlib".into(), PathBuf::from);
     let library = folder.join("libcuerisk.a");
     if !library.exists() {
-        println!("cargo:warning=no {}: `rt staticlib cuerisk` writes it", library.display());
+        println!("cargo:warning=no {}: `./build.sh cuerisk` writes it", library.display());
     }
     println!("cargo:rustc-link-search=native={}", folder.display());
     println!("cargo:rustc-link-lib=static=cuerisk");
