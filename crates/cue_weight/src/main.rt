@@ -25,7 +25,7 @@ pub enum Piece {
     End,
 }
 
-/// What an argument comes to: its log, a file that cannot be had, which standard error tells, or no argument.
+/// What an argument comes to: its log, a file that cannot be had, which standard error tells; or there is no such argument.
 #[derive(Clone, Copy)]
 enum Heard {
     Whole(Log),
@@ -109,14 +109,15 @@ fn heard_in(rt: &(impl Files + Eprint + Alloc), name: &str) -> io::Result<Heard>
     }
 }
 
-/// The log in the file that argument i names. A name that is too long or no text is told on standard error as well.
+/// The log in the file that argument i names. A name that is too long, or not in UTF-8, is told on standard error as well.
 fn log_in(rt: &(impl Env + Files + Eprint + Alloc), i: usize) -> io::Result<Heard> {
     let mut name = [0u8; LONGEST_NAME];
     match rt.arg(i, &mut name) {
         Ok(n) => match str::from_utf8(&name[..n]) {
             Ok(text) => heard_in(rt, text),
             Err(_) => {
-                eprintln!(rt; "the name of a log: not in UTF-8")?;
+                let shown = String::from_utf8_lossy(rt.alloc(), &name[..n])?;
+                eprintln!(rt; "{shown}: not in UTF-8")?;
                 Ok(Heard::Unread)
             }
         },
