@@ -4,8 +4,7 @@ use mathlib.Core.Path.{◌∙◌}
 use Prim.Native.Nat.{◌+◌}
 use native.Mathlib.Omega.{arith}
 use lib.ListN.{length-set}
-use Rattle.decimal.proofs.Finding.{Found, found_none, found_room, found_next, found_all}
-use borrow.Author.Rules.{rules}
+use Rattle.decimal.proofs.Finding.{found_none, found_room, found_next, found_all}
 use Rattle.decimal.proofs.digits_of.Goals as goal
 
 pub loop-rest-init : goal.loop-rest-init
@@ -22,7 +21,7 @@ loop-rest-preserved c = found_next c.loop-rest.invariant c.loop-rest-test.true
 
 pub returns : goal.returns
 returns c = let l = c.loop-rest in record {
-      result_value = found_all l.invariant c.loop-rest-test.false;
-      from_bound = l.invariant.inside;
-      bytes_len = length-set l.bytes l.from (48 + l.rest) ∙ l.invariant.long;
-    }
+  result_value = found_all l.invariant c.loop-rest-test.false;
+  from_bound = l.invariant.inside;
+  bytes_len = length-set l.bytes l.from (48 + l.rest) ∙ l.invariant.long;
+}

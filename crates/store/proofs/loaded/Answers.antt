@@ -1,9 +1,6 @@
 -- `loaded` meets its contract. The loop's invariant: the records so far are those of the tree.
 -- Rests on Loading.antt and the contracts of `record_at` and `used_in`.
-use Prim.Native.Nat.{◌-◌}
-use borrow.Author.Rules.{rules}
-use Rattle.records.specs.Records.{tree_records}
-use Rattle.store.proofs.Loading.{Loading, begun, turn, done}
+use Rattle.store.proofs.Loading.{begun, turn, done}
 use Rattle.store.proofs.loaded.Goals as goal
 
 pub loop-i-init : goal.loop-i-init

@@ -1,6 +1,5 @@
 -- `put_record` meets its contract: the stores, one for each field, are those of Stores.antt, and where the tree is lent to `all_words` it is known to have
 -- all its words.
-use borrow.Author.Rules.{rules}
 use Rattle.store.proofs.Stores.{stores, written}
 use Rattle.store.proofs.put_record.Goals as goal
 

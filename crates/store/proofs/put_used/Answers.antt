@@ -1,6 +1,5 @@
 -- `put_used` meets its contract. Where the tree is lent to `all_words` it is known to have all its words.
 -- Rests on Lent.antt.
-use borrow.Author.Rules.{rules}
 use Rattle.store.proofs.Lent.{counted}
 use Rattle.store.proofs.put_used.Goals as goal
 

@@ -1,9 +1,8 @@
 -- `same-nodes` meets its contract. The loop's invariant: what was unlike is 0 exactly if the words so far are equal.
 -- Rests on Equal.antt.
 use Prim.Native.Nat.{◌-◌}
-use borrow.Author.Rules.{rules}
 use Rattle.store.specs.Lent.{count_word}
-use Rattle.store.proofs.Equal.{Compared, start, turn, answer}
+use Rattle.store.proofs.Equal.{Compared}
 use Rattle.store.proofs.same_nodes.Given as goal
 
 abbrev pub invariant-loop-i : goal.invariant-loop-i

@@ -13,7 +13,7 @@ use Rattle.rules.specs.Rounding.{S, Dir}
 use Rattle.rules.specs.Table.{bit}
 use Rattle.rules.specs.Leaf.{step, chance_from}
 use Rattle.chances.specs.Directions.{dir_of}
-use Rattle.chances.proofs.Lowest.{left, one-fault, no-fault, all-faults}
+use Rattle.chances.proofs.Lowest.{one-fault, no-fault, all-faults}
 use Rattle.chances.proofs.Weights.{weight-le}
 use Rattle.chances.proofs.chance.chance.Invariants.{Left}
 use Rattle.chances.proofs.chance.chance.Goals as goal

@@ -1,20 +1,12 @@
 -- `chance` meets its contract. The loop's invariant: what is left to do is the chance with the words cut down to the faults of m.
 -- Rests on Lowest.antt, for one turn and for the end, and on Weights.antt.
-use mathlib.Core.Path.{◌≡◌, sym, ap, ◌∙◌}
-use mathlib.Core.Bool.{Bool}
+use mathlib.Core.Path.{◌≡◌}
 use mathlib.Core.List.{List}
-use Prim.Native.Nat.{ℕ, ◌-◌, ◌^◌, ◌≤◌, ◌<◌}
-use native.Mathlib.Omega.{arith}
-use borrow.Author.Rules.{rules}
-use lib.ListN.{length, get_or}
-use lib.Bits.{bit_and, bit_or, or_lt, and_le_l, and_le_r}
-use lib.Count.{count_trailing_zeros, trailing_le, trailing_of_zero}
+use Prim.Native.Nat.{ℕ, ◌^◌, ◌≤◌, ◌<◌}
 use Rattle.rules.specs.Rounding.{S, Dir}
-use Rattle.rules.specs.Table.{bit}
-use Rattle.rules.specs.Leaf.{step, chance_from}
+use Rattle.rules.specs.Leaf.{chance_from}
 use Rattle.chances.specs.Directions.{dir_of}
-use Rattle.chances.proofs.Lowest.{left, one-fault, no-fault, all-faults}
-use Rattle.chances.proofs.Weights.{weight-le}
+use Rattle.chances.proofs.Lowest.{left}
 use Rattle.chances.proofs.chance.chance.Given as goal
 
 -- The faults of m are left to do, on top of c.

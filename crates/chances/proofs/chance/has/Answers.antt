@@ -2,7 +2,6 @@
 -- Rests on the laws of bits (`rules`, Bits).
 use mathlib.Core.Path.{ap, sym, ◌∙◌}
 use Prim.Native.Nat.{ℕ, ◌/◌, ◌^◌}
-use borrow.Author.Rules.{rules}
 use lib.Bits.{and_mask}
 use lib.Dec.{eqb}
 use Rattle.rules.proofs.Bits.{bit-shift}

@@ -2,7 +2,6 @@
 -- Rests on the contract of `over`.
 use Prim.Native.Nat.{ℕ, ◌+◌, ◌-◌, ◌*◌, ◌≤◌}
 use native.Mathlib.Nat.{mul-le-mul_left}
-use borrow.Author.Rules.{rules}
 use native.Mathlib.Omega.{arith}
 use Rattle.rules.specs.Rounding.{S}
 use Rattle.chances.proofs.rounding.mean.Goals as goal

@@ -1,6 +1,5 @@
 -- `over` meets its contract, by the direction: what is divided, up to S * S and S - 1 more, fits.
 -- Rests on the definition of `over` alone.
-use borrow.Author.Rules.{rules}
 use native.Mathlib.Omega.{arith}
 use Rattle.chances.proofs.rounding.over.Goals as goal
 

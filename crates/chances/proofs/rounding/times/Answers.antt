@@ -1,6 +1,5 @@
 -- `times` meets its contract: the product of two numbers up to S fits, and `over` takes it.
 -- Rests on the contract of `over`.
-use borrow.Author.Rules.{rules}
 use native.Mathlib.Nat.{mul-le-mul}
 use native.Mathlib.Omega.{arith}
 use Rattle.chances.proofs.rounding.times.Goals as goal

@@ -1,7 +1,6 @@
 -- `limit_number` meets its contract: each answer is the number of the first refusal that applies.
 -- Rests on Numbers.antt and the contracts of the two tests.
 use mathlib.Core.Path.{sym}
-use borrow.Author.Rules.{rules}
 use Rattle.rules.specs.Refusals.{limit_refusals}
 use Rattle.rules.proofs.First.{first-none}
 use Rattle.checks.proofs.Numbers.{refused, let_through}

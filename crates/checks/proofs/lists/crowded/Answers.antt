@@ -1,11 +1,9 @@
 -- `crowded` meets its contract. The loop's invariant: the counts from i on answer for all.
 -- Rests on Walk.antt.
-use mathlib.Core.Path.{◌≡◌, refl}
-use Prim.Native.Nat.{◌-◌, ◌≤◌}
+use mathlib.Core.Path.{refl}
 use native.Mathlib.Omega.{arith}
-use borrow.Author.Rules.{rules}
 use borrow.Author.Tests.{lt-ltb, le-ltb}
-use lib.ListN.{length, get_or, drop}
+use lib.ListN.{get_or}
 use Rattle.rules.specs.Refusals.{crowded, some_above}
 use Rattle.checks.proofs.Walk.{found, passed, forward, ended}
 use Rattle.checks.proofs.lists.crowded.Goals as goal

@@ -1,13 +1,9 @@
 -- `crowded` meets its contract. The loop's invariant: the counts from i on answer for all.
 -- Rests on Walk.antt.
-use mathlib.Core.Path.{◌≡◌, refl}
+use mathlib.Core.Path.{◌≡◌}
 use Prim.Native.Nat.{◌-◌, ◌≤◌}
-use native.Mathlib.Omega.{arith}
-use borrow.Author.Rules.{rules}
-use borrow.Author.Tests.{lt-ltb, le-ltb}
-use lib.ListN.{length, get_or, drop}
-use Rattle.rules.specs.Refusals.{crowded, some_above}
-use Rattle.checks.proofs.Walk.{found, passed, forward, ended}
+use lib.ListN.{length, drop}
+use Rattle.rules.specs.Refusals.{crowded}
 use Rattle.checks.proofs.lists.crowded.Given as goal
 
 abbrev pub invariant-loop-i : goal.invariant-loop-i

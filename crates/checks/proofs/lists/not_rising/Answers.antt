@@ -2,11 +2,8 @@
 -- Rests on Walk.antt.
 use mathlib.Core.Path.{◌≡◌, refl, ap}
 use mathlib.Core.Bool.{Bool, true, false, not, ◌&&◌}
-use Prim.Native.Nat.{◌-◌, ◌≤◌}
 use native.Mathlib.Omega.{arith}
-use borrow.Author.Rules.{rules}
 use borrow.Author.Tests.{lt-ltb, le-ltb}
-use lib.ListN.{length, drop}
 use Rattle.rules.specs.Refusals.{rising, not_rising}
 use Rattle.checks.proofs.Walk.{forward, ended}
 use Rattle.checks.proofs.lists.not_rising.Goals as goal
@@ -28,10 +25,10 @@ returns-then-number-last c = let l = c.loop-i in stops _ (le-ltb _ _ c.if-number
 pub loop-i-preserved : goal.loop-i-preserved
 unfolding rising
 loop-i-preserved c = let l = c.loop-i in (
-      omega arith,
-      goes_on (lt-ltb _ _ c.if-number-last.false)
-          (forward (rising l.last) c.args.numbers.now l.i (omega arith) l.invariant.1),
-    )
+  omega arith,
+  goes_on (lt-ltb _ _ c.if-number-last.false)
+      (forward (rising l.last) c.args.numbers.now l.i (omega arith) l.invariant.1),
+)
 
 pub returns : goal.returns
 unfolding not_rising rising

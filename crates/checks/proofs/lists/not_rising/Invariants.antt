@@ -1,14 +1,9 @@
 -- `not_rising` meets its contract. The loop's invariant: the numbers from i on, after the last one, answer for all.
 -- Rests on Walk.antt.
-use mathlib.Core.Path.{◌≡◌, refl, ap}
-use mathlib.Core.Bool.{Bool, true, false, not, ◌&&◌}
+use mathlib.Core.Path.{◌≡◌}
 use Prim.Native.Nat.{◌-◌, ◌≤◌}
-use native.Mathlib.Omega.{arith}
-use borrow.Author.Rules.{rules}
-use borrow.Author.Tests.{lt-ltb, le-ltb}
 use lib.ListN.{length, drop}
-use Rattle.rules.specs.Refusals.{rising, not_rising}
-use Rattle.checks.proofs.Walk.{forward, ended}
+use Rattle.rules.specs.Refusals.{rising}
 use Rattle.checks.proofs.lists.not_rising.Given as goal
 
 abbrev pub invariant-loop-i : goal.invariant-loop-i

@@ -1,11 +1,8 @@
 -- `overweight` meets its contract. The loop's invariant: the weights from i on answer for all.
 -- Rests on Walk.antt.
-use mathlib.Core.Path.{◌≡◌, refl}
-use Prim.Native.Nat.{◌-◌, ◌≤◌}
+use mathlib.Core.Path.{refl}
 use native.Mathlib.Omega.{arith}
-use borrow.Author.Rules.{rules}
 use borrow.Author.Tests.{lt-ltb, le-ltb}
-use lib.ListN.{length, drop}
 use Rattle.rules.specs.Refusals.{overweight, some_above}
 use Rattle.checks.proofs.Walk.{found, passed, forward, ended}
 use Rattle.checks.proofs.lists.overweight.Goals as goal
@@ -20,10 +17,10 @@ returns-then-weights-i-gt-S c = let l = c.loop-i in found _ (lt-ltb _ _ c.if-wei
 pub loop-i-preserved : goal.loop-i-preserved
 unfolding overweight some_above
 loop-i-preserved c = let l = c.loop-i in (
-      omega arith,
-      passed (le-ltb _ _ c.if-weights-i-gt-S.false)
-          (forward overweight c.args.weights.now l.i (omega arith) l.invariant.1),
-    )
+  omega arith,
+  passed (le-ltb _ _ c.if-weights-i-gt-S.false)
+      (forward overweight c.args.weights.now l.i (omega arith) l.invariant.1),
+)
 
 pub returns : goal.returns
 unfolding overweight some_above

@@ -1,13 +1,9 @@
 -- `overweight` meets its contract. The loop's invariant: the weights from i on answer for all.
 -- Rests on Walk.antt.
-use mathlib.Core.Path.{◌≡◌, refl}
+use mathlib.Core.Path.{◌≡◌}
 use Prim.Native.Nat.{◌-◌, ◌≤◌}
-use native.Mathlib.Omega.{arith}
-use borrow.Author.Rules.{rules}
-use borrow.Author.Tests.{lt-ltb, le-ltb}
 use lib.ListN.{length, drop}
-use Rattle.rules.specs.Refusals.{overweight, some_above}
-use Rattle.checks.proofs.Walk.{found, passed, forward, ended}
+use Rattle.rules.specs.Refusals.{overweight}
 use Rattle.checks.proofs.lists.overweight.Given as goal
 
 abbrev pub invariant-loop-i : goal.invariant-loop-i

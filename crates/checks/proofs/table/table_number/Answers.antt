@@ -1,7 +1,6 @@
 -- `table_number` meets its contract: each answer is the number of the first refusal that applies.
 -- Rests on Numbers.antt and the contracts of the tests.
 use mathlib.Core.Path.{sym, ◌∙◌}
-use borrow.Author.Rules.{rules}
 use borrow.Author.Tests.{ltb-false}
 use lib.Dec.{eqb}
 use lib.ListN.{length}

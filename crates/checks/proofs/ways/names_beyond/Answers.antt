@@ -2,16 +2,14 @@
 -- Rests on Walk.antt and the contracts of `row_count`, `word_at` and `beyond`.
 use mathlib.Core.Path.{◌≡◌, refl, sym, ap, ◌∙◌}
 use mathlib.Core.Bool.{Bool}
-use Prim.Native.Nat.{ℕ, ◌-◌, ◌^◌, ◌≤◌}
+use Prim.Native.Nat.{ℕ, ◌^◌}
 use native.Mathlib.Omega.{arith}
-use borrow.Author.Rules.{rules}
 use lib.Dec.{leb}
 use lib.ListN.{get_or}
-use Rattle.rules.specs.Table.{rows}
 use Rattle.rules.specs.Leaf.{any}
 use Rattle.rules.specs.Refusals.{names_beyond}
 use Rattle.rules.proofs.Booleans.{or-first, or-second, or-neither}
-use Rattle.checks.proofs.Walk.{found, passed, rows_from, forward_rows, ended_rows}
+use Rattle.checks.proofs.Walk.{found, passed, forward_rows, ended_rows}
 use Rattle.checks.proofs.ways.names_beyond.Goals as goal
 
 -- The code has x for a word w of a row, and t for the test on it.
@@ -35,11 +33,11 @@ returns-then-beyond-2 c = let l = c.loop-i in let a = c.args in found _ (or-seco
 pub loop-i-preserved : goal.loop-i-preserved
 unfolding names_beyond any
 loop-i-preserved c = let l = c.loop-i in let a = c.args in (
-      omega arith,
-      passed (or-neither _ _ (tested a.n c.word_at.ensures c.beyond.ensures c.if-beyond.false)
-          (tested a.n c.word_at-in-loop-i.ensures c.beyond-in-loop-i.ensures c.if-beyond-2.false))
-          (forward_rows (names_beyond a.n) a.present.now a.absent.now l.i (omega arith) l.invariant.1),
-    )
+  omega arith,
+  passed (or-neither _ _ (tested a.n c.word_at.ensures c.beyond.ensures c.if-beyond.false)
+      (tested a.n c.word_at-in-loop-i.ensures c.beyond-in-loop-i.ensures c.if-beyond-2.false))
+      (forward_rows (names_beyond a.n) a.present.now a.absent.now l.i (omega arith) l.invariant.1),
+)
 
 pub returns : goal.returns
 unfolding names_beyond any

@@ -2,16 +2,14 @@
 -- Rests on Walk.antt and the contracts of `row_count` and `word_at`.
 use mathlib.Core.Path.{◌≡◌, refl, sym, ap, ap₂, ◌∙◌}
 use mathlib.Core.Bool.{true, false, not}
-use Prim.Native.Nat.{ℕ, ◌-◌, ◌≤◌}
+use Prim.Native.Nat.{ℕ}
 use native.Mathlib.Omega.{arith}
-use borrow.Author.Rules.{rules}
 use borrow.Author.Tests.{eq-eqb, ne_eqb}
 use lib.Bits.{bit_and}
 use lib.Dec.{eqb}
-use Rattle.rules.specs.Table.{rows}
 use Rattle.rules.specs.Leaf.{any}
 use Rattle.rules.specs.Refusals.{names_both}
-use Rattle.checks.proofs.Walk.{found, passed, rows_from, forward_rows, ended_rows}
+use Rattle.checks.proofs.Walk.{found, passed, forward_rows, ended_rows}
 use Rattle.checks.proofs.ways.names_both.Goals as goal
 
 -- The code has x and y for the words p and q of a row.
@@ -33,10 +31,10 @@ returns-then-word_at-ne0 c = let l = c.loop-i in found _ (common c.word_at.ensur
 pub loop-i-preserved : goal.loop-i-preserved
 unfolding names_both any
 loop-i-preserved c = let l = c.loop-i in (
-      omega arith,
-      passed (apart c.word_at.ensures c.word_at-in-loop-i.ensures c.if-word_at-ne0.false)
-          (forward_rows names_both c.args.present.now c.args.absent.now l.i (omega arith) l.invariant.1),
-    )
+  omega arith,
+  passed (apart c.word_at.ensures c.word_at-in-loop-i.ensures c.if-word_at-ne0.false)
+      (forward_rows names_both c.args.present.now c.args.absent.now l.i (omega arith) l.invariant.1),
+)
 
 pub returns : goal.returns
 unfolding names_both any

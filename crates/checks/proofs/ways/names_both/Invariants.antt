@@ -1,17 +1,10 @@
 -- `names_both` meets its contract. The loop's invariant: the rows from i on answer for all.
 -- Rests on Walk.antt and the contracts of `row_count` and `word_at`.
-use mathlib.Core.Path.{◌≡◌, refl, sym, ap, ap₂, ◌∙◌}
-use mathlib.Core.Bool.{true, false, not}
-use Prim.Native.Nat.{ℕ, ◌-◌, ◌≤◌}
-use native.Mathlib.Omega.{arith}
-use borrow.Author.Rules.{rules}
-use borrow.Author.Tests.{eq-eqb, ne_eqb}
-use lib.Bits.{bit_and}
-use lib.Dec.{eqb}
+use mathlib.Core.Path.{◌≡◌}
+use Prim.Native.Nat.{◌-◌, ◌≤◌}
 use Rattle.rules.specs.Table.{rows}
-use Rattle.rules.specs.Leaf.{any}
 use Rattle.rules.specs.Refusals.{names_both}
-use Rattle.checks.proofs.Walk.{found, passed, rows_from, forward_rows, ended_rows}
+use Rattle.checks.proofs.Walk.{rows_from}
 use Rattle.checks.proofs.ways.names_both.Given as goal
 
 abbrev pub invariant-loop-i : goal.invariant-loop-i

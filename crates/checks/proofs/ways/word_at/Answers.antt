@@ -1,7 +1,6 @@
 -- `word_at` meets its contract: beyond the end a list gives 0.
 -- Rests on the kit's laws of lists.
 use mathlib.Core.Path.{sym}
-use borrow.Author.Rules.{rules}
 use lib.ListN.{get_or-eq_default}
 use Rattle.checks.proofs.ways.word_at.Goals as goal
 
