@@ -1,13 +1,9 @@
 -- `find` meets its contract. The loop's invariant: from the record that was reached, the bytes that are left lead on to the answer.
 -- Rests on Steps.antt and the contract of `record_at`.
-use mathlib.Core.Path.{ap}
 use Prim.Native.Nat.{◌-◌}
-use native.Mathlib.Omega.{arith}
-use borrow.Author.Rules.{rules}
 use lib.ListN.{length}
-use Rattle.records.specs.declared.Node.{Node}
 use Rattle.store.specs.Lent.{tree_of}
-use Rattle.find.proofs.Steps.{Walk, start, there, at_leaf, no_step, turn}
+use Rattle.find.proofs.Steps.{Walk}
 use Rattle.find.proofs.find.Given as goal
 
 abbrev pub invariant-loop-i : goal.invariant-loop-i

@@ -1,7 +1,6 @@
 -- `leaf_at` meets its contract: the length first, then the place, then the record's number.
 -- Rests on Numbers.antt and the contracts of `find`, `record_at`, `used_in` and `refusal`.
 use mathlib.Core.Path.{sym, ◌∙◌}
-use borrow.Author.Rules.{rules}
 use Rattle.find.proofs.Numbers.{spot-inside, too_long, nowhere, refused, refinable}
 use Rattle.find.proofs.leaf_at.Goals as goal
 

@@ -2,8 +2,6 @@
 -- Rests on Numbers.antt and the contracts of `is_live`, `ways_of` and `possible`.
 use mathlib.Core.Path.{sym, ◌∙◌}
 use mathlib.Core.List.{[]}
-use borrow.Author.Rules.{rules}
-use borrow.Author.Tests.{not-true, not-false}
 use Rattle.find.proofs.Numbers.{seventeen, eighteen, nineteen, twenty, nought}
 use Rattle.find.proofs.refusal.Goals as goal
 

@@ -3,7 +3,6 @@
 use mathlib.Core.Path.{◌≡◌}
 use mathlib.Core.Option.{some}
 use Prim.Native.Nat.{ℕ, ◌+◌, ◌<◌}
-use borrow.Author.Rules.{rules}
 use Rattle.rules.specs.declared.Kind.{Kind}
 use Rattle.records.specs.Records.{tree_records, kind_code, fault_code}
 use Rattle.records.specs.Growing.{changed, refined_record}

@@ -3,14 +3,13 @@
 use mathlib.Core.Path.{◌≡◌, sym, ◌∙◌, subst}
 use mathlib.Core.Bool.{false}
 use mathlib.Core.List.{List}
-use borrow.Author.Rules.{rules}
 use borrow.Author.Tests.{not-true, not-false}
 use Rattle.records.specs.Records.{record_in}
 use Rattle.records.specs.declared.Node.{Node}
 use Rattle.store.specs.Lent.{tree_of}
 use Rattle.store.proofs.SafeLaws.{safe-read}
 use Rattle.pick.specs.Steps.{View, view, stepped}
-use Rattle.pick.proofs.Searching.{Searching, steps_left, begins, inside, keeps, less}
+use Rattle.pick.proofs.Searching.{Searching, begins, inside, keeps, less}
 use Rattle.pick.proofs.next_leaf.Goals as goal
 
 -- The step at the records that were read is the one at the records of the tree.
@@ -29,9 +28,9 @@ record_at-p-requires c = (safe-read (((tree_of c.args.tree.now).nodes)) _ _ c.re
 
 pub onward-s-requires : goal.onward-s-requires
 onward-s-requires c = (
-      (safe-read (((tree_of c.args.tree.now).nodes)) _ _ c.requires.safe c.record_at-n.ensures).children_inside,
-      (safe-read (((tree_of c.args.tree.now).nodes)) _ _ c.requires.safe c.record_at-p.ensures).children_inside,
-    )
+  (safe-read (((tree_of c.args.tree.now).nodes)) _ _ c.requires.safe c.record_at-n.ensures).children_inside,
+  (safe-read (((tree_of c.args.tree.now).nodes)) _ _ c.requires.safe c.record_at-p.ensures).children_inside,
+)
 
 pub loop-s-smaller : goal.loop-s-smaller
 loop-s-smaller c = let l = c.loop-s in less (view l.s) l.invariant ((let it : c.loop-s.s.over ≡ false = not-true _ c.loop-s-test.true in it)) ((let it : view c.onward-s.result ≡ (let xs = ((tree_of c.args.tree.now).nodes) in

@@ -1,16 +1,8 @@
 -- `next_leaf` meets its contract. The loop: the search is on its way to the answer.
 -- Rests on Searching.antt and the contracts of `onward`, `found_by` and `store`'s `record_at`.
-use mathlib.Core.Path.{◌≡◌, sym, ◌∙◌, subst}
-use mathlib.Core.Bool.{false}
-use mathlib.Core.List.{List}
-use borrow.Author.Rules.{rules}
-use borrow.Author.Tests.{not-true, not-false}
-use Rattle.records.specs.Records.{record_in}
-use Rattle.records.specs.declared.Node.{Node}
 use Rattle.store.specs.Lent.{tree_of}
-use Rattle.store.proofs.SafeLaws.{safe-read}
-use Rattle.pick.specs.Steps.{View, view, stepped}
-use Rattle.pick.proofs.Searching.{Searching, steps_left, begins, inside, keeps, less}
+use Rattle.pick.specs.Steps.{view}
+use Rattle.pick.proofs.Searching.{Searching, steps_left}
 use Rattle.pick.proofs.next_leaf.Given as goal
 
 abbrev pub invariant-loop-s : goal.invariant-loop-s

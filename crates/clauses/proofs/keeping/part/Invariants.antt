@@ -1,13 +1,10 @@
 -- `part` meets its contract. The loop's invariant: the numbers kept, and those left whose ways belong to the part, are those of the whole part.
 -- Rests on Filter.antt, Loops.antt and the contracts of `taken`, `touches` and `with_number`.
-use mathlib.Core.Path.{refl, sym, ap, ◌∙◌}
-use mathlib.Core.Bool.{true, false, beq}
-use borrow.Author.Rules.{rules}
+use mathlib.Core.Bool.{beq}
 use lib.ListN.{length}
 use Rattle.rules.specs.Group.{touches}
 use Rattle.clauses.specs.Leaves.{ways_of}
-use Rattle.clauses.proofs.Filter.{Sifting, begun, turn, all-kept, ended, passing-part}
-use Rattle.clauses.proofs.Loops.{numbered, fewer, some-left, no_more}
+use Rattle.clauses.proofs.Filter.{Sifting}
 use Rattle.clauses.proofs.keeping.part.Given as goal
 
 abbrev pub invariant-loop-left : goal.invariant-loop-left

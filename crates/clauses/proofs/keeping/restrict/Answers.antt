@@ -3,11 +3,9 @@
 use mathlib.Core.Path.{refl, sym, ap, ◌∙◌}
 use mathlib.Core.Bool.{true, false, not}
 use borrow.Author.Rules.{rules}
-use lib.ListN.{length}
 use lib.Bits.{bit_or}
-use Rattle.rules.specs.Leaf.{contradicted, dropped}
-use Rattle.clauses.specs.Leaves.{ways_of}
-use Rattle.clauses.proofs.Filter.{Sifting, begun, turn, all-kept, ended, passing-remaining, fixed_more}
+use Rattle.rules.specs.Leaf.{dropped}
+use Rattle.clauses.proofs.Filter.{begun, turn, all-kept, ended, passing-remaining, fixed_more}
 use Rattle.clauses.proofs.Loops.{numbered, fewer, some-left, no_more}
 use Rattle.clauses.proofs.keeping.restrict.Goals as goal
 
@@ -16,9 +14,9 @@ loop-left-init c = begun _ _ _ _ _ (search rules)
 
 pub taken-t-requires : goal.taken-t-requires
 taken-t-requires c = record {
-      in_table = c.loop-left.invariant.within;
-      c_value = some-left c.none_left.ensures c.loop-left-test.true;
-    }
+  in_table = c.loop-left.invariant.within;
+  c_value = some-left c.none_left.ensures c.loop-left-test.true;
+}
 
 pub with_number-kept-requires : goal.with_number-kept-requires
 with_number-kept-requires c = let l = c.loop-left in

@@ -1,14 +1,10 @@
 -- `restrict` meets its contract. The loop's invariant: the numbers kept, and those left whose ways are not contradicted, are all that remain.
 -- Rests on Filter.antt, Loops.antt and the contracts of `taken`, `contradicted` and `with_number`.
-use mathlib.Core.Path.{refl, sym, ap, ◌∙◌}
-use mathlib.Core.Bool.{true, false, not}
-use borrow.Author.Rules.{rules}
+use mathlib.Core.Bool.{not}
 use lib.ListN.{length}
-use lib.Bits.{bit_or}
-use Rattle.rules.specs.Leaf.{contradicted, dropped}
+use Rattle.rules.specs.Leaf.{contradicted}
 use Rattle.clauses.specs.Leaves.{ways_of}
-use Rattle.clauses.proofs.Filter.{Sifting, begun, turn, all-kept, ended, passing-remaining, fixed_more}
-use Rattle.clauses.proofs.Loops.{numbered, fewer, some-left, no_more}
+use Rattle.clauses.proofs.Filter.{Sifting}
 use Rattle.clauses.proofs.keeping.restrict.Given as goal
 
 abbrev pub invariant-loop-left : goal.invariant-loop-left

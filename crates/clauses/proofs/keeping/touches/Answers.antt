@@ -3,7 +3,6 @@
 use mathlib.Core.Path.{ap}
 use mathlib.Core.Bool.{not}
 use Prim.Native.Nat.{ℕ}
-use borrow.Author.Rules.{rules}
 use lib.Bits.{bit_and}
 use lib.Dec.{eqb}
 use Rattle.clauses.proofs.keeping.touches.Goals as goal

@@ -3,7 +3,6 @@
 use mathlib.Core.Path.{◌≡◌, refl, ◌∙◌}
 use mathlib.Core.Bool.{Bool, true, false, ◌||◌}
 use lib.Dec.{eqb}
-use borrow.Author.Rules.{rules}
 use Rattle.clauses.proofs.Pairs.{in-none}
 use Rattle.clauses.proofs.sets.alone.Goals as goal
 

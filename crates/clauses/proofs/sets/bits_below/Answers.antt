@@ -4,7 +4,6 @@ use mathlib.Core.Path.{◌≡◌, ap}
 use Prim.Native.Nat.{ℕ, ◌-◌, ◌^◌}
 use native.Mathlib.Omega.{arith}
 use lib.Pow.{pow_pos}
-use borrow.Author.Rules.{rules}
 use Rattle.clauses.proofs.sets.bits_below.Goals as goal
 
 pub overflow_sub-result : goal.overflow_sub-result

@@ -5,7 +5,6 @@ use native.Mathlib.Nat.{one-mul}
 use native.Mathlib.Omega.{arith}
 use Prim.Native.Nat.{◌^◌}
 use lib.Pow.{shl_exact}
-use borrow.Author.Rules.{rules}
 use Rattle.clauses.proofs.sets.one_bit.Goals as goal
 
 pub returns : goal.returns

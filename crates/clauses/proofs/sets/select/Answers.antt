@@ -2,7 +2,6 @@
 -- Rests on Pairs.antt for the cut, and on Selected.antt for what is selected.
 use mathlib.Core.Path.{refl}
 use lib.ListN.{length}
-use borrow.Author.Rules.{rules}
 use Rattle.records.specs.Records.{in_words}
 use Rattle.clauses.proofs.Pairs.{cut_low, cut_high}
 use Rattle.clauses.proofs.Selected.{cut_selects}

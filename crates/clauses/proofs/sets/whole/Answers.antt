@@ -1,7 +1,6 @@
 -- `whole` meets its contract: two words of ones have every number of the table.
 -- Rests on Pairs.antt for the words, and on Selected.antt for what is selected.
 use mathlib.Core.Path.{◌∙◌}
-use borrow.Author.Rules.{rules}
 use Rattle.clauses.proofs.Pairs.{all_in}
 use Rattle.clauses.proofs.Selected.{all_selected}
 use Rattle.clauses.proofs.sets.whole.Goals as goal

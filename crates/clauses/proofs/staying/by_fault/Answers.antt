@@ -1,6 +1,5 @@
 -- `by_fault` meets its contract: the part that names the fault, the numbers without it, and their cover.
 -- Rests on Leaving.antt and the contracts of `part`, `minus` and `cover`.
-use borrow.Author.Rules.{rules}
 use Rattle.clauses.proofs.Leaving.{less-within, divides}
 use Rattle.clauses.proofs.staying.by_fault.Goals as goal
 

@@ -1,9 +1,7 @@
 -- `cover` meets its contract. The loop's invariant: each way is still left, or subsumes what was joined so far.
 -- Rests on Leaving.antt, Loops.antt and the contract of `taken`.
 use borrow.Author.Rules.{rules}
-use lib.ListN.{length}
-use Rattle.clauses.specs.Leaves.{ways_of}
-use Rattle.clauses.proofs.Leaving.{Covering, none_joined, one-joined, all-joined}
+use Rattle.clauses.proofs.Leaving.{none_joined, one-joined, all-joined}
 use Rattle.clauses.proofs.Loops.{fewer, some-left, no_more}
 use Rattle.clauses.proofs.staying.cover.Goals as goal
 
@@ -12,9 +10,9 @@ loop-left-init c = none_joined _ _ _ _ (search rules)
 
 pub taken-t-requires : goal.taken-t-requires
 taken-t-requires c = record {
-      in_table = c.loop-left.invariant.within;
-      c_value = some-left c.none_left.ensures c.loop-left-test.true;
-    }
+  in_table = c.loop-left.invariant.within;
+  c_value = some-left c.none_left.ensures c.loop-left-test.true;
+}
 
 pub loop-left-smaller : goal.loop-left-smaller
 loop-left-smaller c = fewer _ _ _ _ c.taken-t.ensures

@@ -1,10 +1,8 @@
 -- `cover` meets its contract. The loop's invariant: each way is still left, or subsumes what was joined so far.
 -- Rests on Leaving.antt, Loops.antt and the contract of `taken`.
-use borrow.Author.Rules.{rules}
 use lib.ListN.{length}
 use Rattle.clauses.specs.Leaves.{ways_of}
-use Rattle.clauses.proofs.Leaving.{Covering, none_joined, one-joined, all-joined}
-use Rattle.clauses.proofs.Loops.{fewer, some-left, no_more}
+use Rattle.clauses.proofs.Leaving.{Covering}
 use Rattle.clauses.proofs.staying.cover.Given as goal
 
 abbrev pub invariant-loop-left : goal.invariant-loop-left

@@ -1,11 +1,9 @@
 -- `outdone` meets its contract. The loop's invariant: none of the first j ways outdoes this one.
 -- Rests on Rows.antt and the contract of `outdoes`.
-use mathlib.Core.Path.{◌≡◌, refl, sym, ◌∙◌}
+use mathlib.Core.Path.{◌≡◌}
 use Prim.Native.Nat.{◌-◌, ◌≤◌}
-use native.Mathlib.Omega.{arith}
-use borrow.Author.Rules.{rules}
 use lib.ListN.{length}
-use Rattle.clauses.proofs.Rows.{NoneBelow, none_more, one_outdoes, none_outdoes}
+use Rattle.clauses.proofs.Rows.{NoneBelow}
 use Rattle.clauses.proofs.staying.outdone.Given as goal
 
 abbrev pub invariant-loop-j : goal.invariant-loop-j

@@ -1,10 +1,7 @@
 -- `staying` meets its contract. The loop's invariant: of the ways that did not name the fault, those are kept that no way so far subsumes.
 -- Rests on Leaving.antt, Loops.antt and the contracts of `restrict`, `taken`, `subsumes`, `subsumed` and `minus`.
 use mathlib.Core.Path.{sym, ◌∙◌}
-use borrow.Author.Rules.{rules}
-use lib.ListN.{length}
-use Rattle.clauses.specs.Leaves.{ways_of}
-use Rattle.clauses.proofs.Leaving.{Leaving, none_left_out, skips, leaves, none_left_over, left_out}
+use Rattle.clauses.proofs.Leaving.{none_left_out, skips, leaves, none_left_over, left_out}
 use Rattle.clauses.proofs.Loops.{fewer, some-left, no_more}
 use Rattle.clauses.proofs.staying.staying.Goals as goal
 
@@ -16,9 +13,9 @@ loop-all-init c = none_left_out _ _ _ _ c.requires.divided.others_within c.restr
 
 pub taken-t-requires : goal.taken-t-requires
 taken-t-requires c = record {
-      in_table = c.loop-all.invariant.left-within;
-      c_value = some-left c.none_left.ensures c.loop-all-test.true;
-    }
+  in_table = c.loop-all.invariant.left-within;
+  c_value = some-left c.none_left.ensures c.loop-all-test.true;
+}
 
 pub subsumed-requires : goal.subsumed-requires
 subsumed-requires c = c.loop-all.invariant.kept-within

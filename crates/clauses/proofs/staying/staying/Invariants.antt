@@ -1,11 +1,8 @@
 -- `staying` meets its contract. The loop's invariant: of the ways that did not name the fault, those are kept that no way so far subsumes.
 -- Rests on Leaving.antt, Loops.antt and the contracts of `restrict`, `taken`, `subsumes`, `subsumed` and `minus`.
-use mathlib.Core.Path.{sym, ◌∙◌}
-use borrow.Author.Rules.{rules}
 use lib.ListN.{length}
 use Rattle.clauses.specs.Leaves.{ways_of}
-use Rattle.clauses.proofs.Leaving.{Leaving, none_left_out, skips, leaves, none_left_over, left_out}
-use Rattle.clauses.proofs.Loops.{fewer, some-left, no_more}
+use Rattle.clauses.proofs.Leaving.{Leaving}
 use Rattle.clauses.proofs.staying.staying.Given as goal
 
 abbrev pub invariant-loop-all : goal.invariant-loop-all

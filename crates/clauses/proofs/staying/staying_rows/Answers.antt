@@ -2,13 +2,10 @@
 -- Rests on Filter.antt, Loops.antt, Rows.antt and the contracts of `whole`, `taken`, `outdone` and `with_number`.
 use mathlib.Core.Path.{refl, sym, ap, ◌∙◌}
 use mathlib.Core.Bool.{Bool, true, false, not}
-use borrow.Author.Rules.{rules}
-use lib.ListN.{length}
 use Rattle.rules.specs.declared.Way.{Way}
 use Rattle.rules.specs.Table.{rows}
 use Rattle.rules.specs.Leaf.{sift, redundant, minimal}
-use Rattle.clauses.specs.Leaves.{ways_of}
-use Rattle.clauses.proofs.Filter.{Sifting, begun, turn, ended}
+use Rattle.clauses.proofs.Filter.{begun, turn, ended}
 use Rattle.clauses.proofs.Loops.{numbered, fewer, some-left, no_more}
 use Rattle.clauses.proofs.Rows.{passing-sift}
 use Rattle.clauses.proofs.staying.staying_rows.Goals as goal
@@ -18,9 +15,9 @@ loop-left-init c = begun _ _ _ _ _ c.whole-all.ensures.1
 
 pub taken-t-requires : goal.taken-t-requires
 taken-t-requires c = record {
-      in_table = c.loop-left.invariant.within;
-      c_value = some-left c.none_left.ensures c.loop-left-test.true;
-    }
+  in_table = c.loop-left.invariant.within;
+  c_value = some-left c.none_left.ensures c.loop-left-test.true;
+}
 
 pub with_number-kept-requires : goal.with_number-kept-requires
 with_number-kept-requires c = let l = c.loop-left in

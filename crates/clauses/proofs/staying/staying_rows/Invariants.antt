@@ -1,16 +1,11 @@
 -- `staying_rows` meets its contract. The loop's invariant: the numbers kept, and those left whose ways no way of the table outdoes, are all of those.
 -- Rests on Filter.antt, Loops.antt, Rows.antt and the contracts of `whole`, `taken`, `outdone` and `with_number`.
-use mathlib.Core.Path.{refl, sym, ap, ◌∙◌}
-use mathlib.Core.Bool.{Bool, true, false, not}
-use borrow.Author.Rules.{rules}
+use mathlib.Core.Bool.{not}
 use lib.ListN.{length}
-use Rattle.rules.specs.declared.Way.{Way}
 use Rattle.rules.specs.Table.{rows}
-use Rattle.rules.specs.Leaf.{sift, redundant, minimal}
+use Rattle.rules.specs.Leaf.{redundant}
 use Rattle.clauses.specs.Leaves.{ways_of}
-use Rattle.clauses.proofs.Filter.{Sifting, begun, turn, ended}
-use Rattle.clauses.proofs.Loops.{numbered, fewer, some-left, no_more}
-use Rattle.clauses.proofs.Rows.{passing-sift}
+use Rattle.clauses.proofs.Filter.{Sifting}
 use Rattle.clauses.proofs.staying.staying_rows.Given as goal
 
 abbrev pub invariant-loop-left : goal.invariant-loop-left

@@ -3,10 +3,7 @@
 use mathlib.Core.Path.{refl, sym, ◌∙◌}
 use mathlib.Core.Bool.{true, false}
 use borrow.Author.Rules.{rules}
-use lib.ListN.{length}
-use Rattle.rules.specs.Leaf.{subsumes}
-use Rattle.clauses.specs.Leaves.{ways_of}
-use Rattle.clauses.proofs.Filter.{Sifting, begun, turn, all-kept}
+use Rattle.clauses.proofs.Filter.{begun, turn, all-kept}
 use Rattle.clauses.proofs.Loops.{numbered, fewer, some-left, no_more}
 use Rattle.clauses.proofs.staying.subsumed.Goals as goal
 
@@ -15,9 +12,9 @@ loop-u-init c = begun _ _ _ _ _ (search rules)
 
 pub taken-t-requires : goal.taken-t-requires
 taken-t-requires c = record {
-      in_table = c.loop-u.invariant.within;
-      c_value = some-left c.none_left.ensures c.loop-u-test.true;
-    }
+  in_table = c.loop-u.invariant.within;
+  c_value = some-left c.none_left.ensures c.loop-u-test.true;
+}
 
 pub with_number-kept-requires : goal.with_number-kept-requires
 with_number-kept-requires c = let l = c.loop-u in

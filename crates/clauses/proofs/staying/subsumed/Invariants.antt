@@ -1,13 +1,9 @@
 -- `subsumed` meets its contract. The loop's invariant: the numbers kept, and those left whose ways u subsumes, are all of those.
 -- Rests on Filter.antt, Loops.antt and the contracts of `taken`, `subsumes` and `with_number`.
-use mathlib.Core.Path.{refl, sym, ◌∙◌}
-use mathlib.Core.Bool.{true, false}
-use borrow.Author.Rules.{rules}
 use lib.ListN.{length}
 use Rattle.rules.specs.Leaf.{subsumes}
 use Rattle.clauses.specs.Leaves.{ways_of}
-use Rattle.clauses.proofs.Filter.{Sifting, begun, turn, all-kept}
-use Rattle.clauses.proofs.Loops.{numbered, fewer, some-left, no_more}
+use Rattle.clauses.proofs.Filter.{Sifting}
 use Rattle.clauses.proofs.staying.subsumed.Given as goal
 
 abbrev pub invariant-loop-u : goal.invariant-loop-u

@@ -1,15 +1,9 @@
 -- `occurs` meets its contract. The loop's invariant: the ways left answer for all.
 -- Rests on `clauses`, Loops, on Some.antt, and on the contract of `names`.
-use mathlib.Core.Path.{◌≡◌, refl, sym, ◌∙◌}
-use mathlib.Core.Bool.{Bool, true≢false}
-use Prim.Native.Nat.{ℕ}
-use borrow.Author.Rules.{rules}
-use lib.ListN.{length}
-use Rattle.rules.specs.declared.Way.{Way}
-use Rattle.rules.specs.Table.{bit, faults}
+use mathlib.Core.Path.{refl, sym, ◌∙◌}
+use mathlib.Core.Bool.{true≢false}
 use Rattle.rules.specs.Leaf.{any}
 use Rattle.rules.specs.Tree.{occurs}
-use Rattle.clauses.specs.Leaves.{ways_of, InTable}
 use Rattle.clauses.proofs.Loops.{forward, ended, fewer, some-left, no_more}
 use Rattle.formula.proofs.Some.{any_first, any_rest}
 use Rattle.formula.proofs.child.occurs.Invariants.{names}
@@ -20,9 +14,9 @@ loop-left-init c = (c.requires, refl)
 
 pub taken-t-requires : goal.taken-t-requires
 taken-t-requires c = record {
-      in_table = c.loop-left.invariant.0;
-      c_value = some-left c.none_left.ensures c.loop-left-test.true;
-    }
+  in_table = c.loop-left.invariant.0;
+  c_value = some-left c.none_left.ensures c.loop-left-test.true;
+}
 
 pub returns-then-names : goal.returns-then-names
 unfolding occurs
@@ -52,7 +46,7 @@ loop-left-preserved c = let t = c.taken-t in
 pub returns : goal.returns
 unfolding occurs any
 returns c = let l = c.loop-left in (
-      ended _ _ l.left (any (names c.args.f))
-          (no_more c.none_left.ensures c.loop-left-test.false) l.invariant.1,
-      λ t. absurd (true≢false (sym t)),
-    )
+  ended _ _ l.left (any (names c.args.f))
+      (no_more c.none_left.ensures c.loop-left-test.false) l.invariant.1,
+  λ t. absurd (true≢false (sym t)),
+)

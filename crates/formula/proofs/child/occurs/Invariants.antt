@@ -1,17 +1,13 @@
 -- `occurs` meets its contract. The loop's invariant: the ways left answer for all.
 -- Rests on `clauses`, Loops, on Some.antt, and on the contract of `names`.
-use mathlib.Core.Path.{◌≡◌, refl, sym, ◌∙◌}
-use mathlib.Core.Bool.{Bool, true≢false}
+use mathlib.Core.Path.{◌≡◌}
+use mathlib.Core.Bool.{Bool}
 use Prim.Native.Nat.{ℕ}
-use borrow.Author.Rules.{rules}
 use lib.ListN.{length}
 use Rattle.rules.specs.declared.Way.{Way}
 use Rattle.rules.specs.Table.{bit, faults}
 use Rattle.rules.specs.Leaf.{any}
-use Rattle.rules.specs.Tree.{occurs}
 use Rattle.clauses.specs.Leaves.{ways_of, InTable}
-use Rattle.clauses.proofs.Loops.{forward, ended, fewer, some-left, no_more}
-use Rattle.formula.proofs.Some.{any_first, any_rest}
 use Rattle.formula.proofs.child.occurs.Given as goal
 
 -- The test that `occurs` makes of each way.

@@ -1,18 +1,10 @@
 -- `counts` meets its contract. The outer loop's invariant: each count, and that of the ways left, make the whole.
 -- The inner loop's: the same, with the bits of the word m besides, whatever the whole is. Rests on Counted.antt for both, and on `clauses`, Loops.
-use mathlib.Core.Path.{subst}
 use mathlib.Core.List.{List}
-use Prim.Native.Nat.{◌-◌, ◌<◌}
-use native.Mathlib.Omega.{arith}
-use borrow.Author.Rules.{rules}
 use lib.ListN.{length}
-use lib.Bits.{and_le_r}
-use lib.Count.{count_trailing_zeros, trailing_le}
 use Rattle.rules.specs.declared.Way.{Way}
-use Rattle.rules.proofs.Bits.{lowest-below}
 use Rattle.clauses.specs.Leaves.{ways_of, InTable}
-use Rattle.clauses.proofs.Loops.{none-left, few, fewer, some-left, no_more}
-use Rattle.formula.proofs.Counted.{Counting, begun, small, taken_up, counted, all_counted}
+use Rattle.formula.proofs.Counted.{Counting}
 use Rattle.formula.proofs.choice.counts.Given as goal
 
 abbrev pub invariant-loop-m : goal.invariant-loop-m

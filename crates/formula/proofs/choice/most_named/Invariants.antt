@@ -1,19 +1,11 @@
 -- `most_named` meets its contract. The loop's invariant: best is the first of the largest counts below i, and most is that count.
 -- Rests on the contract of `counts`.
-use mathlib.Core.Path.{◌≡◌, refl, sym, ap, ap₂, ◌∙◌}
-use mathlib.Core.Bool.{Bool, true, false}
+use mathlib.Core.Path.{◌≡◌}
+use mathlib.Core.Bool.{true, false}
 use mathlib.Core.List.{List}
-use mathlib.Core.Logic.{⊎_elim}
-use Prim.Native.Nat.{ℕ, zero, suc, ◌+◌, ◌-◌, ◌≤◌, ◌<◌}
-use native.Mathlib.Numerals.{add-one}
-use native.Mathlib.Omega.{arith}
-use borrow.Author.Rules.{rules}
-use borrow.Author.Tests.{lt-ltb, le-ltb}
+use Prim.Native.Nat.{ℕ, zero, suc, ◌-◌, ◌≤◌}
 use lib.ListN.{get_or}
 use lib.Dec.{ltb}
-use Rattle.rules.specs.declared.Way.{Way}
-use Rattle.rules.specs.Run.{named, most_named}
-use Rattle.clauses.specs.Leaves.{ways_of}
 use Rattle.formula.proofs.choice.most_named.Given as goal
 
 -- Of the first i numbers of a list, the position of the largest, the first if several are.

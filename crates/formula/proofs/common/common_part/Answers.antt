@@ -1,10 +1,7 @@
 -- `common_part` meets its contract. The loop's invariant: the words so far have in common with the ways left what the first way has with the others.
 -- Rests on Meeting.antt, and on `clauses`, Loops.
-use mathlib.Core.Path.{◌≡◌, refl, sym, ap, ◌∙◌}
-use borrow.Author.Rules.{rules}
-use lib.ListN.{length}
+use mathlib.Core.Path.{refl, sym, ap, ◌∙◌}
 use Rattle.rules.specs.Common.{meet_from, meet, shared}
-use Rattle.clauses.specs.Leaves.{ways_of, InTable}
 use Rattle.clauses.proofs.Loops.{none-left, forward, fewer, some-left, no_more}
 use Rattle.formula.proofs.Meeting.{common, cut_short, at_end}
 use Rattle.formula.proofs.common.common_part.Goals as goal
@@ -16,9 +13,9 @@ returns-then-none_left c = let a = c.args in
 
 pub taken-first-requires : goal.taken-first-requires
 taken-first-requires c = record {
-      in_table = c.requires;
-      c_value = sym c.none_left.ensures ∙ c.if-none_left.false;
-    }
+  in_table = c.requires;
+  c_value = sym c.none_left.ensures ∙ c.if-none_left.false;
+}
 
 pub loop-left-init : goal.loop-left-init
 loop-left-init c = (c.taken-first.ensures.within, refl)
@@ -29,9 +26,9 @@ returns-then-p-q-eq0 c = let t = c.taken-first in
 
 pub taken-t-requires : goal.taken-t-requires
 taken-t-requires c = record {
-      in_table = c.loop-left.invariant.0;
-      c_value = some-left c.none_left-in-loop-left.ensures c.loop-left-test.true;
-    }
+  in_table = c.loop-left.invariant.0;
+  c_value = some-left c.none_left-in-loop-left.ensures c.loop-left-test.true;
+}
 
 pub loop-left-smaller : goal.loop-left-smaller
 loop-left-smaller c = fewer _ _ _ _ c.taken-t.ensures

@@ -1,12 +1,9 @@
 -- `common_part` meets its contract. The loop's invariant: the words so far have in common with the ways left what the first way has with the others.
 -- Rests on Meeting.antt, and on `clauses`, Loops.
-use mathlib.Core.Path.{◌≡◌, refl, sym, ap, ◌∙◌}
-use borrow.Author.Rules.{rules}
+use mathlib.Core.Path.{◌≡◌}
 use lib.ListN.{length}
-use Rattle.rules.specs.Common.{meet_from, meet, shared}
 use Rattle.clauses.specs.Leaves.{ways_of, InTable}
-use Rattle.clauses.proofs.Loops.{none-left, forward, fewer, some-left, no_more}
-use Rattle.formula.proofs.Meeting.{common, cut_short, at_end}
+use Rattle.formula.proofs.Meeting.{common}
 use Rattle.formula.proofs.common.common_part.Given as goal
 
 abbrev pub invariant-loop-left : goal.invariant-loop-left

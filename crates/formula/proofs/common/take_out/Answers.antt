@@ -4,7 +4,6 @@ use mathlib.Core.Path.{◌≡◌, sym, ap, ◌∙◌, subst}
 use mathlib.Core.List.{List, []}
 use Prim.Native.Nat.{ℕ}
 use lib.Bits.{or_zero_r}
-use borrow.Author.Rules.{rules}
 use Rattle.rules.specs.declared.Kind.TheVariants.{IndependentAnd}
 use Rattle.rules.specs.Table.{faults}
 use Rattle.rules.specs.Leaf.{without, drop_all}
@@ -66,9 +65,9 @@ returns-then-none_left c = let z = none-left _ _ c.args.c (sym c.none_left.ensur
 
 pub taken-t-requires : goal.taken-t-requires
 taken-t-requires c = record {
-      in_table = c.requires;
-      c_value = sym c.none_left.ensures ∙ c.if-none_left.false;
-    }
+  in_table = c.requires;
+  c_value = sym c.none_left.ensures ∙ c.if-none_left.false;
+}
 
 pub alone-first-requires : goal.alone-first-requires
 alone-first-requires c = numbered _ _ _ _ c.requires c.taken-t.ensures

@@ -4,7 +4,7 @@ use mathlib.Core.Path.{◌≡◌, sym, ◌∙◌}
 use Prim.Native.Nat.{ℕ, ◌-◌, ◌^◌, ◌≤◌, ◌<◌}
 use native.Mathlib.Omega.{arith}
 use borrow.Author.Rules.{rules}
-use Rattle.formula.proofs.Sweeping.{larger, Growing, none-outside, started, wider, again, all_left}
+use Rattle.formula.proofs.Sweeping.{larger, none-outside, started, wider, again, all_left}
 use Rattle.formula.proofs.group.other_ways.Goals as goal
 
 -- A word that grows and is not the same leaves less room below 2 ^ 64.
@@ -16,9 +16,9 @@ returns-then-none_left c = none-outside _ _ _ c.requires (sym c.none_left.ensure
 
 pub taken-t-requires : goal.taken-t-requires
 taken-t-requires c = record {
-      in_table = c.requires;
-      c_value = sym c.none_left.ensures ∙ c.if-none_left.false;
-    }
+  in_table = c.requires;
+  c_value = sym c.none_left.ensures ∙ c.if-none_left.false;
+}
 
 pub loop-word-init : goal.loop-word-init
 loop-word-init c = let t = c.taken-t in

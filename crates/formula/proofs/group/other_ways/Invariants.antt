@@ -1,10 +1,7 @@
 -- `other_ways` meets its contract. The loop's invariant: the word is within the group's faults and holds every way that is not in the rest.
 -- A sweep that changes the word makes it a larger number, so the sweeps end. Rests on Sweeping.antt and on the contracts of what it calls.
-use mathlib.Core.Path.{◌≡◌, sym, ◌∙◌}
-use Prim.Native.Nat.{ℕ, ◌-◌, ◌^◌, ◌≤◌, ◌<◌}
-use native.Mathlib.Omega.{arith}
-use borrow.Author.Rules.{rules}
-use Rattle.formula.proofs.Sweeping.{larger, Growing, none-outside, started, wider, again, all_left}
+use Prim.Native.Nat.{◌-◌, ◌^◌}
+use Rattle.formula.proofs.Sweeping.{Growing}
 use Rattle.formula.proofs.group.other_ways.Given as goal
 
 abbrev pub invariant-loop-word : goal.invariant-loop-word

@@ -1,12 +1,9 @@
 -- `sweep` meets its contract. The loop's invariant: those that stay in the rest are untouched or yet to be met, and the word holds all others.
 -- Rests on Sweeping.antt, on `clauses`, Loops, and on the contracts of what it calls.
 use mathlib.Core.Path.{sym, ap, ◌∙◌}
-use borrow.Author.Rules.{rules}
 use lib.Bits.{bit_or}
-use lib.ListN.{length}
-use Rattle.clauses.specs.Leaves.{ways_of}
 use Rattle.clauses.proofs.Loops.{numbered, fewer, some-left, no_more}
-use Rattle.formula.proofs.Sweeping.{Sweeping, begun, passed-by, taken_in, swept}
+use Rattle.formula.proofs.Sweeping.{begun, passed-by, taken_in, swept}
 use Rattle.formula.proofs.group.sweep.Goals as goal
 
 pub loop-left-init : goal.loop-left-init
@@ -14,9 +11,9 @@ loop-left-init c = begun _ _ _ c.requires _
 
 pub taken-t-requires : goal.taken-t-requires
 taken-t-requires c = record {
-      in_table = c.loop-left.invariant.left-within;
-      c_value = some-left c.none_left.ensures c.loop-left-test.true;
-    }
+  in_table = c.loop-left.invariant.left-within;
+  c_value = some-left c.none_left.ensures c.loop-left-test.true;
+}
 
 pub alone-requires : goal.alone-requires
 alone-requires c = let l = c.loop-left in

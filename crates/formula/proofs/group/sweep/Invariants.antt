@@ -1,12 +1,8 @@
 -- `sweep` meets its contract. The loop's invariant: those that stay in the rest are untouched or yet to be met, and the word holds all others.
 -- Rests on Sweeping.antt, on `clauses`, Loops, and on the contracts of what it calls.
-use mathlib.Core.Path.{sym, ap, ◌∙◌}
-use borrow.Author.Rules.{rules}
-use lib.Bits.{bit_or}
 use lib.ListN.{length}
 use Rattle.clauses.specs.Leaves.{ways_of}
-use Rattle.clauses.proofs.Loops.{numbered, fewer, some-left, no_more}
-use Rattle.formula.proofs.Sweeping.{Sweeping, begun, passed-by, taken_in, swept}
+use Rattle.formula.proofs.Sweeping.{Sweeping}
 use Rattle.formula.proofs.group.sweep.Given as goal
 
 abbrev pub invariant-loop-left : goal.invariant-loop-left

@@ -5,8 +5,6 @@ use mathlib.Core.Bool.{true}
 use mathlib.Core.List.{List, [], ◌∷◌, ◌++◌, append-nil, append_assoc}
 use Prim.Native.Nat.{ℕ, ◌≤◌}
 use native.Mathlib.Omega.{arith}
-use borrow.Author.Rules.{rules}
-use lib.ListN.{length}
 use Rattle.rules.specs.declared.Way.{Way}
 use Rattle.rules.specs.Rounding.{S}
 use Rattle.clauses.specs.declared.Clauses.{Clauses}
@@ -48,9 +46,9 @@ loop-left-init c = start _ _ _ _ c.requires.in_table
 
 pub taken-t-requires : goal.taken-t-requires
 taken-t-requires c = record {
-      in_table = c.loop-left.invariant.within;
-      c_value = some-left c.none_left.ensures c.loop-left-test.true;
-    }
+  in_table = c.loop-left.invariant.within;
+  c_value = some-left c.none_left.ensures c.loop-left-test.true;
+}
 
 pub loop-left-smaller : goal.loop-left-smaller
 loop-left-smaller c = fewer _ _ _ _ c.taken-t.ensures

@@ -1,18 +1,13 @@
 -- `pick_ways` meets its contract. The loop's invariant: the ways picked so far and those left make all ways, and what picking has made is that of
 -- those picked so far. Rests on `clauses`, Loops, and on the contract of `pick`.
-use mathlib.Core.Path.{◌≡◌, refl, sym, ap, ◌∙◌}
-use mathlib.Core.Bool.{true}
-use mathlib.Core.List.{List, [], ◌∷◌, ◌++◌, append-nil, append_assoc}
+use mathlib.Core.Path.{◌≡◌}
+use mathlib.Core.List.{List, ◌++◌}
 use Prim.Native.Nat.{ℕ, ◌≤◌}
-use native.Mathlib.Omega.{arith}
-use borrow.Author.Rules.{rules}
 use lib.ListN.{length}
 use Rattle.rules.specs.declared.Way.{Way}
 use Rattle.rules.specs.Rounding.{S}
 use Rattle.clauses.specs.declared.Clauses.{Clauses}
-use Rattle.clauses.specs.declared.Taken.{Taken}
-use Rattle.clauses.specs.Leaves.{ways_of, none_left, InTable, Takes}
-use Rattle.clauses.proofs.Loops.{none-left, fewer, some-left, no_more}
+use Rattle.clauses.specs.Leaves.{ways_of, InTable}
 use Rattle.formula.specs.declared.Picked.{Picked}
 use Rattle.formula.specs.Picking.{picked}
 use Rattle.formula.proofs.leaf.pick_ways.Given as goal

@@ -1,7 +1,6 @@
 -- `raised` meets its contract: at S nothing can be added, and below it the sum is cut to S.
 -- Rests on the contract of `chance`.
 use native.Mathlib.Omega.{arith}
-use borrow.Author.Rules.{rules}
 use Rattle.formula.proofs.leaf.raised.Goals as goal
 
 pub returns-then-high-eq-S : goal.returns-then-high-eq-S

@@ -30,9 +30,9 @@ returns-then-none_left c = sym (ap (λ (vs : List Way). leb 2 (length vs)) (none
 
 pub taken-t-requires : goal.taken-t-requires
 taken-t-requires c = record {
-      in_table = c.requires;
-      c_value = sym c.none_left.ensures ∙ c.if-none_left.false;
-    }
+  in_table = c.requires;
+  c_value = sym c.none_left.ensures ∙ c.if-none_left.false;
+}
 
 pub returns : goal.returns
 returns c = let t = c.taken-t in

@@ -1,7 +1,6 @@
 -- `with_faults` meets its contract.
 -- Rests on the contract of `faults`.
 use mathlib.Core.Path.{ap}
-use borrow.Author.Rules.{rules}
 use lib.Bits.{bit_or}
 use Rattle.formula.proofs.leaf.with_faults.Goals as goal
 

@@ -2,11 +2,9 @@
 -- Rests on Climb.antt, on `store`, Lent, and on the contracts of `record_at`, `joined` and `put_record`.
 use mathlib.Core.Path.{refl}
 use native.Mathlib.Omega.{arith}
-use borrow.Author.Rules.{rules}
-use Rattle.store.specs.Lent.{tree_of}
 use Rattle.store.proofs.Lent.{long}
 use Rattle.store.proofs.SafeLaws.{safe-read}
-use Rattle.grow.proofs.Climb.{Climb, turn, done, spent}
+use Rattle.grow.proofs.Climb.{turn, done, spent}
 use Rattle.grow.proofs.raise.raise.Goals as goal
 
 pub loop-left-init : goal.loop-left-init

@@ -1,12 +1,7 @@
 -- `raise` meets its contract. The loop's invariant: what is left of raising, from record i, comes to the whole.
 -- Rests on Climb.antt, on `store`, Lent, and on the contracts of `record_at`, `joined` and `put_record`.
-use mathlib.Core.Path.{refl}
-use native.Mathlib.Omega.{arith}
-use borrow.Author.Rules.{rules}
 use Rattle.store.specs.Lent.{tree_of}
-use Rattle.store.proofs.Lent.{long}
-use Rattle.store.proofs.SafeLaws.{safe-read}
-use Rattle.grow.proofs.Climb.{Climb, turn, done, spent}
+use Rattle.grow.proofs.Climb.{Climb}
 use Rattle.grow.proofs.raise.raise.Given as goal
 
 abbrev pub invariant-loop-left : goal.invariant-loop-left

@@ -1,6 +1,5 @@
 -- `branch_of` meets its contract, record by record.
 -- Rests on Leaves.antt and the contracts of `refined`, `children` and `leaf_record`.
-use borrow.Author.Rules.{rules}
 use Rattle.rules.specs.Tree.{left, right}
 use Rattle.grow.proofs.Leaves.{as-child, safe-fresh}
 use Rattle.grow.proofs.refine.branch_of.Goals as goal

@@ -3,7 +3,6 @@
 use mathlib.Core.Path.{◌≡◌, sym, ap, ◌∙◌, subst}
 use mathlib.Core.List.{List}
 use Prim.Native.Nat.{ℕ, ◌+◌, ◌<◌}
-use borrow.Author.Rules.{rules}
 use lib.ListN.{length}
 use Rattle.rules.specs.Table.{Table}
 use Rattle.rules.specs.Leaf.{Lean}
@@ -68,9 +67,9 @@ branch_of-b-requires c = let a = c.args in
       fault_fits = c.requires.fault_fits;
       safe_node = safe-read _ _ _ c.requires.safe e;
       j_lt_tree_records = (
-                  c.requires.j_lt_tree_records.0,
-                  room _ _ c.used_in-next.ensures c.requires.j_lt_tree_records.1,
-                );
+        c.requires.j_lt_tree_records.0,
+        room _ _ c.used_in-next.ensures c.requires.j_lt_tree_records.1,
+      );
       lean = lean-leaf t (record_in ((tree_of c.args.tree.now)).nodes a.j) a.c c.requires.leaf_ways c.requires.lean;
     }
 
@@ -80,11 +79,11 @@ put_branch-requires c = let q = c.requires.j_lt_tree_records in
 
 pub raise-requires : goal.raise-requires
 raise-requires c = let a = c.args in record {
-      weights_value = light ((record { weights = c.args.weights.now; present = c.args.present.now; absent = c.args.absent.now })) c.requires.accepted;
-      safe = safe-put ((record { weights = c.args.weights.now; present = c.args.present.now; absent = c.args.absent.now })) ((tree_of c.args.tree.now)) _ _ a.c a.k a.j _ _ c.branch_of-b.ensures c.put_branch.ensures (long _)
-            c.requires.j_lt_tree_records.0 (room _ _ c.used_in-next.ensures c.requires.j_lt_tree_records.1) c.requires.safe;
-      j_lt_tree_records = c.requires.j_lt_tree_records.0;
-    }
+  weights_value = light ((record { weights = c.args.weights.now; present = c.args.present.now; absent = c.args.absent.now })) c.requires.accepted;
+  safe = safe-put ((record { weights = c.args.weights.now; present = c.args.present.now; absent = c.args.absent.now })) ((tree_of c.args.tree.now)) _ _ a.c a.k a.j _ _ c.branch_of-b.ensures c.put_branch.ensures (long _)
+      c.requires.j_lt_tree_records.0 (room _ _ c.used_in-next.ensures c.requires.j_lt_tree_records.1) c.requires.safe;
+  j_lt_tree_records = c.requires.j_lt_tree_records.0;
+}
 
 pub returns : goal.returns
 returns c = let a = c.args in

@@ -2,7 +2,6 @@
 -- Rests on the contracts of `put_record` and `put_used`.
 use mathlib.Core.Path.{◌≡◌}
 use Prim.Native.Nat.{ℕ, ◌+◌}
-use borrow.Author.Rules.{rules}
 use Rattle.records.specs.declared.Node.{Node}
 use Rattle.records.specs.declared.Tree.{Tree}
 use Rattle.store.specs.Lent.{tree_of, with_record, with_used}

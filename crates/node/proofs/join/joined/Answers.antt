@@ -3,7 +3,6 @@
 use mathlib.Core.Path.{◌≡◌}
 use mathlib.Core.List.{List}
 use Prim.Native.Nat.{ℕ, ◌≤◌}
-use borrow.Author.Rules.{rules}
 use Rattle.rules.specs.Rounding.{S, down, up}
 use Rattle.rules.specs.Tree.{combine, overlap}
 use Rattle.rules.specs.declared.Kind.{Kind}

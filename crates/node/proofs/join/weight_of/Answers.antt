@@ -2,7 +2,6 @@
 -- Rests on `chances`, Weights.
 use mathlib.Core.Path.{refl, sym}
 use native.Mathlib.Omega.{arith}
-use borrow.Author.Rules.{rules}
 use lib.ListN.{get_or-eq_default}
 use Rattle.chances.proofs.Weights.{weight-le}
 use Rattle.node.proofs.join.weight_of.Goals as goal

@@ -3,7 +3,6 @@
 use mathlib.Core.Path.{◌≡◌}
 use mathlib.Core.List.{List}
 use Prim.Native.Nat.{ℕ}
-use borrow.Author.Rules.{rules}
 use Rattle.rules.specs.Table.{rows, ways}
 use Rattle.rules.specs.Leaf.{select, remaining, drop_all}
 use Rattle.rules.specs.declared.Way.{Way}

@@ -1,25 +1,9 @@
 -- `run_on` meets its contract. The loop: what was made, with what the rules make of the rest of the budget, is the whole run.
 -- Rests on Deciding.antt and Going.antt and on the contracts of `decide` and `refine_by_rule`.
-use mathlib.Core.Path.{◌≡◌, ap, subst}
-use mathlib.Core.List.{List}
-use Prim.Native.Nat.{ℕ, ◌-◌, ◌≤◌}
-use native.Mathlib.Omega.{arith}
-use borrow.Author.Rules.{rules}
-use lib.ListN.{length, length-append}
-use Rattle.rules.specs.Table.{Table}
-use Rattle.rules.specs.Tree.{Refinement}
-use Rattle.rules.specs.Run.{aim_of}
-use Rattle.rules.specs.declared.Aim.{Aim}
+use Prim.Native.Nat.{◌-◌}
 use Rattle.records.specs.Records.{history}
-use Rattle.records.specs.declared.Tree.{Tree}
-use Rattle.records.proofs.Positions.{length_places}
-use Rattle.records.proofs.InPlace.{few-places}
-use Rattle.records.proofs.Live.{lean-at}
 use Rattle.store.specs.Lent.{tree_of}
-use Rattle.running.specs.declared.Step.{Step}
-use Rattle.running.proofs.Turns.{Goes, whole, linked}
-use Rattle.running.proofs.Going.{Going, start, room, goes_on}
-use Rattle.running.proofs.Deciding.{Outcome, means}
+use Rattle.running.proofs.Going.{Going}
 use Rattle.running.proofs.run.run_on.Given as goal
 
 abbrev pub invariant-loop-verdict : goal.invariant-loop-verdict

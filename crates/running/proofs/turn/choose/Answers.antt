@@ -1,7 +1,6 @@
 -- `choose` meets its contract: by independence where the ways fall apart, else by the common part where there is one, else by a fault that has a bit.
 -- Rests on Turns.antt and the contracts of `falls_apart`, `common_part` and `most_named`.
 use mathlib.Core.Path.{sym, ◌∙◌}
-use borrow.Author.Rules.{rules}
 use Rattle.formula.specs.Leaves.{FaultFits}
 use Rattle.running.proofs.Turns.{fault-low, choice-apart, choice-common, choice-fault}
 use Rattle.running.proofs.turn.choose.Goals as goal
@@ -21,7 +20,7 @@ returns-then-common_part-ne0 c = (
 pub returns : goal.returns
 unfolding FaultFits
 returns c = (
-      λ ws l. choice-fault ws _ _ _ _ l (sym c.falls_apart.ensures ∙ c.if-falls_apart.false) c.common_part.ensures
-          c.if-common_part-ne0.false c.most_named.ensures,
-      fault-low _ _ _ c.requires.n_bound c.most_named.ensures,
-    )
+  λ ws l. choice-fault ws _ _ _ _ l (sym c.falls_apart.ensures ∙ c.if-falls_apart.false) c.common_part.ensures
+      c.if-common_part-ne0.false c.most_named.ensures,
+  fault-low _ _ _ c.requires.n_bound c.most_named.ensures,
+)

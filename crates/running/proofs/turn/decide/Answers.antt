@@ -3,7 +3,6 @@
 use mathlib.Core.Path.{◌≡◌, sym, ap, ◌∙◌}
 use mathlib.Core.Bool.{Bool, true, false}
 use Prim.Native.Nat.{ℕ}
-use borrow.Author.Rules.{rules}
 use borrow.Author.Tests.{eq-eqb, ne_eqb}
 use Rattle.rules.specs.Run.{narrow}
 use Rattle.rules.specs.declared.Aim.{Aim}
@@ -51,9 +50,9 @@ tested a x k r e n g = sym (ap (λ (k : Node). narrow a k.low k.high) e) ∙ sym
 
 pub next_leaf-found-requires : goal.next_leaf-found-requires
 next_leaf-found-requires c = record {
-      linked = c.requires.linked;
-      safe = c.requires.safe;
-    }
+  linked = c.requires.linked;
+  safe = c.requires.safe;
+}
 
 pub returns-then-narrow : goal.returns-then-narrow
 returns-then-narrow c = met ((c.args.aim)) ((tree_of c.args.tree.now)) _ _ (tested c.args.aim (tree_of c.args.tree.now) _ _ c.record_at.ensures c.narrow.ensures c.if-narrow.true)

@@ -2,7 +2,6 @@
 -- Rests on the contract of `width` and on the definition of `rules`, narrow.
 use mathlib.Core.Path.{ap}
 use Prim.Native.Nat.{ℕ, ◌*◌}
-use borrow.Author.Rules.{rules}
 use lib.Dec.{leb}
 use Rattle.rules.specs.Run.{narrow}
 use Rattle.running.proofs.turn.narrow.Goals as goal

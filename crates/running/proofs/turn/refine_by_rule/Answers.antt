@@ -35,15 +35,15 @@ record_at-requires c = c.requires.j_lt_tree_records.0
 
 pub ways_of-c-requires : goal.ways_of-c-requires
 ways_of-c-requires c = record {
-      present_len_bound = few_ways ((record { weights = c.args.weights.now; present = c.args.present.now; absent = c.args.absent.now })) c.requires.accepted;
-      absent_len = sym (paired_words ((record { weights = c.args.weights.now; present = c.args.present.now; absent = c.args.absent.now })) c.requires.accepted);
-    }
+  present_len_bound = few_ways ((record { weights = c.args.weights.now; present = c.args.present.now; absent = c.args.absent.now })) c.requires.accepted;
+  absent_len = sym (paired_words ((record { weights = c.args.weights.now; present = c.args.present.now; absent = c.args.absent.now })) c.requires.accepted);
+}
 
 pub choose-k-requires : goal.choose-k-requires
 choose-k-requires c = record {
-      n_bound = few_faults ((record { weights = c.args.weights.now; present = c.args.present.now; absent = c.args.absent.now })) c.requires.accepted;
-      in_table = c.ways_of-c.ensures.within;
-    }
+  n_bound = few_faults ((record { weights = c.args.weights.now; present = c.args.present.now; absent = c.args.absent.now })) c.requires.accepted;
+  in_table = c.ways_of-c.ensures.within;
+}
 
 pub returns : goal.returns
 returns c = by-rule ((record { weights = c.args.weights.now; present = c.args.present.now; absent = c.args.absent.now })) ((tree_of c.args.tree.now)) c.args.j _ _ c.record_at.ensures c.ways_of-c.ensures _ _
