@@ -12,22 +12,34 @@ use Rattle.csv_export.proofs.Cues.{no-cue}
 use Rattle.csv_export.proofs.entries.stated_entry.Goals as goal
 
 pub overflow_mul-i : goal.overflow_mul-i
-overflow_mul-i c = omega (arith, (let it : c.args.i < 24 = omega (arith, c.requires.i_bound, (accepted-few c.args.s.now c.requires.s_value).cues) in it))
+overflow_mul-i c =
+    let few : c.args.i < 24 = omega (arith, c.requires.i_bound, (accepted-few c.args.s.now c.requires.s_value).cues) in
+    omega (arith, few)
 
 pub overflow_add-i : goal.overflow_add-i
-overflow_add-i c = omega (arith, (let it : c.args.i < 24 = omega (arith, c.requires.i_bound, (accepted-few c.args.s.now c.requires.s_value).cues) in it))
+overflow_add-i c =
+    let few : c.args.i < 24 = omega (arith, c.requires.i_bound, (accepted-few c.args.s.now c.requires.s_value).cues) in
+    omega (arith, few)
 
 pub overflow_mul-i-2 : goal.overflow_mul-i-2
-overflow_mul-i-2 c = omega (arith, (let it : c.args.i < 24 = omega (arith, c.requires.i_bound, (accepted-few c.args.s.now c.requires.s_value).cues) in it))
+overflow_mul-i-2 c =
+    let few : c.args.i < 24 = omega (arith, c.requires.i_bound, (accepted-few c.args.s.now c.requires.s_value).cues) in
+    omega (arith, few)
 
 pub overflow_add-i-2 : goal.overflow_add-i-2
-overflow_add-i-2 c = omega (arith, (let it : c.args.i < 24 = omega (arith, c.requires.i_bound, (accepted-few c.args.s.now c.requires.s_value).cues) in it))
+overflow_add-i-2 c =
+    let few : c.args.i < 24 = omega (arith, c.requires.i_bound, (accepted-few c.args.s.now c.requires.s_value).cues) in
+    omega (arith, few)
 
 pub overflow_mul-i-3 : goal.overflow_mul-i-3
-overflow_mul-i-3 c = omega (arith, (let it : c.args.i < 24 = omega (arith, c.requires.i_bound, (accepted-few c.args.s.now c.requires.s_value).cues) in it))
+overflow_mul-i-3 c =
+    let few : c.args.i < 24 = omega (arith, c.requires.i_bound, (accepted-few c.args.s.now c.requires.s_value).cues) in
+    omega (arith, few)
 
 pub overflow_add-i-3 : goal.overflow_add-i-3
-overflow_add-i-3 c = omega (arith, (let it : c.args.i < 24 = omega (arith, c.requires.i_bound, (accepted-few c.args.s.now c.requires.s_value).cues) in it))
+overflow_add-i-3 c =
+    let few : c.args.i < 24 = omega (arith, c.requires.i_bound, (accepted-few c.args.s.now c.requires.s_value).cues) in
+    omega (arith, few)
 
 pub returns : goal.returns
 unfolding entry_in

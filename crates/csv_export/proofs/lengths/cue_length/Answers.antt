@@ -14,7 +14,9 @@ use Rattle.csv_export.proofs.Records.{cue_alone, cue_ways, no-ways}
 use Rattle.csv_export.proofs.lengths.cue_length.Goals as goal
 
 pub returns-then-e-eq0 : goal.returns-then-e-eq0
-returns-then-e-eq0 c = let a = c.args in
+returns-then-e-eq0 c =
+    let long : length (decimal c.args.e.cue) + 2 ≡ 22 - c.digits_of-d.result.from = omega (arith, digits-length c.args.e.cue c.digits_of-d.result c.digits_of-d.ensures.result_value c.digits_of-d.ensures.bytes_len, c.digits_of-d.ensures.from_bound) in
+    let a = c.args in
     let bs = a.s.now in
     let none = length-column 8 16 a.e.start a.e.ways bs in
     let alone = ap length (cue_alone a.e.cue (present_at bs a.e) (absent_at bs a.e) (omega (arith, none, c.if-e-eq0.true))) in (
@@ -22,8 +24,7 @@ returns-then-e-eq0 c = let a = c.args in
         arith,
         alone,
         length-append (decimal a.e.cue) (13 ∷ 10 ∷ []),
-        (let it : length (decimal c.args.e.cue) + 2 ≡ 22 - c.digits_of-d.result.from = let d = c.digits_of-d in
-            omega (arith, digits-length c.args.e.cue d.result d.ensures.result_value d.ensures.bytes_len, d.ensures.from_bound) in it),
+        long,
       ),
       omega arith,
     )
@@ -53,7 +54,9 @@ loop-i-preserved c = let a = c.args in
     )
 
 pub returns : goal.returns
-returns c = let a = c.args in
+returns c =
+    let long : length (decimal c.args.e.cue) + 2 ≡ 22 - c.digits_of-d.result.from = omega (arith, digits-length c.args.e.cue c.digits_of-d.result c.digits_of-d.ensures.result_value c.digits_of-d.ensures.bytes_len, c.digits_of-d.ensures.from_bound) in
+    let a = c.args in
     let bs = a.s.now in
     let e = a.e in
     let d = decimal e.cue in
@@ -63,8 +66,7 @@ returns c = let a = c.args in
     (many (e.start + 8) ∙ sym (many e.start)) in (
       omega (
         arith,
-        c.loop-i.invariant.1 d ((let it : length (decimal c.args.e.cue) + 2 ≡ 22 - c.digits_of-d.result.from = let d = c.digits_of-d in
-            omega (arith, digits-length c.args.e.cue d.result d.ensures.result_value d.ensures.bytes_len, d.ensures.from_bound) in it)),
+        c.loop-i.invariant.1 d long,
         ap length none,
         ap length all,
       ),

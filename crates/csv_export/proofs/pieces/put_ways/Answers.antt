@@ -1,13 +1,11 @@
 -- `put_ways` meets its contract. The loop's invariant: the records of the ways from i on are left to write.
 -- Rests on `writer`, Over, on Records.antt and on the contracts of `u64_at` and `put_way`.
-use mathlib.Core.Path.{◌≡◌}
-use mathlib.Core.List.{◌++◌}
 use Prim.Native.Nat.{◌+◌}
 use native.Mathlib.Omega.{arith}
 use lib.ListN.{drop, drop_of_length-le}
 use Rattle.rules.proofs.Bytes.{length-column}
 use Rattle.writer.proofs.Over.{left-all, left_long, left_none, next_room, next_written}
-use Rattle.csv_export.specs.Parts.{present_at, absent_at, way_text, ways_text}
+use Rattle.csv_export.specs.Parts.{present_at, absent_at, ways_text}
 use Rattle.csv_export.proofs.Records.{next_row, no-ways}
 use Rattle.csv_export.proofs.pieces.put_ways.Goals as goal
 
@@ -16,17 +14,16 @@ loop-i-init c = let a = c.args in
     (omega arith, left-all a.space.now a.at (ways_text a.cue.now (present_at a.s.now a.e) (absent_at a.s.now a.e)))
 
 pub put_way-next-requires : goal.put_way-next-requires
-put_way-next-requires c = next_room _ c.requires (rw ((let it : let a = c.args in let ps = present_at a.s.now a.e in let qs = absent_at a.s.now a.e in ways_text a.cue.now (drop c.loop-i.i ps) (drop c.loop-i.i qs) ≡ way_text a.cue.now c.u64_at-p.result c.u64_at-q.result ++ ways_text a.cue.now (drop (c.loop-i.i + 1) ps) (drop (c.loop-i.i + 1) qs) = let a = c.args in
-    next_row a.cue.now a.s.now a.e.start (a.e.start + 8) a.e.ways c.loop-i.i c.loop-i-test.true
-    c.u64_at-p.ensures c.u64_at-q.ensures in it)) at c.loop-i.invariant.1)
+put_way-next-requires c =
+    let turn = next_row c.args.cue.now c.args.s.now c.args.e.start (c.args.e.start + 8) c.args.e.ways c.loop-i.i c.loop-i-test.true c.u64_at-p.ensures c.u64_at-q.ensures in
+    next_room _ c.requires (rw turn at c.loop-i.invariant.1)
 
 pub loop-i-preserved : goal.loop-i-preserved
-loop-i-preserved c = (
-  omega arith,
-  next_written _ c.requires (rw ((let it : let a = c.args in let ps = present_at a.s.now a.e in let qs = absent_at a.s.now a.e in ways_text a.cue.now (drop c.loop-i.i ps) (drop c.loop-i.i qs) ≡ way_text a.cue.now c.u64_at-p.result c.u64_at-q.result ++ ways_text a.cue.now (drop (c.loop-i.i + 1) ps) (drop (c.loop-i.i + 1) qs) = let a = c.args in
-      next_row a.cue.now a.s.now a.e.start (a.e.start + 8) a.e.ways c.loop-i.i c.loop-i-test.true
-      c.u64_at-p.ensures c.u64_at-q.ensures in it)) at c.loop-i.invariant.1) c.put_way-next.ensures,
-)
+loop-i-preserved c =
+    let turn = next_row c.args.cue.now c.args.s.now c.args.e.start (c.args.e.start + 8) c.args.e.ways c.loop-i.i c.loop-i-test.true c.u64_at-p.ensures c.u64_at-q.ensures in (
+      omega arith,
+      next_written _ c.requires (rw turn at c.loop-i.invariant.1) c.put_way-next.ensures,
+    )
 
 pub shape_of-space : goal.shape_of-space
 shape_of-space c = left_long c.requires c.loop-i.invariant.1
