@@ -7,7 +7,7 @@ use Prim.Native.Nat.{ℕ, ◌+◌}
 use native.Mathlib.Omega.{arith}
 use lib.ListN.{length, length-append}
 use Rattle.rules.specs.Table.{Table}
-use Rattle.rules.specs.Tree.{Refinement, DTree, leaf, tree, low, high, series, acceptable}
+use Rattle.rules.specs.Tree.{Refinement, DTree, leaf, tree, series, acceptable}
 use Rattle.rules.specs.Refusals.{Accepted}
 use Rattle.rules.specs.Calls.{hand_number, hand_answer, answer_by, by_hand, handed, hand_makes, figures, call_number, outcome, makes, makes_by, would_make}
 use Rattle.rules.specs.declared.Kind.{Kind}

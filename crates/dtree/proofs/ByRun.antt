@@ -6,7 +6,7 @@ use mathlib.Core.List.{List, ◌++◌}
 use Prim.Native.Nat.{ℕ}
 use lib.ListN.{length}
 use Rattle.rules.specs.Table.{Table}
-use Rattle.rules.specs.Tree.{Refinement, DTree, leaf, tree, low, high, series}
+use Rattle.rules.specs.Tree.{Refinement, DTree, leaf, tree, series}
 use Rattle.rules.specs.Run.{aim_of, picks, verdict, figure}
 use Rattle.rules.specs.Calls.{run_number, run_answer, run_answer_by, by_run, ran, run_makes, figures, call_number, outcome, makes, makes_by, would_make}
 use Rattle.rules.specs.declared.Limits.{Limits}

@@ -1,16 +1,14 @@
 -- `append_lines` meets its contract. The loop's invariant: the lines that are left, appended to what stands, give the whole.
 -- Rests on the contracts of `line_at` and `append_line`, on Whole.antt, and on `rules`, ReaderCalls: the sheet has as many cues as its head says.
 use mathlib.Core.Path.{◌≡◌, refl, sym, ap, ◌∙◌}
-use Prim.Native.Nat.{ℕ, ◌-◌, min}
+use Prim.Native.Nat.{ℕ, min}
 use native.Mathlib.Omega.{arith}
-use borrow.Author.Rules.{rules}
 use lib.ListN.{length, take, length-take}
 use Rattle.rules.specs.Sheet.{decode}
 use Rattle.rules.proofs.ReaderCalls.{cues_decoded}
-use Rattle.report.specs.Appended.{text_of}
 use Rattle.report.specs.Lines.{weights_of, line_text}
 use Rattle.rules.proofs.Bytes.{each_below}
-use Rattle.report.proofs.Whole.{LinesLeft, lines_next, lines_none}
+use Rattle.report.proofs.Whole.{lines_next, lines_none}
 use Rattle.report.proofs.append_lines.Goals as goal
 
 pub loop-i-init : goal.loop-i-init
@@ -22,18 +20,24 @@ slice_bounds-line_at-end c = simp length-take (omega arith)
 pub line_at-requires : goal.line_at-requires
 unfolding weights_of
 line_at-requires c = record {
-      weights_value = (let it : take c.at_most-n.result c.weights-w.result ≡ weights_of c.args.s.now = let n = c.at_most-n.ensures ∙ ap (λ (k : ℕ). min k 64) c.faults_in.ensures.0 in
-    λ j. take (n j) (c.weights-w.ensures j) in it);
-      s_value = c.requires.s_value;
-      i_bound = omega (arith, c.requires.cues_value);
-      limits_value = c.requires.limits_value;
-    }
+  weights_value = (let it : take c.at_most-n.result c.weights-w.result ≡ weights_of c.args.s.now = let n = c.at_most-n.ensures ∙ ap (λ (k : ℕ). min k 64) c.faults_in.ensures.0 in
+      λ j. take (n j) (c.weights-w.ensures j) in it);
+  s_value = c.requires.s_value;
+  i_bound = omega (arith, c.requires.cues_value);
+  limits_value = c.requires.limits_value;
+}
 
 pub loop-i-preserved : goal.loop-i-preserved
-loop-i-preserved c = lines_next c.loop-i.invariant (line_text c.line_at.result) (omega (arith, (let it : length (decode c.args.s.now).cues ≡ c.args.cues = let bs = c.args.s.now in
-    cues_decoded bs (each_below 256 bs (λ i. (c.type_inv.s i).fits)) c.requires.s_value ∙ sym c.requires.cues_value in it)))
+loop-i-preserved c = lines_next c.loop-i.invariant (line_text c.line_at.result) (omega (
+  arith,
+  (let it : length (decode c.args.s.now).cues ≡ c.args.cues = let bs = c.args.s.now in
+      cues_decoded bs (each_below 256 bs (λ i. (c.type_inv.s i).fits)) c.requires.s_value ∙ sym c.requires.cues_value in it),
+))
     c.line_at.ensures c.append_line-at.ensures
 
 pub returns : goal.returns
-returns c = lines_none c.loop-i.invariant (omega (arith, (let it : length (decode c.args.s.now).cues ≡ c.args.cues = let bs = c.args.s.now in
-    cues_decoded bs (each_below 256 bs (λ i. (c.type_inv.s i).fits)) c.requires.s_value ∙ sym c.requires.cues_value in it)))
+returns c = lines_none c.loop-i.invariant (omega (
+  arith,
+  (let it : length (decode c.args.s.now).cues ≡ c.args.cues = let bs = c.args.s.now in
+      cues_decoded bs (each_below 256 bs (λ i. (c.type_inv.s i).fits)) c.requires.s_value ∙ sym c.requires.cues_value in it),
+))

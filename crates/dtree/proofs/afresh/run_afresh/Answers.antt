@@ -3,7 +3,6 @@
 use mathlib.Core.Path.{◌≡◌, sym, ap, subst, ◌∙◌}
 use mathlib.Core.Bool.{false}
 use mathlib.Core.List.{[]}
-use borrow.Author.Rules.{rules}
 use Rattle.rules.specs.Table.{Table, table}
 use Rattle.rules.specs.Calls.{run_number}
 use Rattle.records.specs.Records.{record_at, Good}
@@ -31,10 +30,10 @@ put_alone-requires c = cleared
 
 pub run_good-requires : goal.run_good-requires
 run_good-requires c = let rest = fit _ _ ((let it : tree_of c.put_alone.new.tree ≡ one_record (record_at ((table c.args.weights.now c.args.present.now c.args.absent.now)) [] []) = c.put_alone.ensures ∙ ap one_record c.root_leaf.ensures in it)) in record {
-      limits_value = (let it : run_number ((table c.args.weights.now c.args.present.now c.args.absent.now)) false c.args.limits ≡ 0 = let_through _ _ _ c.run_number-number.ensures c.if-number-ne0.false in it);
-      good = rest.0;
-      safe = rest.1;
-    }
+  limits_value = (let it : run_number ((table c.args.weights.now c.args.present.now c.args.absent.now)) false c.args.limits ≡ 0 = let_through _ _ _ c.run_number-number.ensures c.if-number-ne0.false in it);
+  good = rest.0;
+  safe = rest.1;
+}
 
 pub returns : goal.returns
 returns c = record { answer = ran-afresh _ _ _ _ ((let it : tree_of c.put_alone.new.tree ≡ one_record (record_at ((table c.args.weights.now c.args.present.now c.args.absent.now)) [] []) = c.put_alone.ensures ∙ ap one_record c.root_leaf.ensures in it)) c.run_good.ensures.promise.call.outcome_is }

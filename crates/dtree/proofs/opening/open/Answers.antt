@@ -1,7 +1,6 @@
 -- `open` meets its contract: a number refuses, none opens the root leaf.
 -- Rests on Opens.antt and the contracts of `clear`, `table_number`, `root_leaf` and `put_alone`.
 use mathlib.Core.Path.{sym, ◌∙◌}
-use borrow.Author.Rules.{rules}
 use Rattle.dtree.proofs.Opens.{refuses, opens}
 use Rattle.dtree.proofs.opening.open.Goals as goal
 

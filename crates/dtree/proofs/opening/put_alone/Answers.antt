@@ -1,7 +1,6 @@
 -- `put_alone` meets its contract: of the blank records the first is written, and one is in use.
 -- Rests on the contracts of `put_record` and `put_used`.
 use mathlib.Core.Path.{◌≡◌}
-use borrow.Author.Rules.{rules}
 use Rattle.records.specs.Records.{no_nodes}
 use Rattle.records.specs.declared.Node.{Node}
 use Rattle.records.specs.declared.Tree.{Tree}

@@ -21,16 +21,16 @@ from-ways t vs g x e h f = f ∙ rw (e, h) (root-record t)
 
 pub staying_rows-requires : goal.staying_rows-requires
 staying_rows-requires c = let ok = c.requires in record {
-      present_len_bound = few_ways _ ok;
-      absent_len = sym (paired_words _ ok);
-    }
+  present_len_bound = few_ways _ ok;
+  absent_len = sym (paired_words _ ok);
+}
 
 pub leaf_record-requires : goal.leaf_record-requires
 leaf_record-requires c = let ok = c.requires in record {
-      weights_len_bound = few_faults _ ok;
-      weights_value = light _ ok;
-      in_table = c.staying_rows.ensures.1;
-    }
+  weights_len_bound = few_faults _ ok;
+  weights_value = light _ ok;
+  in_table = c.staying_rows.ensures.1;
+}
 
 pub returns : goal.returns
 unfolding ways root_ways

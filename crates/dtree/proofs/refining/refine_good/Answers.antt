@@ -3,7 +3,6 @@
 use mathlib.Core.Path.{◌≡◌, sym}
 use mathlib.Core.List.{List}
 use Prim.Native.Nat.{ℕ}
-use borrow.Author.Rules.{rules}
 use Rattle.rules.specs.Table.{Table, table}
 use Rattle.rules.specs.Refusals.{Accepted}
 use Rattle.rules.specs.Calls.{by_hand}
@@ -40,23 +39,25 @@ module _ (t : Table) (x : Tree) (bs : List ℕ) (k : Kind) (r : Named) (told : T
 
 pub leaf_at-requires : goal.leaf_at-requires
 leaf_at-requires c = record {
-      present_len_bound = few_ways ((table c.args.weights.now c.args.present.now c.args.absent.now)) c.requires.accepted;
-      absent_len = sym (paired_words ((table c.args.weights.now c.args.present.now c.args.absent.now)) c.requires.accepted);
-      safe = c.requires.safe;
-    }
+  present_len_bound = few_ways ((table c.args.weights.now c.args.present.now c.args.absent.now)) c.requires.accepted;
+  absent_len = sym (paired_words ((table c.args.weights.now c.args.present.now c.args.absent.now)) c.requires.accepted);
+  safe = c.requires.safe;
+}
 
 pub refine_leaf-requires : goal.refine_leaf-requires
 refine_leaf-requires c = record {
-      accepted = c.requires.accepted;
-      good = c.requires.good;
-      safe = c.requires.safe;
-      refinable = refinable ((table c.args.weights.now c.args.present.now c.args.absent.now)) ((tree_of c.args.tree.now)) c.args.place.now c.args.kind c.leaf_at.result c.leaf_at.ensures
-              _ c.in-Leaf.is;
-    }
+  accepted = c.requires.accepted;
+  good = c.requires.good;
+  safe = c.requires.safe;
+  refinable = refinable ((table c.args.weights.now c.args.present.now c.args.absent.now)) ((tree_of c.args.tree.now)) c.args.place.now c.args.kind c.leaf_at.result c.leaf_at.ensures
+      _ c.in-Leaf.is;
+}
 
 pub returns-in-Refused : goal.returns-in-Refused
-returns-in-Refused c = record { promise = refused ((table c.args.weights.now c.args.present.now c.args.absent.now)) ((tree_of c.args.tree.now)) c.args.place.now c.args.kind c.leaf_at.result c.leaf_at.ensures c.requires.accepted c.requires.good _
-    c.in-Refused.is }
+returns-in-Refused c = record {
+  promise = refused ((table c.args.weights.now c.args.present.now c.args.absent.now)) ((tree_of c.args.tree.now)) c.args.place.now c.args.kind c.leaf_at.result c.leaf_at.ensures c.requires.accepted c.requires.good _
+      c.in-Refused.is;
+}
 
 pub returns-in-Leaf : goal.returns-in-Leaf
 returns-in-Leaf c = record { promise = c.refine_leaf.ensures.promise }

@@ -3,7 +3,6 @@
 use mathlib.Core.Path.{◌≡◌, sym}
 use mathlib.Core.List.{List}
 use Prim.Native.Nat.{ℕ, ◌+◌}
-use borrow.Author.Rules.{rules}
 use Rattle.rules.specs.Table.{Table, table}
 use Rattle.rules.specs.Refusals.{Accepted}
 use Rattle.rules.specs.declared.Kind.{Kind}
@@ -37,9 +36,9 @@ record_at-requires c = c.requires.refinable.inside
 
 pub ways_of-c-requires : goal.ways_of-c-requires
 ways_of-c-requires c = record {
-      present_len_bound = few_ways ((table c.args.weights.now c.args.present.now c.args.absent.now)) c.requires.accepted;
-      absent_len = sym (paired_words ((table c.args.weights.now c.args.present.now c.args.absent.now)) c.requires.accepted);
-    }
+  present_len_bound = few_ways ((table c.args.weights.now c.args.present.now c.args.absent.now)) c.requires.accepted;
+  absent_len = sym (paired_words ((table c.args.weights.now c.args.present.now c.args.absent.now)) c.requires.accepted);
+}
 
 pub grow-requires : goal.grow-requires
 grow-requires c = let g = c.requires.good in
@@ -53,5 +52,7 @@ grow-requires c = let g = c.requires.good in
     }
 
 pub returns : goal.returns
-returns c = record { promise = made_so ((table c.args.weights.now c.args.present.now c.args.absent.now)) ((tree_of c.args.tree.now)) c.args.place.now c.args.kind c.args.j c.requires.accepted c.requires.good c.requires.refinable _ c.grow.ensures _
-    c.record_at-root.ensures }
+returns c = record {
+  promise = made_so ((table c.args.weights.now c.args.present.now c.args.absent.now)) ((tree_of c.args.tree.now)) c.args.place.now c.args.kind c.args.j c.requires.accepted c.requires.good c.requires.refinable _ c.grow.ensures _
+      c.record_at-root.ensures;
+}

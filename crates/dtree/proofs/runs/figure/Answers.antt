@@ -2,7 +2,6 @@
 -- Rests on the contract of `width` and on the definition of `rules`, figure.
 use mathlib.Core.Path.{ap}
 use Prim.Native.Nat.{ℕ, ◌+◌, ◌/◌}
-use borrow.Author.Rules.{rules}
 use Rattle.rules.specs.Run.{figure}
 use Rattle.dtree.proofs.runs.figure.Goals as goal
 

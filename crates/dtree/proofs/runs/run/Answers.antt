@@ -3,12 +3,9 @@
 use mathlib.Core.Path.{◌≡◌}
 use mathlib.Core.Bool.{false}
 use native.Mathlib.Omega.{arith}
-use borrow.Author.Rules.{rules}
-use borrow.Author.Tests.{not-true, not-false}
-use Rattle.rules.specs.Table.{Table, table}
+use Rattle.rules.specs.Table.{table}
 use Rattle.rules.specs.Calls.{run_number}
 use Rattle.records.specs.Records.{Good}
-use Rattle.records.specs.declared.Tree.{Tree}
 use Rattle.store.specs.Lent.{tree_of}
 use Rattle.store.specs.Safe.{Safe}
 use Rattle.dtree.proofs.Refuses.{refused-call, before-sixteen, let_through, run-accepted, run-sixteen, found_bad, found_good}

@@ -1,7 +1,6 @@
 -- `run_number` meets its contract: the table's number, else that of the limits.
 -- Rests on Refuses.antt, on `rules`, Demand3, and on the contracts of `table_number` and `limit_number`.
 use mathlib.Core.Path.{sym, ◌∙◌}
-use borrow.Author.Rules.{rules}
 use Rattle.rules.proofs.Demand3.{run-number}
 use Rattle.dtree.proofs.Refuses.{run-table}
 use Rattle.dtree.proofs.runs.run_number.Goals as goal

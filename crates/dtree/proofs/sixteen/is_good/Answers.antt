@@ -3,12 +3,9 @@
 use mathlib.Core.Path.{sym, ap, ◌∙◌}
 use mathlib.Core.Bool.{true≢false}
 use native.Mathlib.Omega.{arith}
-use borrow.Author.Rules.{rules}
-use borrow.Author.Tests.{not-true, not-false}
-use Rattle.store.specs.Lent.{tree_of}
 use Rattle.store.proofs.Lent.{cleared}
 use Rattle.dtree.specs.Promises.{one_record}
-use Rattle.dtree.proofs.Again.{Answers, even, begun, compared, stops, goes}
+use Rattle.dtree.proofs.Again.{even, begun, compared, stops, goes}
 use Rattle.dtree.proofs.sixteen.is_good.Goals as goal
 
 pub returns-then-used-eq0 : goal.returns-then-used-eq0
@@ -25,11 +22,11 @@ loop-left-init c = begun _ c.requires _ _ c.used_in-used.ensures c.if-used-eq0.f
 
 pub remake-requires : goal.remake-requires
 remake-requires c = let ok = c.requires in record {
-      accepted = ok;
-      safe = c.loop-left.invariant.safe;
-      y_value = omega (arith, c.loop-left.invariant.to_go);
-      good = c.loop-left.invariant.good;
-    }
+  accepted = ok;
+  safe = c.loop-left.invariant.safe;
+  y_value = omega (arith, c.loop-left.invariant.to_go);
+  good = c.loop-left.invariant.good;
+}
 
 pub returns-then-not-remake : goal.returns-then-not-remake
 returns-then-not-remake c = (stops _ _ _ _ c.loop-left-test.true c.loop-left.invariant _ _ c.remake.ensures (c.if-not-remake.true), λ e. absurd (true≢false (sym e)))

@@ -3,8 +3,6 @@
 use mathlib.Core.Path.{◌≡◌, refl, sym, ap, ◌∙◌}
 use mathlib.Core.Bool.{Bool, true, false, true≢false, ◌&&◌}
 use mathlib.Core.List.{List}
-use borrow.Author.Rules.{rules}
-use borrow.Author.Tests.{not-true, not-false}
 use Rattle.rules.specs.Tree.{possible}
 use Rattle.rules.specs.declared.Kind.{Kind}
 use Rattle.rules.specs.declared.Way.{Way}
@@ -20,8 +18,7 @@ pub returns-then-not-is_live : goal.returns-then-not-is_live
 returns-then-not-is_live c = (λ ws. closed _ _ (sym c.is_live.ensures ∙ c.if-not-is_live.true), λ e. absurd (true≢false (sym e)))
 
 pub returns : goal.returns
-returns c = let p = c.possible.ensures in
-    (
-      λ ws. live _ _ _ _ _ (sym c.is_live.ensures ∙ c.if-not-is_live.false) (c.requires.ways_are ws) p.0,
-      p.1,
-    )
+returns c = let p = c.possible.ensures in (
+  λ ws. live _ _ _ _ _ (sym c.is_live.ensures ∙ c.if-not-is_live.false) (c.requires.ways_are ws) p.0,
+  p.1,
+)

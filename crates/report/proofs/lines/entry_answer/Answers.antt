@@ -6,7 +6,6 @@ use mathlib.Core.List.{List}
 use Prim.Native.Nat.{ℕ}
 use lib.ListN.{take, length-take}
 use native.Mathlib.Omega.{arith}
-use borrow.Author.Rules.{rules}
 use Rattle.rules.specs.Tree.{leaf}
 use Rattle.rules.specs.Calls.{run_answer}
 use Rattle.rules.specs.declared.Limits.{Limits}

@@ -1,6 +1,5 @@
 -- `append_ended` meets its contract: four fields and the word, each behind the one before it.
 -- Rests on the contracts of `append_decimal` and `append_word`, and on Appending.antt.
-use borrow.Author.Rules.{rules}
 use Rattle.rules.specs.Text.{bytes, decimal, word}
 use Rattle.report.specs.Lines.{ended_text}
 use Rattle.report.proofs.Appending.{then-two}

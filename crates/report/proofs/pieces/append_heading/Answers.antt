@@ -1,6 +1,5 @@
 -- `append_heading` meets its contract.
 -- Rests on the contract of `append`.
-use borrow.Author.Rules.{rules}
 use Rattle.rules.specs.Text.{bytes}
 use Rattle.report.proofs.pieces.append_heading.Goals as goal
 

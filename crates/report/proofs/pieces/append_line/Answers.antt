@@ -1,7 +1,6 @@
 -- `append_line` meets its contract, answer by answer.
 -- Rests on the contracts of `append_ended` and `append_refused`.
 use mathlib.Core.Path.{ap}
-use borrow.Author.Rules.{rules}
 use Rattle.report.specs.Lines.{answer_text}
 use Rattle.report.proofs.Appending.{said}
 use Rattle.report.proofs.pieces.append_line.Goals as goal

@@ -1,6 +1,5 @@
 -- `append_refused` meets its contract: the number and the line feed behind the word.
 -- Rests on the contracts of `append` and `append_decimal`, and on Appending.antt.
-use borrow.Author.Rules.{rules}
 use Rattle.rules.specs.Text.{bytes, decimal}
 use Rattle.report.specs.Lines.{refused_text}
 use Rattle.report.proofs.Appending.{then-two}

@@ -3,7 +3,6 @@
 use mathlib.Core.Path.{ap}
 use mathlib.Core.List.{List, ◌++◌}
 use Prim.Native.Nat.{ℕ}
-use borrow.Author.Rules.{rules}
 use Rattle.rules.specs.Text.{bytes, word}
 use Rattle.rules.specs.declared.Verdict.{Verdict}
 use Rattle.report.proofs.Appending.{said}

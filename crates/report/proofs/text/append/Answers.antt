@@ -1,11 +1,7 @@
 -- `append` meets its contract. The loop's invariant: what is left of the piece, appended to what stands, gives the whole.
 -- Rests on Appending.antt.
-use Prim.Native.Nat.{◌-◌}
 use mathlib.Core.Path.{refl}
-use borrow.Author.Rules.{rules}
-use lib.ListN.{length}
-use Rattle.report.specs.Appended.{text_of}
-use Rattle.report.proofs.Appending.{Left, left_full, left_none, left_next}
+use Rattle.report.proofs.Appending.{left_full, left_none, left_next}
 use Rattle.report.proofs.text.append.Goals as goal
 
 pub loop-i-init : goal.loop-i-init

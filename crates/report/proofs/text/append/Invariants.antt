@@ -1,11 +1,9 @@
 -- `append` meets its contract. The loop's invariant: what is left of the piece, appended to what stands, gives the whole.
 -- Rests on Appending.antt.
 use Prim.Native.Nat.{◌-◌}
-use mathlib.Core.Path.{refl}
-use borrow.Author.Rules.{rules}
 use lib.ListN.{length}
 use Rattle.report.specs.Appended.{text_of}
-use Rattle.report.proofs.Appending.{Left, left_full, left_none, left_next}
+use Rattle.report.proofs.Appending.{Left}
 use Rattle.report.proofs.text.append.Given as goal
 
 abbrev pub invariant-loop-i : goal.invariant-loop-i

@@ -3,7 +3,6 @@
 use mathlib.Core.Path.{ap, refl, ◌∙◌}
 use mathlib.Core.List.{[], ◌∷◌}
 use Prim.Native.Nat.{◌-◌}
-use borrow.Author.Rules.{rules}
 use Rattle.rules.specs.Text.{decimal}
 use Rattle.decimal.proofs.Finding.{taken-digits}
 use Rattle.report.specs.Appended.{appended}

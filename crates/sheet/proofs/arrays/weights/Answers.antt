@@ -1,9 +1,8 @@
 -- `weights` meets its contract. The loop's invariant: the array holds the first i weights, and zeros behind them.
 -- Rests on Sized.antt and the contracts of `weights_in`, `faults_in`, `at_most` and `u32_at`.
 use mathlib.Core.Path.{◌≡◌, ap, ap₂, ◌∙◌}
-use Prim.Native.Nat.{ℕ, ◌-◌, ◌≤◌, min}
+use Prim.Native.Nat.{ℕ, min}
 use native.Mathlib.Omega.{arith}
-use borrow.Author.Rules.{rules}
 use lib.ListN.{length}
 use Rattle.rules.specs.Sheet.{column}
 use Rattle.sheet.specs.Handed.{sized}

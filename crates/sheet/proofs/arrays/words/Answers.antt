@@ -1,9 +1,8 @@
 -- `words` meets its contract. The loop's invariant: the array holds the first i words, and zeros behind them.
 -- Rests on Sized.antt and the contracts of `at_most` and `u64_at`.
 use mathlib.Core.Path.{◌≡◌, ap, ◌∙◌}
-use Prim.Native.Nat.{ℕ, ◌-◌, ◌≤◌, min}
+use Prim.Native.Nat.{ℕ, min}
 use native.Mathlib.Omega.{arith}
-use borrow.Author.Rules.{rules}
 use lib.ListN.{length}
 use Rattle.rules.specs.Sheet.{column}
 use Rattle.sheet.specs.Handed.{sized}

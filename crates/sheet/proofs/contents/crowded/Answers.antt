@@ -1,13 +1,9 @@
 -- `crowded` meets its contract. The loop's invariant: the counts from i on answer for all.
 -- Rests on Columns.antt and the contracts of `cues_in` and `u16_at`.
-use mathlib.Core.Path.{◌≡◌}
-use Prim.Native.Nat.{◌-◌, ◌≤◌}
 use native.Mathlib.Omega.{arith}
-use borrow.Author.Rules.{rules}
 use borrow.Author.Tests.{lt-ltb, le-ltb}
 use Rattle.rules.specs.Refusals.{crowded, some_above}
-use Rattle.rules.specs.Sheet.{counts_in}
-use Rattle.sheet.proofs.Columns.{left, begun, forward, ended}
+use Rattle.sheet.proofs.Columns.{begun, forward, ended}
 use Rattle.sheet.proofs.contents.crowded.Goals as goal
 
 pub loop-i-init : goal.loop-i-init

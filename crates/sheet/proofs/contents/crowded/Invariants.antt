@@ -2,12 +2,9 @@
 -- Rests on Columns.antt and the contracts of `cues_in` and `u16_at`.
 use mathlib.Core.Path.{◌≡◌}
 use Prim.Native.Nat.{◌-◌, ◌≤◌}
-use native.Mathlib.Omega.{arith}
-use borrow.Author.Rules.{rules}
-use borrow.Author.Tests.{lt-ltb, le-ltb}
-use Rattle.rules.specs.Refusals.{crowded, some_above}
+use Rattle.rules.specs.Refusals.{crowded}
 use Rattle.rules.specs.Sheet.{counts_in}
-use Rattle.sheet.proofs.Columns.{left, begun, forward, ended}
+use Rattle.sheet.proofs.Columns.{left}
 use Rattle.sheet.proofs.contents.crowded.Given as goal
 
 abbrev pub invariant-loop-i : goal.invariant-loop-i

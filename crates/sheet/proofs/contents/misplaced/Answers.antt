@@ -1,14 +1,12 @@
 -- `misplaced` meets its contract. The loop's invariant: the places and counts from i on, the body of cue i starting at `start`, answer for all.
 -- Rests on Columns.antt and the contracts of `cues_in`, `bodies_in`, `u32_at` and `u16_at`.
-use mathlib.Core.Path.{◌≡◌, refl, ap, ◌∙◌}
-use mathlib.Core.Bool.{Bool, not}
-use mathlib.Core.List.{List}
-use Prim.Native.Nat.{ℕ, ◌+◌, ◌-◌, ◌*◌, ◌≤◌}
+use mathlib.Core.Path.{refl, ap, ◌∙◌}
+use mathlib.Core.Bool.{not}
+use Prim.Native.Nat.{ℕ}
 use native.Mathlib.Omega.{arith}
-use borrow.Author.Rules.{rules}
 use borrow.Author.Tests.{eq-eqb, ne_eqb}
-use Rattle.rules.specs.Sheet.{starts, same_numbers, places_in, counts_in, bodies_in}
-use Rattle.sheet.proofs.Columns.{left, begun_both, forward_both, ended_both}
+use Rattle.rules.specs.Sheet.{starts, same_numbers, places_in, counts_in}
+use Rattle.sheet.proofs.Columns.{begun_both, forward_both, ended_both}
 use Rattle.sheet.proofs.contents.misplaced.Invariants.{agree}
 use Rattle.sheet.proofs.contents.misplaced.Goals as goal
 

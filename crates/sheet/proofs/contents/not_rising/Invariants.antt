@@ -1,14 +1,10 @@
 -- `not_rising` meets its contract. The loop's invariant: the numbers from i on, after the last one, answer for all.
 -- Rests on Columns.antt and the contracts of `cues_in` and `u16_at`.
-use mathlib.Core.Path.{◌≡◌, ap}
-use mathlib.Core.Bool.{not}
+use mathlib.Core.Path.{◌≡◌}
 use Prim.Native.Nat.{◌-◌, ◌≤◌}
-use native.Mathlib.Omega.{arith}
-use borrow.Author.Rules.{rules}
-use borrow.Author.Tests.{lt-ltb, le-ltb}
-use Rattle.rules.specs.Refusals.{rising, not_rising}
+use Rattle.rules.specs.Refusals.{rising}
 use Rattle.rules.specs.Sheet.{numbers_in}
-use Rattle.sheet.proofs.Columns.{left, begun, forward, ended}
+use Rattle.sheet.proofs.Columns.{left}
 use Rattle.sheet.proofs.contents.not_rising.Given as goal
 
 abbrev pub invariant-loop-i : goal.invariant-loop-i

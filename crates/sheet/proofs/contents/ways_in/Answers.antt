@@ -3,7 +3,6 @@
 use mathlib.Core.Path.{ap, ◌∙◌}
 use Prim.Native.Nat.{ℕ}
 use native.Mathlib.Omega.{arith}
-use borrow.Author.Rules.{rules}
 use Rattle.rules.specs.Sheet.{column, total}
 use Rattle.sheet.proofs.contents.ways_in.Goals as goal
 

@@ -1,12 +1,9 @@
 -- `ways_of` meets its contract. The loop's invariant: the sum so far and the counts from i on give the sum of all.
 -- Rests on Columns.antt and the contract of `u16_at`.
-use mathlib.Core.Path.{◌≡◌, refl}
-use mathlib.Core.List.{List}
-use Prim.Native.Nat.{ℕ, ◌+◌, ◌-◌, ◌*◌, ◌≤◌}
-use native.Mathlib.Omega.{arith}
-use borrow.Author.Rules.{rules}
+use mathlib.Core.Path.{◌≡◌}
+use Prim.Native.Nat.{◌+◌, ◌-◌, ◌*◌, ◌≤◌}
 use Rattle.rules.specs.Sheet.{column, total}
-use Rattle.sheet.proofs.Columns.{left, begun, forward, ended}
+use Rattle.sheet.proofs.Columns.{left}
 use Rattle.sheet.proofs.contents.ways_of.Given as goal
 
 abbrev pub invariant-loop-i : goal.invariant-loop-i

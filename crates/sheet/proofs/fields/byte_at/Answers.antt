@@ -1,7 +1,6 @@
 -- `byte_at` meets its contract: beyond the end a list gives 0.
 -- Rests on Halves.antt and the kit's laws of lists.
 use mathlib.Core.Path.{sym, ◌∙◌}
-use borrow.Author.Rules.{rules}
 use lib.ListN.{get_or-eq_default}
 use Rattle.sheet.proofs.Halves.{field-byte}
 use Rattle.sheet.proofs.fields.byte_at.Goals as goal

@@ -1,7 +1,6 @@
 -- `first_u32` meets its contract: its number is that of two halves, each of two bytes.
 -- Rests on Halves.antt and the contracts of `byte_at` and `pair`.
 use mathlib.Core.Path.{◌≡◌, ◌∙◌}
-use borrow.Author.Rules.{rules}
 use Rattle.rules.specs.Sheet.{field}
 use Rattle.sheet.proofs.Halves.{joined}
 use Rattle.sheet.proofs.fields.first_u32.Goals as goal

@@ -1,10 +1,8 @@
 -- `rest` meets its contract: beyond the end of a list there is nothing to drop to.
 -- Rests on the kit's laws of lists.
-use mathlib.Core.Path.{sym}
 use Prim.Native.Nat.{◌-◌}
 use native.Mathlib.Omega.{arith}
-use borrow.Author.Rules.{rules}
-use lib.ListN.{length, drop, length-drop, drop_of_length-le}
+use lib.ListN.{length, drop, length-drop}
 use lib.Seq.{take_all}
 use Rattle.sheet.proofs.fields.rest.Goals as goal
 

@@ -1,7 +1,6 @@
 -- `u16_at` meets its contract: its number is that of its two bytes.
 -- Rests on Halves.antt and the contracts of `rest`, `byte_at` and `pair`.
 use mathlib.Core.Path.{◌∙◌}
-use borrow.Author.Rules.{rules}
 use Rattle.sheet.proofs.Halves.{field-front, joined}
 use Rattle.sheet.proofs.fields.u16_at.Goals as goal
 

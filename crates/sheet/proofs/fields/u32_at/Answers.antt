@@ -1,7 +1,6 @@
 -- `u32_at` meets its contract: its number is that of the first bytes of the rest, or that of the two halves of its bytes.
 -- Rests on Halves.antt and the contracts of `rest`, `first_u32` and `u16_at`.
 use mathlib.Core.Path.{◌∙◌}
-use borrow.Author.Rules.{rules}
 use Rattle.sheet.proofs.Halves.{field-front, joined}
 use Rattle.sheet.proofs.fields.u32_at.Goals as goal
 

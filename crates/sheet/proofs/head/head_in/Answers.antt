@@ -1,6 +1,5 @@
 -- `head_in` meets its contract, field by field.
 -- Rests on the contracts of `limits_in` and `u16_at`.
-use borrow.Author.Rules.{rules}
 use Rattle.rules.specs.Sheet.{head_in}
 use Rattle.sheet.proofs.head.head_in.Goals as goal
 

@@ -1,6 +1,5 @@
 -- `limits_in` meets its contract, field by field.
 -- Rests on the contracts of `u32_at` and `u16_at`.
-use borrow.Author.Rules.{rules}
 use Rattle.sheet.proofs.head.limits_in.Goals as goal
 
 pub returns : goal.returns

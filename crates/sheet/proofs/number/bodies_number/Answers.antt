@@ -1,7 +1,6 @@
 -- `bodies_number` meets its contract: each answer is the number of the first refusal that applies.
 -- Rests on the laws of `first` (`rules`, First) and the contracts of the tests.
 use mathlib.Core.Path.{sym, ap, ◌∙◌}
-use borrow.Author.Rules.{rules}
 use Rattle.rules.specs.Refusals.{first, way_refusals, limit_refusals}
 use Rattle.rules.specs.Sheet.{read_refusals}
 use Rattle.rules.specs.declared.Limits.{Limits}

@@ -2,7 +2,6 @@
 -- Rests on the contracts of `faults_in`, `faults_outside`, `cues_in` and `cues_outside`.
 use mathlib.Core.Path.{◌≡◌, sym, ap, ◌∙◌}
 use mathlib.Core.Bool.{false}
-use borrow.Author.Rules.{rules}
 use Rattle.rules.specs.Refusals.{faults_outside, cues_outside}
 use Rattle.rules.specs.Sheet.{faults_in}
 use Rattle.rules.proofs.Booleans.{or-first}

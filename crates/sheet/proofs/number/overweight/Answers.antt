@@ -2,7 +2,6 @@
 -- Rests on Sized.antt and the contracts of `weights`, `faults_in` and `checks::lists::overweight`.
 use mathlib.Core.Path.{◌≡◌, sym, ap, ◌∙◌}
 use native.Mathlib.Omega.{arith}
-use borrow.Author.Rules.{rules}
 use lib.ListN.{length}
 use lib.Seq.{length-take-le}
 use Rattle.rules.specs.Refusals.{overweight}

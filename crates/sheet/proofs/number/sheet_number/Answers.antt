@@ -1,9 +1,6 @@
 -- `sheet_number` meets its contract: each answer is the number of the first refusal that applies.
 -- Rests on the laws of `first` (`rules`, First) and the contracts of the tests.
 use mathlib.Core.Path.{◌≡◌, sym, ap, ◌∙◌}
-use mathlib.Core.List.{List}
-use Prim.Native.Nat.{ℕ}
-use borrow.Author.Rules.{rules}
 use borrow.Author.Tests.{lt-ltb, le-ltb}
 use lib.Dec.{ltb}
 use lib.ListN.{length, drop}

@@ -3,7 +3,6 @@
 use mathlib.Core.Path.{◌≡◌, ap}
 use Prim.Native.Nat.{ℕ, ◌+◌, ◌-◌, ◌*◌}
 use native.Mathlib.Omega.{arith}
-use borrow.Author.Rules.{rules}
 use lib.ListN.{length, take, drop}
 use borrow.Author.Tests.{le-leb, lt-leb}
 use Rattle.rules.specs.Sheet.{body_in}
@@ -13,8 +12,10 @@ use Rattle.sheet.proofs.reader.body.Goals as goal
 pub returns-then-end-s : goal.returns-then-end-s
 unfolding body_or body_by body_in
 returns-then-end-s c = let a = c.args in
-    let size : a.e.start + 16 * a.e.ways - a.e.start ≡ 16 * a.e.ways = omega arith in record { body = rw (le-leb (a.e.start + 16 * a.e.ways) (length a.s.now) c.if-end-s.true)
-    (ap (λ (n : ℕ). take n (drop a.e.start a.s.now)) size) }
+    let size : a.e.start + 16 * a.e.ways - a.e.start ≡ 16 * a.e.ways = omega arith in record {
+      body = rw (le-leb (a.e.start + 16 * a.e.ways) (length a.s.now) c.if-end-s.true)
+          (ap (λ (n : ℕ). take n (drop a.e.start a.s.now)) size);
+    }
 
 pub returns : goal.returns
 unfolding body_or body_by

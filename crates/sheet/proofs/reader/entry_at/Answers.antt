@@ -3,7 +3,6 @@
 use mathlib.Core.Path.{sym, ap, ap₂, ◌∙◌}
 use Prim.Native.Nat.{ℕ, ◌+◌, ◌*◌, ◌<◌}
 use native.Mathlib.Omega.{arith}
-use borrow.Author.Rules.{rules}
 use lib.ListN.{length}
 use Rattle.rules.specs.Sheet.{total, cues_in, counts_in, bodies_in, entry_in}
 use Rattle.rules.proofs.Bytes.{length-column}

@@ -3,7 +3,6 @@
 use mathlib.Core.Path.{◌≡◌, refl, sym, ap, ◌∙◌}
 use mathlib.Core.List.{List}
 use Prim.Native.Nat.{ℕ, zero, suc}
-use borrow.Author.Rules.{rules}
 use Rattle.rules.specs.Answers.{counted_by, read_reply}
 use Rattle.rules.specs.Sheet.{read_answer, read_answer_by, read_number, head_in}
 use Rattle.rules.specs.declared.Head.{Head}

@@ -1,6 +1,5 @@
 -- `amiss` meets its contract, by which of the tests it is.
 -- Rests on the contracts of `names_both` and `names_beyond`.
-use borrow.Author.Rules.{rules}
 use Rattle.sheet.proofs.rows.amiss.Goals as goal
 
 pub returns-then-both : goal.returns-then-both

@@ -1,18 +1,15 @@
 -- `rows_amiss` meets its contract. The loop's invariant: the rows from i on answer for all.
 -- Rests on WayRows.antt and the contracts of `bodies_in`, `ways_in`, `u64_at` and `amiss`.
 use mathlib.Core.Path.{◌≡◌, refl, sym, ◌∙◌}
-use mathlib.Core.Bool.{Bool, true, false, not, ◌||◌}
+use mathlib.Core.Bool.{Bool, true, false}
 use mathlib.Core.List.{List}
-use Prim.Native.Nat.{ℕ, ◌-◌, ◌^◌, ◌≤◌}
+use Prim.Native.Nat.{ℕ}
 use native.Mathlib.Omega.{arith}
-use borrow.Author.Rules.{rules}
-use lib.Dec.{eqb, leb}
-use lib.Bits.{bit_and}
 use Rattle.rules.specs.Table.{rows}
 use Rattle.rules.specs.Refusals.{names_beyond, names_both}
 use Rattle.rules.specs.Sheet.{present_in, absent_in}
 use Rattle.sheet.specs.Amiss.{amiss}
-use Rattle.sheet.proofs.WayRows.{some_row, some_left, begun_rows, ended_rows, row_found, row_passed}
+use Rattle.sheet.proofs.WayRows.{some_row, begun_rows, ended_rows, row_found, row_passed}
 use Rattle.sheet.proofs.rows.rows_amiss.Invariants.{test}
 use Rattle.sheet.proofs.rows.rows_amiss.Goals as goal
 

@@ -2,7 +2,6 @@
 -- Rests on the contracts of `faults_in` and `rows_amiss`.
 use mathlib.Core.Path.{ap, ◌∙◌}
 use Prim.Native.Nat.{ℕ}
-use borrow.Author.Rules.{rules}
 use Rattle.rules.specs.Table.{rows}
 use Rattle.rules.specs.Refusals.{names_beyond}
 use Rattle.rules.specs.Sheet.{present_in, absent_in}

@@ -4,11 +4,10 @@ use mathlib.Core.Path.{◌≡◌, refl, ap}
 use mathlib.Core.List.{[], ◌∷◌, ◌++◌}
 use Prim.Native.Nat.{ℕ, zero, suc, ◌-◌, ◌/◌, ◌%◌, ◌<◌, ◌≤◌}
 use native.Mathlib.Omega.{arith}
-use borrow.Author.Rules.{rules}
 use lib.ListN.{length}
 use Rattle.rules.specs.Sheet.{little}
 use Rattle.rules.proofs.Bytes.{length-little}
-use Rattle.writer.proofs.Over.{Left, left-all, left_long, left_room, left_none, next_written, wrote-byte}
+use Rattle.writer.proofs.Over.{left-all, left_long, left_room, left_none, next_written, wrote-byte}
 use Rattle.writer.proofs.pieces.put.Goals as goal
 
 -- The lowest byte, and the others.
@@ -31,8 +30,12 @@ bounds-space-next c = (let it : c.loop-left.next < length c.loop-left.space = le
     omega (arith, left_room c.requires l.invariant, length-little l.left l.rest) in it)
 
 pub overflow_add-next : goal.overflow_add-next
-overflow_add-next c = omega (arith, (let it : c.loop-left.next < length c.loop-left.space = let l = c.loop-left in
-    omega (arith, left_room c.requires l.invariant, length-little l.left l.rest) in it), left_long c.requires c.loop-left.invariant)
+overflow_add-next c = omega (
+  arith,
+  (let it : c.loop-left.next < length c.loop-left.space = let l = c.loop-left in
+      omega (arith, left_room c.requires l.invariant, length-little l.left l.rest) in it),
+  left_long c.requires c.loop-left.invariant,
+)
 
 pub loop-left-preserved : goal.loop-left-preserved
 loop-left-preserved c = let l = c.loop-left in

@@ -1,14 +1,7 @@
 -- `put` meets its contract. The loop's invariant: the bytes of what remains of the number are left to write.
 -- Rests on Over.antt.
-use mathlib.Core.Path.{◌≡◌, refl, ap}
-use mathlib.Core.List.{[], ◌∷◌, ◌++◌}
-use Prim.Native.Nat.{ℕ, zero, suc, ◌-◌, ◌/◌, ◌%◌, ◌<◌, ◌≤◌}
-use native.Mathlib.Omega.{arith}
-use borrow.Author.Rules.{rules}
-use lib.ListN.{length}
 use Rattle.rules.specs.Sheet.{little}
-use Rattle.rules.proofs.Bytes.{length-little}
-use Rattle.writer.proofs.Over.{Left, left-all, left_long, left_room, left_none, next_written, wrote-byte}
+use Rattle.writer.proofs.Over.{Left}
 use Rattle.writer.proofs.pieces.put.Given as goal
 
 abbrev pub invariant-loop-left : goal.invariant-loop-left

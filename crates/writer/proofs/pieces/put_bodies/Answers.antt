@@ -2,12 +2,11 @@
 -- Rests on Over.antt, Walk.antt and the contract of `put_way`.
 use mathlib.Core.Path.{◌≡◌, ap}
 use mathlib.Core.List.{List, ◌++◌}
-use Prim.Native.Nat.{ℕ, ◌+◌, ◌-◌, ◌<◌, ◌≤◌}
+use Prim.Native.Nat.{ℕ, ◌+◌, ◌<◌}
 use native.Mathlib.Omega.{arith}
-use borrow.Author.Rules.{rules}
 use lib.ListN.{length, get_or, drop, drop_of_length-le}
 use Rattle.rules.specs.Sheet.{little, body_bytes}
-use Rattle.writer.proofs.Over.{Left, left-all, left_long, left_none, next_room, next_written}
+use Rattle.writer.proofs.Over.{left-all, left_long, left_none, next_room, next_written}
 use Rattle.writer.proofs.Walk.{drop-next}
 use Rattle.writer.proofs.pieces.put_bodies.Goals as goal
 
@@ -27,11 +26,11 @@ put_way-next-requires c = next_room _ c.requires.room
 
 pub loop-i-preserved : goal.loop-i-preserved
 loop-i-preserved c = (
-      omega arith,
-      next_written _ c.requires.room
-          (rw (next_way c.args.present.now c.args.absent.now c.loop-i.i (omega arith) c.requires.absent_len) at c.loop-i.invariant.1)
-          c.put_way-next.ensures,
-    )
+  omega arith,
+  next_written _ c.requires.room
+      (rw (next_way c.args.present.now c.args.absent.now c.loop-i.i (omega arith) c.requires.absent_len) at c.loop-i.invariant.1)
+      c.put_way-next.ensures,
+)
 
 pub shape_of-space : goal.shape_of-space
 shape_of-space c = left_long c.requires.room c.loop-i.invariant.1

@@ -2,13 +2,12 @@
 -- Rests on Over.antt, Walk.antt and the contract of `put_row`.
 use mathlib.Core.Path.{◌≡◌, refl, ap}
 use mathlib.Core.List.{List, ◌++◌}
-use Prim.Native.Nat.{ℕ, ◌+◌, ◌*◌, ◌-◌, ◌<◌, ◌≤◌}
+use Prim.Native.Nat.{ℕ, ◌+◌, ◌*◌, ◌<◌, ◌≤◌}
 use native.Mathlib.Omega.{arith}
-use borrow.Author.Rules.{rules}
 use lib.ListN.{length, get_or, drop, drop_of_length-le}
-use Rattle.rules.specs.Sheet.{little, total, starts}
+use Rattle.rules.specs.Sheet.{little, starts}
 use Rattle.rules.proofs.Laid.{entries}
-use Rattle.writer.proofs.Over.{Left, left-all, left_long, left_none, next_room, next_written}
+use Rattle.writer.proofs.Over.{left-all, left_long, left_none, next_room, next_written}
 use Rattle.writer.proofs.Walk.{drop-next, total-next}
 use Rattle.writer.proofs.pieces.put_contents.Goals as goal
 
@@ -42,12 +41,12 @@ overflow_add-place c = omega (arith, (let it : c.loop-i.place + 16 * get_or c.ar
 
 pub loop-i-preserved : goal.loop-i-preserved
 loop-i-preserved c = (
-      omega arith,
-      omega (arith, total-next c.args.counts.now c.loop-i.i (omega arith), c.loop-i.invariant.1),
-      next_written _ c.requires.room
-          (rw (next-entry c.args.numbers.now c.args.counts.now c.loop-i.i c.loop-i.place (omega arith) c.requires.counts_len) at c.loop-i.invariant.2)
-          c.put_row-next.ensures,
-    )
+  omega arith,
+  omega (arith, total-next c.args.counts.now c.loop-i.i (omega arith), c.loop-i.invariant.1),
+  next_written _ c.requires.room
+      (rw (next-entry c.args.numbers.now c.args.counts.now c.loop-i.i c.loop-i.place (omega arith) c.requires.counts_len) at c.loop-i.invariant.2)
+      c.put_row-next.ensures,
+)
 
 pub shape_of-space : goal.shape_of-space
 shape_of-space c = left_long c.requires.room c.loop-i.invariant.2

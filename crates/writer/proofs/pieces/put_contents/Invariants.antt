@@ -1,15 +1,11 @@
 -- `put_contents` meets its contract. The loop's invariant: the entries of the cues from i on are left to write, and their bodies end where all end.
 -- Rests on Over.antt, Walk.antt and the contract of `put_row`.
-use mathlib.Core.Path.{◌≡◌, refl, ap}
-use mathlib.Core.List.{List, ◌++◌}
-use Prim.Native.Nat.{ℕ, ◌+◌, ◌*◌, ◌-◌, ◌<◌, ◌≤◌}
-use native.Mathlib.Omega.{arith}
-use borrow.Author.Rules.{rules}
-use lib.ListN.{length, get_or, drop, drop_of_length-le}
-use Rattle.rules.specs.Sheet.{little, total, starts}
+use mathlib.Core.Path.{◌≡◌}
+use Prim.Native.Nat.{◌+◌, ◌*◌, ◌-◌, ◌≤◌}
+use lib.ListN.{length, drop}
+use Rattle.rules.specs.Sheet.{total, starts}
 use Rattle.rules.proofs.Laid.{entries}
-use Rattle.writer.proofs.Over.{Left, left-all, left_long, left_none, next_room, next_written}
-use Rattle.writer.proofs.Walk.{drop-next, total-next}
+use Rattle.writer.proofs.Over.{Left}
 use Rattle.writer.proofs.pieces.put_contents.Given as goal
 
 abbrev pub invariant-loop-i : goal.invariant-loop-i

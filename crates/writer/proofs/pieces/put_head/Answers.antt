@@ -1,7 +1,7 @@
 -- `put_head` meets its contract: a row and two numbers, each behind the one before it.
 -- Rests on Over.antt, for three pieces, and on the contracts of `put_row` and `put`.
 use Rattle.rules.specs.Sheet.{head_bytes}
-use Rattle.writer.proofs.Over.{wrote-long, first-room, second_room, third-room, wrote-three}
+use Rattle.writer.proofs.Over.{first-room, second_room, third-room, wrote-three}
 use Rattle.writer.proofs.pieces.put_head.Goals as goal
 
 pub put_row-next-requires : goal.put_row-next-requires

@@ -1,6 +1,6 @@
 -- `put_row` meets its contract: three numbers, each behind the one before it.
 -- Rests on Over.antt, for three pieces, and on the contract of `put`.
-use Rattle.writer.proofs.Over.{wrote-long, first-room, second_room, third-room, wrote-three}
+use Rattle.writer.proofs.Over.{first-room, second_room, third-room, wrote-three}
 use Rattle.writer.proofs.pieces.put_row.Goals as goal
 
 pub put-next-requires : goal.put-next-requires

@@ -1,6 +1,6 @@
 -- `put_way` meets its contract: two words, one behind the other.
 -- Rests on Over.antt and the contract of `put`.
-use Rattle.writer.proofs.Over.{wrote-long, room-first, room_second, wrote_both}
+use Rattle.writer.proofs.Over.{room-first, room_second, wrote_both}
 use Rattle.writer.proofs.pieces.put_way.Goals as goal
 
 pub put-next-requires : goal.put-next-requires

@@ -2,12 +2,11 @@
 -- Rests on Over.antt, Walk.antt and the contract of `put`.
 use mathlib.Core.Path.{◌≡◌, ap}
 use mathlib.Core.List.{List, ◌++◌}
-use Prim.Native.Nat.{ℕ, ◌+◌, ◌-◌, ◌<◌, ◌≤◌}
+use Prim.Native.Nat.{ℕ, ◌+◌, ◌<◌}
 use native.Mathlib.Omega.{arith}
-use borrow.Author.Rules.{rules}
 use lib.ListN.{length, get_or, drop, drop_of_length-le}
 use Rattle.rules.specs.Sheet.{little, weights_bytes}
-use Rattle.writer.proofs.Over.{Left, left-all, left_long, left_none, next_room, next_written}
+use Rattle.writer.proofs.Over.{left-all, left_long, left_none, next_room, next_written}
 use Rattle.writer.proofs.Walk.{drop-next}
 use Rattle.writer.proofs.pieces.put_weights.Goals as goal
 
@@ -28,9 +27,9 @@ put-next-requires c = next_room _ c.requires (rw (next-weight c.args.weights.now
 
 pub loop-i-preserved : goal.loop-i-preserved
 loop-i-preserved c = (
-      omega arith,
-      next_written _ c.requires (rw (next-weight c.args.weights.now c.loop-i.i (omega arith)) at c.loop-i.invariant.1) c.put-next.ensures,
-    )
+  omega arith,
+  next_written _ c.requires (rw (next-weight c.args.weights.now c.loop-i.i (omega arith)) at c.loop-i.invariant.1) c.put-next.ensures,
+)
 
 pub shape_of-space : goal.shape_of-space
 shape_of-space c = left_long c.requires c.loop-i.invariant.1

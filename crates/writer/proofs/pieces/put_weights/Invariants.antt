@@ -1,14 +1,9 @@
 -- `put_weights` meets its contract. The loop's invariant: the bytes of the weights from i on are left to write.
 -- Rests on Over.antt, Walk.antt and the contract of `put`.
-use mathlib.Core.Path.{◌≡◌, ap}
-use mathlib.Core.List.{List, ◌++◌}
-use Prim.Native.Nat.{ℕ, ◌+◌, ◌-◌, ◌<◌, ◌≤◌}
-use native.Mathlib.Omega.{arith}
-use borrow.Author.Rules.{rules}
-use lib.ListN.{length, get_or, drop, drop_of_length-le}
-use Rattle.rules.specs.Sheet.{little, weights_bytes}
-use Rattle.writer.proofs.Over.{Left, left-all, left_long, left_none, next_room, next_written}
-use Rattle.writer.proofs.Walk.{drop-next}
+use Prim.Native.Nat.{◌-◌, ◌≤◌}
+use lib.ListN.{length, drop}
+use Rattle.rules.specs.Sheet.{weights_bytes}
+use Rattle.writer.proofs.Over.{Left}
 use Rattle.writer.proofs.pieces.put_weights.Given as goal
 
 abbrev pub invariant-loop-i : goal.invariant-loop-i

@@ -1,6 +1,5 @@
 -- `disagree` meets its contract, test by test.
 -- Rests on the kit's laws of tests and the contract of `sum`.
-use borrow.Author.Rules.{rules}
 use borrow.Author.Tests.{eq-eqb, ne_eqb}
 use lib.ListN.{length}
 use Rattle.writer.proofs.refusals.disagree.Goals as goal

@@ -1,7 +1,6 @@
 -- `front_number` meets its contract: each answer is the number of the first refusal that applies.
 -- Rests on the laws of `first` and the contracts of the tests.
 use mathlib.Core.Path.{sym, ◌∙◌}
-use borrow.Author.Rules.{rules}
 use Rattle.rules.proofs.First.{first-none, first-here, first-later}
 use Rattle.writer.specs.Given.{front_refusals}
 use Rattle.writer.proofs.refusals.front_number.Goals as goal

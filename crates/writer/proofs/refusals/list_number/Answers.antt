@@ -3,10 +3,9 @@
 use mathlib.Core.Path.{◌≡◌, sym, ◌∙◌}
 use mathlib.Core.List.{[]}
 use Prim.Native.Nat.{◌≤◌}
-use borrow.Author.Rules.{rules}
 use lib.ListN.{length}
 use Rattle.rules.specs.Refusals.{refusal, first}
-use Rattle.rules.specs.Sheet.{Lists, disagree, lists_refusals}
+use Rattle.rules.specs.Sheet.{disagree, lists_refusals}
 use Rattle.rules.proofs.First.{first-none, first-here, first-later}
 use Rattle.writer.specs.Given.{given}
 use Rattle.writer.proofs.Numbers.{group_refuses, group_passes, of-front, of-ways, of-limits, of-lengths, from-limits, from-ways, in_groups}

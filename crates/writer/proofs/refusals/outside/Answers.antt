@@ -1,7 +1,6 @@
 -- `outside` meets its contract, test by test.
 -- Rests on the contracts of the tests.
 use mathlib.Core.Path.{sym, ◌∙◌}
-use borrow.Author.Rules.{rules}
 use Rattle.writer.proofs.refusals.outside.Goals as goal
 
 pub returns-then-faults_outside : goal.returns-then-faults_outside

@@ -2,14 +2,13 @@
 -- Rests on Numbers.antt, Accepted.antt and the contracts of `list_number` and `bodies_start`.
 use mathlib.Core.Path.{◌≡◌, sym, ◌∙◌}
 use mathlib.Core.List.{[]}
-use Prim.Native.Nat.{ℕ, ◌+◌, ◌*◌}
+use Prim.Native.Nat.{◌+◌, ◌*◌}
 use native.Mathlib.Omega.{arith}
-use borrow.Author.Rules.{rules}
 use borrow.Author.Tests.{lt-ltb, le-ltb}
 use lib.Dec.{ltb}
 use lib.ListN.{length}
 use Rattle.rules.specs.Refusals.{refusal, first}
-use Rattle.rules.specs.Sheet.{Lists, sheet_of, encode, lists_refusals, write_refusals, write_number}
+use Rattle.rules.specs.Sheet.{sheet_of, encode, lists_refusals, write_refusals, write_number}
 use Rattle.rules.proofs.First.{first-none, first-here, first-later}
 use Rattle.rules.proofs.Bytes.{each_below}
 use Rattle.writer.specs.Given.{given}
@@ -24,19 +23,29 @@ returns-then-number-ne0 c = let x = (let a = c.args in
     group_refuses (lists_refusals x) (of_space x c.args.space) c.list_number-number.ensures c.if-number-ne0.true
 
 pub bodies_start-start-requires : goal.bodies_start-start-requires
-bodies_start-start-requires c = omega (arith, ends_by ((let a = c.args in
-    given a.weights.now a.numbers.now a.counts.now a.present.now a.absent.now a.limits)) ((let it : first (lists_refusals ((let a = c.args in
-    given a.weights.now a.numbers.now a.counts.now a.present.now a.absent.now a.limits))) ≡ 0 = sym c.list_number-number.ensures ∙ c.if-number-ne0.false in it)))
+bodies_start-start-requires c = omega (
+  arith,
+  ends_by ((let a = c.args in
+      given a.weights.now a.numbers.now a.counts.now a.present.now a.absent.now a.limits)) ((let it : first (lists_refusals ((let a = c.args in
+      given a.weights.now a.numbers.now a.counts.now a.present.now a.absent.now a.limits))) ≡ 0 = sym c.list_number-number.ensures ∙ c.if-number-ne0.false in it)),
+)
 
 pub overflow_mul-present : goal.overflow_mul-present
-overflow_mul-present c = omega (arith, ends_by ((let a = c.args in
-    given a.weights.now a.numbers.now a.counts.now a.present.now a.absent.now a.limits)) ((let it : first (lists_refusals ((let a = c.args in
-    given a.weights.now a.numbers.now a.counts.now a.present.now a.absent.now a.limits))) ≡ 0 = sym c.list_number-number.ensures ∙ c.if-number-ne0.false in it)))
+overflow_mul-present c = omega (
+  arith,
+  ends_by ((let a = c.args in
+      given a.weights.now a.numbers.now a.counts.now a.present.now a.absent.now a.limits)) ((let it : first (lists_refusals ((let a = c.args in
+      given a.weights.now a.numbers.now a.counts.now a.present.now a.absent.now a.limits))) ≡ 0 = sym c.list_number-number.ensures ∙ c.if-number-ne0.false in it)),
+)
 
 pub overflow_add-start : goal.overflow_add-start
-overflow_add-start c = omega (arith, c.bodies_start-start.ensures, ends_by ((let a = c.args in
-    given a.weights.now a.numbers.now a.counts.now a.present.now a.absent.now a.limits)) ((let it : first (lists_refusals ((let a = c.args in
-    given a.weights.now a.numbers.now a.counts.now a.present.now a.absent.now a.limits))) ≡ 0 = sym c.list_number-number.ensures ∙ c.if-number-ne0.false in it)))
+overflow_add-start c = omega (
+  arith,
+  c.bodies_start-start.ensures,
+  ends_by ((let a = c.args in
+      given a.weights.now a.numbers.now a.counts.now a.present.now a.absent.now a.limits)) ((let it : first (lists_refusals ((let a = c.args in
+      given a.weights.now a.numbers.now a.counts.now a.present.now a.absent.now a.limits))) ≡ 0 = sym c.list_number-number.ensures ∙ c.if-number-ne0.false in it)),
+)
 
 pub returns-then-space-start : goal.returns-then-space-start
 unfolding write_number write_refusals
