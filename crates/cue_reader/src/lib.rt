@@ -1,5 +1,5 @@
 //! A reader of a sheet: it holds a sheet and a position in its contents (RULES 7.12).
-//! The work is `call_at`'s, on a slice and a number. Whatever takes or makes a `Reader`, which holds a reference, is proved by hand.
+//! The work is `call_at`'s, on a slice and a number.
 #![tactic(auto)]
 
 ghost use Rattle.std.specs.Prelude.{◌≡◌};

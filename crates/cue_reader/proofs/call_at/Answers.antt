@@ -1,9 +1,6 @@
 -- `call_at` meets its contract: the place moves as far as the answer says, and stays a number of the machine.
 -- Rests on Moved.antt and the contracts of `cue_at` and `step`.
-use mathlib.Core.Path.{◌≡◌, ap, ◌∙◌, subst⁻¹}
-use mathlib.Core.List.{List}
-use Prim.Native.Nat.{ℕ, ◌+◌, ◌<◌, ◌^◌}
-use borrow.Author.Rules.{rules}
+use Rattle.std.proofs.Common.{◌≡◌, ℕ, ◌+◌, ◌<◌, ◌^◌, List, ap, ◌∙◌, subst, sym}
 use Rattle.rules.specs.Answers.{place_after}
 use Rattle.rules.specs.Sheet.{entry_answer}
 use Rattle.rules.specs.declared.EntryAnswer.{EntryAnswer}
@@ -15,13 +12,12 @@ place_is : (bs : List ℕ) (i : ℕ) (a : EntryAnswer) (r : ℕ) → a ≡ entry
 place_is bs i a r answer step = ap (λ (m : ℕ). i + m) (step ∙ ap (place_after 0) answer) ∙ moved i (entry_answer bs i)
 
 pub overflow_add-after : goal.overflow_add-after
-overflow_add-after c = let a = c.args in
-    let small : a.at < 2 ^ 64 = search rules in
+overflow_add-after c =
+    let a = c.args in
     record {
-      fits = subst⁻¹ (λ (m : ℕ). m < 2 ^ 64) (place_is a.s.now a.at _ _ c.cue_at-answer.ensures.answer c.step.ensures)
-          (after-fits a.s.now a.at small);
+      fits = subst (λ (m : ℕ). m < 2 ^ 64) (sym (place_is a.s.now a.at _ _ c.cue_at-answer.ensures.answer c.step.ensures))
+          (after-fits a.s.now a.at c.ranges.at.fits);
     }
 
 pub returns : goal.returns
-returns c = let a = c.args in
-    (c.cue_at-answer.ensures.answer, place_is a.s.now a.at _ _ c.cue_at-answer.ensures.answer c.step.ensures)
+returns c = (c.cue_at-answer.ensures.answer, place_is c.args.s.now c.args.at _ _ c.cue_at-answer.ensures.answer c.step.ensures)
