@@ -2,12 +2,10 @@
 -- Rests on `sheet`, Sized.
 use mathlib.Core.Path.{refl}
 use Rattle.sheet.proofs.Sized.{sized-none}
-use Rattle.cue_numbers.proofs.numbers.no_table.Statement.{statement}
-use Rattle.cue_numbers.proofs.numbers.no_table.Tie as tie
+use Rattle.cue_numbers.proofs.numbers.no_table.Goals as goal
 
-returns : tie.Need-returns
-returns c =
-    let a = c.args in
+pub returns : goal.returns
+returns c = let a = c.args in
     λ j. record {
       number = a.number;
       past = a.past;
@@ -17,6 +15,3 @@ returns c =
       present = sized-none 128 j;
       absent = sized-none 128 j;
     }
-
-pub no-table-spec : {M : Type 1} → statement M
-no-table-spec = tie.close (tie.spec returns)

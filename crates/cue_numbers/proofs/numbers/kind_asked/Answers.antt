@@ -5,8 +5,7 @@ use Prim.Native.Nat.{ℕ}
 use borrow.Author.Tests.{eq-eqb, ne_eqb}
 use Rattle.rules.specs.declared.Kind.{Kind}
 use Rattle.cue_numbers.specs.Numbers.{kind_asked}
-use Rattle.cue_numbers.proofs.numbers.kind_asked.Statement.{statement}
-use Rattle.cue_numbers.proofs.numbers.kind_asked.Tie as tie
+use Rattle.cue_numbers.proofs.numbers.kind_asked.Goals as goal
 
 module _ (what fault : ℕ) where
   -- 0 asks for independence.
@@ -29,17 +28,14 @@ module _ (what fault : ℕ) where
   unfolding kind_asked
   by-another f g h = rw (ne_eqb what 0 f, kind_asked) (rw (ne_eqb what 1 g) (rw (ne_eqb what 2 h) refl))
 
-returns : tie.Need-returns
-returns c = by_zero _ _ c.if1.true
+pub returns-then-what-eq0 : goal.returns-then-what-eq0
+returns-then-what-eq0 c = by_zero _ _ c.if-what-eq0.true
 
-returns-2 : tie.Need-returns-2
-returns-2 c = by_one _ _ c.before.if1.false c.if2.true
+pub returns-then-what-eq1 : goal.returns-then-what-eq1
+returns-then-what-eq1 c = by_one _ _ c.if-what-eq0.false c.if-what-eq1.true
 
-returns-3 : tie.Need-returns-3
-returns-3 c = by_two _ _ c.before.before.if1.false c.before.if2.false c.if3.true
+pub returns-then-what-eq2 : goal.returns-then-what-eq2
+returns-then-what-eq2 c = by_two _ _ c.if-what-eq0.false c.if-what-eq1.false c.if-what-eq2.true
 
-returns-4 : tie.Need-returns-4
-returns-4 c = by-another _ _ c.before.before.if1.false c.before.if2.false c.if3.false
-
-pub kind-asked-spec : {M : Type 1} → statement M
-kind-asked-spec = tie.close (tie.spec returns returns-2 returns-3 returns-4)
+pub returns : goal.returns
+returns c = by-another _ _ c.if-what-eq0.false c.if-what-eq1.false c.if-what-eq2.false

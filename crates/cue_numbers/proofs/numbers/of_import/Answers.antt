@@ -1,0 +1,15 @@
+-- `of_import` meets its contract, case by case.
+-- Rests on the contracts of `bare` and `refused`.
+use mathlib.Core.Path.{sym, ap, ◌∙◌}
+use Rattle.cue_numbers.specs.Numbers.{flat_import}
+use borrow.Author.Rules.{rules}
+use Rattle.cue_numbers.proofs.numbers.of_import.Goals as goal
+
+pub returns-in-Written : goal.returns-in-Written
+returns-in-Written c = c.bare.ensures ∙ sym (ap flat_import c.in-Written.is)
+
+pub returns-in-Misread : goal.returns-in-Misread
+returns-in-Misread c = c.bare-in-Misread.ensures ∙ sym (ap flat_import c.in-Misread.is)
+
+pub returns-in-Refused : goal.returns-in-Refused
+returns-in-Refused c = c.refused.ensures ∙ sym (ap flat_import c.in-Refused.is)
