@@ -34,21 +34,16 @@ module _ (bs : List ℕ) (r : Report) (p : Reported bs r) where
       let n : report_number bs (length space) ≡ 22 = first-here _ [] (lt-ltb (length space) (length (text bs)) (omega (arith, text_length))) in
       (rw n refl, rw n refl)
 
-  -- It is not: there is room for the part in use.
-  pub room : (space : List ℕ) → r.length ≤ length space → length (take r.length r.text) ≤ length space
-  room space h = omega (arith, part_length)
-
-  -- Then the text stands there, and behind it the space as it was.
+  -- It is not: the text stands there, and behind it the space as it was.
   pub fits : (space new : List ℕ) → r.length ≤ length space
-      → let part = take r.length r.text in new ≡ take (length part) part ++ drop (length part) space
+      → new ≡ take r.length r.text ++ drop r.length space
       → (WriteAnswer.Written r.length ≡ report_answer bs (length space)) × (new ≡ reported bs space)
   unfolding report_answer reported report_number report_refusals write_answer_by written_by
   fits space new h e =
       let n : report_number bs (length space) ≡ 0 = first-later _ [] (le-ltb (length space) (length (text bs)) (omega (arith, text_length))) ∙ first-none in
-      let whole : (part : List ℕ) → part ≡ text bs → take (length part) part ++ drop (length part) space ≡ text bs ++ drop (length (text bs)) space =
-      λ part q. ap (λ (xs : List ℕ). xs ++ drop (length part) space) (take_all (length part) part (le_refl (length part)))
-      ∙ ap (λ (xs : List ℕ). xs ++ drop (length xs) space) q in
-      (rw n (ap WriteAnswer.Written (sym text_length)), rw n (e ∙ whole _ p.printed))
+      let whole : take r.length r.text ++ drop r.length space ≡ text bs ++ drop (length (text bs)) space =
+      ap (λ (xs : List ℕ). xs ++ drop r.length space) p.printed ∙ ap (λ (k : ℕ). text bs ++ drop k space) (sym text_length) in
+      (rw n (ap WriteAnswer.Written (sym text_length)), rw n (e ∙ whole))
 
 -- The answer's reply, by its number and the bytes of the text.
 pub report-reply : (bs : List ℕ) (space : ℕ) → write_reply (report_answer bs space) ≡ counted_by (report_number bs space) (length (text bs))

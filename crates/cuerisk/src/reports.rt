@@ -3,7 +3,6 @@
 ghost use Rattle.std.specs.Prelude.{◌≡◌, length};
 ghost use Rattle.cuerisk.specs.Into.{report_answer, reported};
 
-use bytes::copy;
 use rules::WriteAnswer;
 
 /// Puts the printed text to the front of the space.
@@ -17,6 +16,6 @@ pub fn put_text(s: &[u8], space: &mut [u8]) -> WriteAnswer
     if space.len() < n {
         return WriteAnswer::Refused(22);
     }
-    copy(&text[..n], space);
+    space[..n].copy_from_slice(&text[..n]);
     WriteAnswer::Written(n as u64)
 }
