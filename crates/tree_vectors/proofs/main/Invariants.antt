@@ -1,0 +1,10 @@
+-- `main` is safe and ends. Nothing has to hold from turn to turn; the measure is the scripts that are left.
+-- Rests on the contracts of `number` and `script`.
+use Rattle.std.proofs.Common.{◌-◌, rules}
+use Rattle.tree_vectors.proofs.main.Given as goal
+
+abbrev pub invariant-loop-done : goal.invariant-loop-done
+invariant-loop-done l = Unit {0}
+
+abbrev pub decreases-loop-done : goal.decreases-loop-done
+decreases-loop-done l = l.scripts - l.done
