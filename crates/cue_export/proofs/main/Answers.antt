@@ -2,7 +2,6 @@
 -- Rests on the contracts of `export` and of `io`.
 use mathlib.Core.Path.{sym}
 use lib.Seq.{length-take-le}
-use borrow.Author.Rules.{rules}
 use Rattle.cue_export.proofs.Fits.{zeros, export-fits}
 use Rattle.cue_export.proofs.main.Goals as goal
 

@@ -2,7 +2,7 @@
 -- Rests on the contracts of `import` and of `io`.
 use mathlib.Core.Path.{sym}
 use lib.Seq.{length-take-le}
-use borrow.Author.Rules.{rules, Fits-under}
+use borrow.Author.Rules.{Fits-under}
 use Rattle.cue_import.proofs.Fits.{zeros, import-fits}
 use Rattle.cue_import.proofs.main.Goals as goal
 

@@ -2,7 +2,6 @@
 -- Rests on the contracts of `report` and of `io`.
 use lib.ListN.{length-take}
 use native.Mathlib.Omega.{arith}
-use borrow.Author.Rules.{rules}
 use Rattle.cue_risk.proofs.main.Goals as goal
 
 pub slice_bounds-write_all-end : goal.slice_bounds-write_all-end

@@ -1,6 +1,5 @@
 -- `cue_csv_export` meets its contract: the numbers of what the export answers, and its space.
 -- Rests on Telling.antt and the contracts of `csv_export::export` and `of_write`.
-use borrow.Author.Rules.{rules}
 use Rattle.cuerisk.proofs.Telling.{exporting-told}
 use Rattle.cuerisk.proofs.cue_csv_export.Goals as goal
 

@@ -1,6 +1,5 @@
 -- `cue_csv_import` meets its contract: the numbers of what the import answers, and its space.
 -- Rests on Telling.antt and the contracts of `csv_import::import` and `of_import`.
-use borrow.Author.Rules.{rules}
 use Rattle.cuerisk.proofs.Telling.{importing-told}
 use Rattle.cuerisk.proofs.cue_csv_import.Goals as goal
 

@@ -1,6 +1,5 @@
 -- `cue_fraction_compare` meets its contract: the numbers of what a comparison answers.
 -- Rests on Telling.antt and the contracts of `captures::fractions::compare` and `of_order`.
-use borrow.Author.Rules.{rules}
 use Rattle.cuerisk.proofs.Telling.{comparing-told}
 use Rattle.cuerisk.proofs.cue_fraction_compare.Goals as goal
 

@@ -1,6 +1,5 @@
 -- `cue_fractions` meets its contract: the numbers of what adding fractions answers.
 -- Rests on Telling.antt and the contracts of `captures::fractions::total` and `of_fraction`.
-use borrow.Author.Rules.{rules}
 use Rattle.cuerisk.proofs.Telling.{adding-told}
 use Rattle.cuerisk.proofs.cue_fractions.Goals as goal
 

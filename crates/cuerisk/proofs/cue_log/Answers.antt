@@ -1,6 +1,5 @@
 -- `cue_log` meets its contract: the numbers of what counting one log answers.
 -- Rests on Telling.antt and the contracts of `captures::logs::log` and `of_fraction`.
-use borrow.Author.Rules.{rules}
 use Rattle.cuerisk.proofs.Telling.{log-told}
 use Rattle.cuerisk.proofs.cue_log.Goals as goal
 

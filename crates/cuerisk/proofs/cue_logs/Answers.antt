@@ -1,6 +1,5 @@
 -- `cue_logs` meets its contract: the numbers of what counting several logs answers.
 -- Rests on Telling.antt and the contracts of `captures::logs::logs` and `of_fraction`.
-use borrow.Author.Rules.{rules}
 use Rattle.cuerisk.proofs.Telling.{logs-told}
 use Rattle.cuerisk.proofs.cue_logs.Goals as goal
 

@@ -1,7 +1,6 @@
 -- `cue_open` meets its contract: the promise of the opening, told in numbers.
 -- Rests on Telling.antt and the contract of `dtree::opening::open`.
 use Rattle.cuerisk.proofs.Telling.{opening-told}
-use borrow.Author.Rules.{rules}
 use Rattle.cuerisk.proofs.cue_open.Goals as goal
 
 pub returns : goal.returns

@@ -1,7 +1,6 @@
 -- `cue_refine` meets its contract: the promise of the hand refinement, told in numbers.
 -- Rests on Telling.antt and the contracts of `kind_asked` and `dtree::refining::refine`.
 use Rattle.cuerisk.proofs.Telling.{refining-told}
-use borrow.Author.Rules.{rules}
 use Rattle.cuerisk.proofs.cue_refine.Goals as goal
 
 pub returns : goal.returns

@@ -1,6 +1,5 @@
 -- `cue_sheet_check` meets its contract: the numbers of what reading answers.
 -- Rests on Telling.antt and the contracts of `sheet::reader::read` and `of_read`.
-use borrow.Author.Rules.{rules}
 use Rattle.cuerisk.proofs.Telling.{reading-told}
 use Rattle.cuerisk.proofs.cue_sheet_check.Goals as goal
 

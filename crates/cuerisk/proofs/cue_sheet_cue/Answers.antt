@@ -1,6 +1,5 @@
 -- `cue_sheet_cue` meets its contract: the numbers of what the reader's call answers.
 -- Rests on Telling.antt and the contracts of `sheet::reader::cue_at` and `of_entry`.
-use borrow.Author.Rules.{rules}
 use Rattle.cuerisk.proofs.Telling.{entry-told}
 use Rattle.cuerisk.proofs.cue_sheet_cue.Goals as goal
 

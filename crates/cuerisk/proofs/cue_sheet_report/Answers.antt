@@ -3,7 +3,6 @@
 use mathlib.Core.Path.{ap, ◌∙◌}
 use Rattle.cue_numbers.specs.Numbers.{flat, flat_write}
 use Rattle.cuerisk.proofs.Reporting.{report-reply}
-use borrow.Author.Rules.{rules}
 use Rattle.cuerisk.proofs.cue_sheet_report.Goals as goal
 
 pub returns : goal.returns

@@ -1,6 +1,5 @@
 -- `cue_sheet_write` meets its contract: the numbers of what the writer answers, and its space.
 -- Rests on Telling.antt and the contracts of `writer::write` and `of_write`.
-use borrow.Author.Rules.{rules}
 use Rattle.rules.specs.Sheet.{Lists}
 use Rattle.rules.specs.declared.Limits.{Limits}
 use Rattle.writer.specs.Given.{given}

@@ -1,6 +1,6 @@
 -- `weight_list` meets its contract. The loop's invariant: i is at most the count, and the array keeps its length.
 -- Rests on the contract of `number_to`.
-use Rattle.std.proofs.Common.{◌≡◌, ◌-◌, ◌≤◌, length, sym, arith, length-take-le, rules}
+use Rattle.std.proofs.Common.{◌≡◌, ◌-◌, ◌≤◌, length}
 use Rattle.numbers.proofs.weight_list.Given as goal
 
 abbrev pub invariant-loop-i : goal.invariant-loop-i

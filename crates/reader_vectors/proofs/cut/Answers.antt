@@ -2,7 +2,6 @@
 -- Rests on the contract of `drive`.
 use native.Mathlib.Omega.{arith}
 use lib.ListN.{length-take}
-use borrow.Author.Rules.{rules}
 use Rattle.reader_vectors.proofs.cut.Goals as goal
 
 pub slice_bounds-drive-end : goal.slice_bounds-drive-end

@@ -1,7 +1,6 @@
 -- `drive` is safe and ends. Nothing has to hold from turn to turn; the measure is the calls that are left.
 -- Rests on the contracts of `call_after` and `print_answer`.
 use Prim.Native.Nat.{◌-◌}
-use borrow.Author.Rules.{rules}
 use Rattle.reader_vectors.proofs.drive.Given as goal
 
 abbrev pub invariant-loop-made : goal.invariant-loop-made

@@ -1,6 +1,6 @@
 -- `requests` is safe and ends. Nothing has to hold from turn to turn; the measure is the lines that are left.
 -- Rests on the contracts of `number` and `request`.
-use Rattle.std.proofs.Common.{◌-◌, rules}
+use Rattle.std.proofs.Common.{◌-◌}
 use Rattle.tree_vectors.proofs.requests.Given as goal
 
 abbrev pub invariant-loop-done : goal.invariant-loop-done

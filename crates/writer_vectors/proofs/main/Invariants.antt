@@ -1,6 +1,5 @@
 -- `main` is safe and ends. Nothing has to hold from turn to turn; the measure is the cases that are left.
 use Prim.Native.Nat.{◌-◌}
-use borrow.Author.Rules.{rules}
 use Rattle.writer_vectors.proofs.main.Given as goal
 
 abbrev pub invariant-loop-done : goal.invariant-loop-done

@@ -1,6 +1,5 @@
 -- `no_table` meets its contract: zeros are what a table without faults and ways comes to.
 -- Rests on `sheet`, Sized.
-use mathlib.Core.Path.{refl}
 use Rattle.sheet.proofs.Sized.{sized-none}
 use Rattle.cue_numbers.proofs.numbers.no_table.Goals as goal
 

@@ -2,7 +2,6 @@
 -- Rests on the contracts of `accepted` and `refused`.
 use mathlib.Core.Path.{sym, ap, ◌∙◌}
 use Rattle.cue_numbers.specs.Numbers.{flat_answer}
-use borrow.Author.Rules.{rules}
 use Rattle.cue_numbers.proofs.numbers.of_answer.Goals as goal
 
 pub returns-in-Accepted : goal.returns-in-Accepted

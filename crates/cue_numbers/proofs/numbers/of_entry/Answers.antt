@@ -2,7 +2,6 @@
 -- Rests on the definition of `flat_entry`.
 use mathlib.Core.Path.{sym, ap}
 use Rattle.cue_numbers.specs.Numbers.{flat_entry}
-use borrow.Author.Rules.{rules}
 use Rattle.cue_numbers.proofs.numbers.of_entry.Goals as goal
 
 pub returns-in-Cue : goal.returns-in-Cue

@@ -2,7 +2,6 @@
 -- Rests on the contracts of `bare` and `refused`.
 use mathlib.Core.Path.{sym, ap, ◌∙◌}
 use Rattle.cue_numbers.specs.Numbers.{flat_import}
-use borrow.Author.Rules.{rules}
 use Rattle.cue_numbers.proofs.numbers.of_import.Goals as goal
 
 pub returns-in-Written : goal.returns-in-Written

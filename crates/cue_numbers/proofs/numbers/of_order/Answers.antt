@@ -1,7 +1,6 @@
 -- `of_order` meets its contract, case by case.
 -- Rests on the definition of specs/Numbers.antt.
 use mathlib.Core.Path.{sym, ap}
-use borrow.Author.Rules.{rules}
 use Rattle.cue_numbers.specs.Numbers.{flat_order}
 use Rattle.cue_numbers.proofs.numbers.of_order.Goals as goal
 

@@ -2,7 +2,6 @@
 -- Rests on the definition of `flat_sheet`.
 use mathlib.Core.Path.{sym, ap}
 use Rattle.cue_numbers.specs.Numbers.{flat_sheet}
-use borrow.Author.Rules.{rules}
 use Rattle.cue_numbers.proofs.numbers.of_read.Goals as goal
 
 pub returns-in-Sheet : goal.returns-in-Sheet

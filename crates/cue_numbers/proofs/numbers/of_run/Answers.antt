@@ -2,7 +2,6 @@
 -- Rests on the contracts of `accepted`, `verdict_code` and `refused`.
 use mathlib.Core.Path.{sym, ap, ◌∙◌}
 use Rattle.cue_numbers.specs.Numbers.{flat_run}
-use borrow.Author.Rules.{rules}
 use Rattle.cue_numbers.proofs.numbers.of_run.Goals as goal
 
 pub returns-in-Ended : goal.returns-in-Ended

@@ -2,7 +2,6 @@
 -- Rests on the definition of `flat_spot`.
 use mathlib.Core.Path.{sym, ap}
 use Rattle.cue_numbers.specs.Numbers.{flat_spot}
-use borrow.Author.Rules.{rules}
 use Rattle.cue_numbers.proofs.numbers.of_spot.Goals as goal
 
 pub returns-in-At : goal.returns-in-At

@@ -2,7 +2,6 @@
 -- Rests on the definition of `verdict_code`.
 use mathlib.Core.Path.{sym, ap}
 use mathlib.Core.Option.{some}
-use borrow.Author.Rules.{rules}
 use Rattle.rules.specs.declared.Verdict.{Verdict}
 use Rattle.cue_numbers.specs.Numbers.{verdict_code}
 use Rattle.cue_numbers.proofs.numbers.verdict_code.Goals as goal

@@ -1,7 +1,6 @@
 -- `figures` meets its contract, case by case of the answer.
 -- Rests on nothing but the definitions.
 use mathlib.Core.Path.{sym, ap}
-use borrow.Author.Rules.{rules}
 use Rattle.reader_vectors.specs.Lines.{shown}
 use Rattle.reader_vectors.proofs.lines.figures.Goals as goal
 

@@ -1,5 +1,5 @@
 -- `put` is safe and ends. The loop's invariant: the sheet keeps its length; the measure is the bytes that are left.
-use Rattle.std.proofs.Common.{◌≡◌, length, rules}
+use Rattle.std.proofs.Common.{◌≡◌, length}
 use Rattle.sheet_vectors.proofs.bytes.put.Given as goal
 
 abbrev pub invariant-loop-left : goal.invariant-loop-left

@@ -1,5 +1,5 @@
 -- `put_contents` is safe and ends. The loop's invariant: the sheet keeps its length; the measure is the cues that are left.
-use Rattle.std.proofs.Common.{◌≡◌, ◌-◌, length, rules}
+use Rattle.std.proofs.Common.{◌≡◌, ◌-◌, length}
 use Rattle.sheet_vectors.proofs.longest.put_contents.Given as goal
 
 abbrev pub invariant-loop-cue : goal.invariant-loop-cue

@@ -1,5 +1,5 @@
 -- `put_ways` is safe and ends. The loop's invariant: the sheet keeps its length; the measure is the ways that are left.
-use Rattle.std.proofs.Common.{◌≡◌, ◌-◌, length, rules}
+use Rattle.std.proofs.Common.{◌≡◌, ◌-◌, length}
 use Rattle.sheet_vectors.proofs.longest.put_ways.Given as goal
 
 abbrev pub invariant-loop-way : goal.invariant-loop-way

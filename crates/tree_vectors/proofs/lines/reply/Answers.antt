@@ -1,6 +1,6 @@
 -- `reply` meets its contract, case by case of the answer.
 -- Rests on the contracts of `accepted_line` and `refused_line`.
-use Rattle.std.proofs.Common.{sym, ap, ◌∙◌, rules}
+use Rattle.std.proofs.Common.{sym, ap, ◌∙◌}
 use Rattle.rules.specs.Answers.{answer_reply}
 use Rattle.tree_vectors.proofs.lines.reply.Goals as goal
 

@@ -1,6 +1,6 @@
 -- `run_reply` meets its contract, case by case of the answer.
 -- Rests on the contracts of `accepted_line` and `refused_line`.
-use Rattle.std.proofs.Common.{sym, ap, ◌∙◌, rules}
+use Rattle.std.proofs.Common.{sym, ap, ◌∙◌}
 use Rattle.rules.specs.Answers.{run_reply}
 use Rattle.tree_vectors.proofs.lines.run_reply.Goals as goal
 

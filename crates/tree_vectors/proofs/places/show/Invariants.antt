@@ -1,6 +1,6 @@
 -- `show` is safe and ends. The loop's invariant: of the records that wait there is at most one more than of those printed,
 -- and at most all of a tree are printed; the measure is the records that may still be. Rests on the contracts of the functions that it calls.
-use Rattle.std.proofs.Common.{◌≡◌, ◌+◌, ◌-◌, ◌≤◌, length, length-set, rules}
+use Rattle.std.proofs.Common.{◌≡◌, ◌+◌, ◌-◌, ◌≤◌, length}
 use Rattle.records.specs.Records.{tree_records}
 use Rattle.tree_vectors.proofs.places.show.Given as goal
 

@@ -1,6 +1,5 @@
 -- `copy` is safe and ends. Nothing has to hold from turn to turn; the measure is the words that are left to copy.
 use Prim.Native.Nat.{◌-◌}
-use borrow.Author.Rules.{rules}
 use Rattle.writer_vectors.proofs.again.copy.Given as goal
 
 abbrev pub invariant-loop-i : goal.invariant-loop-i

@@ -1,6 +1,5 @@
 -- `gather` is safe and ends. Nothing has to hold from turn to turn; the measure is the positions that are left.
 use Prim.Native.Nat.{◌-◌}
-use borrow.Author.Rules.{rules}
 use Rattle.writer_vectors.proofs.again.gather.Given as goal
 
 abbrev pub invariant-loop-i : goal.invariant-loop-i

@@ -1,7 +1,6 @@
 -- `write_filled` is safe: each part of an array is as long as it is told. Rests on the contracts of `at_most` and `write`.
 use lib.ListN.{length-take}
 use native.Mathlib.Omega.{arith}
-use borrow.Author.Rules.{rules}
 use Rattle.writer_vectors.proofs.again.write_filled.Goals as goal
 
 pub slice_bounds-write-end : goal.slice_bounds-write-end

@@ -1,11 +1,10 @@
 -- `cue_list` meets its contract. The loop's invariant: i is at most the count, and the array keeps its length.
 -- Rests on the contract of `number_to`.
-use mathlib.Core.Path.{◌≡◌, sym}
-use Prim.Native.Nat.{◌≤◌, ◌-◌}
+use mathlib.Core.Path.{sym}
+use Prim.Native.Nat.{◌≤◌}
 use lib.ListN.{length}
 use lib.Seq.{length-take-le}
 use native.Mathlib.Omega.{arith}
-use borrow.Author.Rules.{rules}
 use Rattle.writer_vectors.proofs.input.cue_list.Goals as goal
 
 pub returns : goal.returns

@@ -1,11 +1,8 @@
 -- `cue_list` meets its contract. The loop's invariant: i is at most the count, and the array keeps its length.
 -- Rests on the contract of `number_to`.
-use mathlib.Core.Path.{◌≡◌, sym}
+use mathlib.Core.Path.{◌≡◌}
 use Prim.Native.Nat.{◌≤◌, ◌-◌}
 use lib.ListN.{length}
-use lib.Seq.{length-take-le}
-use native.Mathlib.Omega.{arith}
-use borrow.Author.Rules.{rules}
 use Rattle.writer_vectors.proofs.input.cue_list.Given as goal
 
 abbrev pub invariant-loop-i : goal.invariant-loop-i

@@ -1,5 +1,4 @@
 -- `print_name` is safe and ends. Nothing has to hold from turn to turn; the measure is the bytes that may still come.
-use borrow.Author.Rules.{rules}
 use Rattle.writer_vectors.proofs.input.print_name.Given as goal
 
 abbrev pub invariant-loop-left : goal.invariant-loop-left

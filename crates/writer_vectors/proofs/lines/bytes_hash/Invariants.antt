@@ -1,7 +1,6 @@
 -- `bytes_hash` is safe and ends. Nothing has to hold from turn to turn; the measure is what is left of the list.
 use Prim.Native.Nat.{◌-◌}
 use lib.ListN.{length}
-use borrow.Author.Rules.{rules}
 use Rattle.writer_vectors.proofs.lines.bytes_hash.Given as goal
 
 abbrev pub invariant-loop-i : goal.invariant-loop-i
