@@ -22,7 +22,7 @@ use Rattle.clauses.specs.Leaves.{gone_word, ways_of, none_left, InTable, Takes}
 use Rattle.clauses.proofs.Pairs.{in-none, same_low, same_high}
 use Rattle.clauses.proofs.Selected.{rows-number, select-number, dropped-number, select-few}
 
--- A loop that goes on has a way left, and one that ends has none: b is what `none-left` answered, n what it stands for.
+-- A loop that goes on has a way left, and one that ends has none: b is what `none_left` answered, n what it stands for.
 pub some-left : {n b : Bool} → b ≡ n → b ≡ false → n ≡ false
 some-left e h = sym e ∙ h
 

@@ -165,8 +165,8 @@ module _ {t ws ns ks ps qs : List ℕ} {r : TextRead} (f : Listed t ws ns ks ps 
   counts_long = length-counts (sheet_in t).cues ∙ sym g.cued
 
   -- The number that the code finds for the front of its lists.
-  abbrev pub frontFound : ℕ
-  frontFound = first (refusal 2 (ltb 64 r.faults || ltb 24 r.cues) ∷ front_refusals (take r.faults ws) (take r.cues ns) (take r.cues ks))
+  abbrev pub front_found : ℕ
+  front_found = first (refusal 2 (ltb 64 r.faults || ltb 24 r.cues) ∷ front_refusals (take r.faults ws) (take r.cues ns) (take r.cues ks))
 
   -- Where there is room, the front of the weights, numbers and counts is what the text says, but for the cut.
   module _ (few_faults : r.faults ≤ 64) (few_cues : r.cues ≤ 24) where
@@ -184,11 +184,11 @@ module _ {t ws ns ks ps qs : List ℕ} {r : TextRead} (f : Listed t ws ns ks ps 
         ap (λ (n : ℕ). take n ks) long ∙ begins-all g.counted (omega (arith, long, f.of_counts))
 
   -- It is that of the text's lists.
-  front_same : frontFound ≡ first (front_refusals W N K)
+  front_same : front_found ≡ first (front_refusals W N K)
   front_same = split (ltb 64 r.faults || ltb 24 r.cues) refl
     where
       split : (b : Bool) → ltb 64 r.faults || ltb 24 r.cues ≡ b
-          → frontFound ≡ first (front_refusals W N K)
+          → front_found ≡ first (front_refusals W N K)
       split true e =
           first-here _ _ e
           ∙ sym
@@ -204,14 +204,14 @@ module _ {t ws ns ks ps qs : List ℕ} {r : TextRead} (f : Listed t ws ns ks ps 
           (front_cut W N K))
 
   -- Where the front refuses, its number is that of the call.
-  pub front_refuses : (n number : ℕ) → number ≡ frontFound → (number ≡ 0 → ⊥) → number ≡ write_number (text_lists t) n
+  pub front_refuses : (n number : ℕ) → number ≡ front_found → (number ≡ 0 → ⊥) → number ≡ write_number (text_lists t) n
   unfolding write_number write_refusals text_lists lists_of
   front_refuses n number e h =
       let x : Lists = text_lists t in
       let lists : number ≡ first (lists_refusals x) = group_refuses (of-front x) (from-ways x) (e ∙ front_same) h ∙ sym (in_groups x) in
       group_refuses (lists_refusals x) (of_space x n) lists h
 
-  module _ (kept : frontFound ≡ 0) where
+  module _ (kept : front_found ≡ 0) where
     -- So for the text's lists.
     front_kept : first (front_refusals W N K) ≡ 0
     front_kept = sym front_same ∙ kept

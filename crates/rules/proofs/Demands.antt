@@ -37,7 +37,7 @@ use Rattle.rules.proofs.Narrowing.{Narrower, no-place-widens, refined-within}
 use Rattle.rules.proofs.Levels.{levels, few-nodes}
 use Rattle.rules.proofs.Runs.{TooWide, Exactly, verdict-exactly, OneRun, two_runs, picks-budget, report-inners, one-step}
 use Rattle.rules.proofs.Demand3.{Share, same-share, never_wider, noted_series, HandsBack, hands-back, HandMade, hand-made}
-use Rattle.rules.proofs.Distance.{met-exactly, FigureHanded, figure-handed, picksTo, verdictTo, same_picks, same_verdict}
+use Rattle.rules.proofs.Distance.{met-exactly, FigureHanded, figure-handed, picks_to, verdict_to, same_picks, same_verdict}
 use Rattle.rules.proofs.Accepted.{Inside, accepted-inside, inside-accepted}
 use Rattle.rules.proofs.WithinLimits.{Tested, tested-within, within-tested, cue-inside}
 use Rattle.rules.proofs.CueTables.{LineCertain, printed-certain}
@@ -165,7 +165,7 @@ pub record OneRunOf (t : Table) (a : Aim) (budget : ℕ) (s : DTree) : Type 0 wh
   -- Met is said exactly if the width is at most twice the allowance.
   pub met : (verdict t a budget s ≡ Met) ↔ (high t (ran t a budget s) - low t (ran t a budget s) ≤ 2 * a.allowance)
   -- RULES 5.6: the allowance decides where the run stops and nothing else: it is the run that stops at that width.
-  pub by_width : (picks t a budget s ≡ picksTo t (2 * a.allowance) budget s) × (verdict t a budget s ≡ verdictTo t (2 * a.allowance) budget s)
+  pub by_width : (picks t a budget s ≡ picks_to t (2 * a.allowance) budget s) × (verdict t a budget s ≡ verdict_to t (2 * a.allowance) budget s)
   -- RULES 5.12: two runs in a row are one run with both budgets together.
   pub cut : (more : ℕ) → OneRun t a budget more s
   -- RULES 5.11: budget 1, on a tree that is not met, done or full at the start: one inner node and no more.

@@ -100,41 +100,41 @@ no_figure t m bad s f = by (run_number t bad m) refl
 
 -- A RUN BY ITS WIDTH: it stops as soon as the root is at most w wide; its leaves, its refinements and its other verdicts are those of Run.antt.
 module _ (t : Table) (w : ℕ) where
-  abbrev pub turnTo : DTree → Turn
-  turnTo s =
+  abbrev pub turn_to : DTree → Turn
+  turn_to s =
       elim (leb (high t s - low t s) w) as (λ b. Turn) [
         | true ↦ stop Met
         | false ↦ elim (next t s) as (λ o. Turn) [ none ↦ stop Done | some n ↦ elim (roomy s) as (λ b. Turn) [ true ↦ go n | false ↦ stop Full ] ]
       ]
 
-  abbrev pub picksTo : ℕ → DTree → List Refinement
-  picksTo zero s = []
-  picksTo (suc b) s = elim (turnTo s) as (λ x. List Refinement) [ stop v ↦ [] | go n ↦ n ∷ picksTo b (refine n s) ]
+  abbrev pub picks_to : ℕ → DTree → List Refinement
+  picks_to zero s = []
+  picks_to (suc b) s = elim (turn_to s) as (λ x. List Refinement) [ stop v ↦ [] | go n ↦ n ∷ picks_to b (refine n s) ]
 
-  abbrev pub verdictTo : ℕ → DTree → Verdict
-  verdictTo zero s = elim (turnTo s) as (λ x. Verdict) [ stop v ↦ v | go n ↦ Spent ]
-  verdictTo (suc b) s = elim (turnTo s) as (λ x. Verdict) [ stop v ↦ v | go n ↦ verdictTo b (refine n s) ]
+  abbrev pub verdict_to : ℕ → DTree → Verdict
+  verdict_to zero s = elim (turn_to s) as (λ x. Verdict) [ stop v ↦ v | go n ↦ Spent ]
+  verdict_to (suc b) s = elim (turn_to s) as (λ x. Verdict) [ stop v ↦ v | go n ↦ verdict_to b (refine n s) ]
 
 -- A RUN WITH THE ALLOWANCE a makes and says what that run does for the width 2 × a: nothing else of a run looks at the allowance.
 module _ (t : Table) (a : Aim) where
-  pub same_picks : (b : ℕ) (s : DTree) → picks t a b s ≡ picksTo t (2 * a.allowance) b s
+  pub same_picks : (b : ℕ) (s : DTree) → picks t a b s ≡ picks_to t (2 * a.allowance) b s
   unfolding picks turn narrow
   same_picks zero s = refl
-  same_picks (suc b) s = by (turnTo t (2 * a.allowance) s) (λ n. same_picks b (refine n s))
+  same_picks (suc b) s = by (turn_to t (2 * a.allowance) s) (λ n. same_picks b (refine n s))
     where
-      by : (x : Turn) → ((n : Refinement) → picks t a b (refine n s) ≡ picksTo t (2 * a.allowance) b (refine n s))
+      by : (x : Turn) → ((n : Refinement) → picks t a b (refine n s) ≡ picks_to t (2 * a.allowance) b (refine n s))
           → ◌≡◌ {A = List Refinement} (elim x as (λ x. List Refinement) [ stop v ↦ [] | go n ↦ n ∷ picks t a b (refine n s) ])
-          (elim x as (λ x. List Refinement) [ stop v ↦ [] | go n ↦ n ∷ picksTo t (2 * a.allowance) b (refine n s) ])
+          (elim x as (λ x. List Refinement) [ stop v ↦ [] | go n ↦ n ∷ picks_to t (2 * a.allowance) b (refine n s) ])
       by (stop v) ih = refl
       by (go n) ih = ap (λ (ns : List Refinement). n ∷ ns) (ih n)
 
-  pub same_verdict : (b : ℕ) (s : DTree) → verdict t a b s ≡ verdictTo t (2 * a.allowance) b s
+  pub same_verdict : (b : ℕ) (s : DTree) → verdict t a b s ≡ verdict_to t (2 * a.allowance) b s
   unfolding verdict turn narrow
   same_verdict zero s = refl
-  same_verdict (suc b) s = by (turnTo t (2 * a.allowance) s) (λ n. same_verdict b (refine n s))
+  same_verdict (suc b) s = by (turn_to t (2 * a.allowance) s) (λ n. same_verdict b (refine n s))
     where
-      by : (x : Turn) → ((n : Refinement) → verdict t a b (refine n s) ≡ verdictTo t (2 * a.allowance) b (refine n s))
+      by : (x : Turn) → ((n : Refinement) → verdict t a b (refine n s) ≡ verdict_to t (2 * a.allowance) b (refine n s))
           → ◌≡◌ {A = Verdict} (elim x as (λ x. Verdict) [ stop v ↦ v | go n ↦ verdict t a b (refine n s) ])
-          (elim x as (λ x. Verdict) [ stop v ↦ v | go n ↦ verdictTo t (2 * a.allowance) b (refine n s) ])
+          (elim x as (λ x. Verdict) [ stop v ↦ v | go n ↦ verdict_to t (2 * a.allowance) b (refine n s) ])
       by (stop v) ih = refl
       by (go n) ih = ih n

@@ -59,14 +59,14 @@ lists-deal [] (k ∷ ks) ps qs e f g = absurd (omega arith)
 lists-deal (n ∷ ns) [] ps qs e f g = absurd (omega arith)
 lists-deal (n ∷ ns) (k ∷ ks) ps qs e f g =
     let rest = lists-deal ns ks (drop k ps) (drop k qs) (omega arith) (omega (arith, length-drop k ps)) (omega (arith, length-drop k qs)) in
-    let fromPresent : length (take k ps) ≡ k = length-take-le k ps (omega arith) in
-    let fromAbsent : length (take k qs) ≡ k = length-take-le k qs (omega arith) in
+    let from_present : length (take k ps) ≡ k = length-take-le k ps (omega arith) in
+    let from_absent : length (take k qs) ≡ k = length-take-le k qs (omega arith) in
     record {
       numbers = ap (λ (r : List ℕ). n ∷ r) rest.numbers;
-      counts = ap₂ (λ (y : ℕ) (r : List ℕ). y ∷ r) fromPresent rest.counts;
+      counts = ap₂ (λ (y : ℕ) (r : List ℕ). y ∷ r) from_present rest.counts;
       present = ap (λ (r : List ℕ). take k ps ++ r) rest.present ∙ take-append-drop k ps;
       absent = ap (λ (r : List ℕ). take k qs ++ r) rest.absent ∙ take-append-drop k qs;
-      paired = paired-cons _ _ (fromAbsent ∙ sym fromPresent) rest.paired;
+      paired = paired-cons _ _ (from_absent ∙ sym from_present) rest.paired;
     }
 
 -- A sheet within the limits is the one that its lists give.

@@ -13,7 +13,7 @@ use Rattle.csv_text.specs.Promises.{Importing}
 use Rattle.csv_import.specs.declared.read.TextRead.{TextRead}
 use Rattle.csv_import.specs.Gather.{ToldText}
 use Rattle.csv_import.proofs.Answering.{promise-misread, promise_refused, promise_written}
-use Rattle.csv_import.proofs.Answering.{Listed, frontFound, front_refuses, few_faults, few_cues, few_ways, wide-refuses, lists-said}
+use Rattle.csv_import.proofs.Answering.{Listed, front_found, front_refuses, few_faults, few_cues, few_ways, wide-refuses, lists-said}
 use Rattle.csv_import.proofs.import.Goals as goal
 
 -- Where no record is misread, the lists are those of a text that is read.
@@ -34,7 +34,7 @@ record Room (ws ns ks ps qs : List ℕ) (r : TextRead) : Type 0 where
   present : r.ways ≤ length ps
   absent : r.ways ≤ length qs
 
-room : {t ws ns ks ps qs : List ℕ} {r : TextRead} (l : Listed t ws ns ks ps qs r) → frontFound l ≡ 0 → Room ws ns ks ps qs r
+room : {t ws ns ks ps qs : List ℕ} {r : TextRead} (l : Listed t ws ns ks ps qs r) → front_found l ≡ 0 → Room ws ns ks ps qs r
 room l e =
     record {
       weights = rw l.of_weights (few_faults l e);
@@ -62,7 +62,7 @@ pub returns-then-said : goal.returns-then-said
 returns-then-said c =
     let s = c.read_text-said in
     let l = listed s.ensures c.if-misread-ne0.false s.auto.weights s.auto.numbers s.auto.counts s.auto.present s.auto.absent in
-    let none-first : frontFound l ≡ 0 = sym c.front-number.ensures ∙ c.if-number-ne0.false in
+    let none-first : front_found l ≡ 0 = sym c.front-number.ensures ∙ c.if-number-ne0.false in
     record {
       promise =
           promise_refused c.args.text.now c.args.space.now (none_misread l) 12
@@ -133,7 +133,7 @@ pub returns : goal.returns
 returns c =
     let s = c.read_text-said in
     let l = listed s.ensures c.if-misread-ne0.false s.auto.weights s.auto.numbers s.auto.counts s.auto.present s.auto.absent in
-    let none-first : frontFound l ≡ 0 = sym c.front-number.ensures ∙ c.if-number-ne0.false in
+    let none-first : front_found l ≡ 0 = sym c.front-number.ensures ∙ c.if-number-ne0.false in
     let before = c.args.space.now in
     let after = c.write-answer.new.space in
     record {

@@ -1,4 +1,4 @@
--- `same-nodes` meets its contract. The loop's invariant: what was unlike is 0 exactly if the words so far are equal.
+-- `same_nodes` meets its contract. The loop's invariant: what was unlike is 0 exactly if the words so far are equal.
 -- Rests on Equal.antt.
 use Rattle.store.proofs.Equal.{start, turn, answer}
 use Rattle.store.proofs.same_nodes.Goals as goal

@@ -1,5 +1,5 @@
 -- `is_good` meets its contract. The loop's invariant: what is still to be built on y answers for the tree.
--- Rests on Again.antt, on `store`, Lent, and on the contracts of `root_leaf`, `put_alone`, `remake` and `same-nodes`.
+-- Rests on Again.antt, on `store`, Lent, and on the contracts of `root_leaf`, `put_alone`, `remake` and `same_nodes`.
 use mathlib.Core.Path.{sym, ap, ◌∙◌}
 use mathlib.Core.Bool.{true≢false}
 use native.Mathlib.Omega.{arith}

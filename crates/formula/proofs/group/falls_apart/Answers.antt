@@ -1,5 +1,5 @@
 -- `falls_apart` meets its contract: there are other ways just if their set has a number.
--- Rests on `clauses`, Loops, and on the contracts of `other_ways` and `none-left`.
+-- Rests on `clauses`, Loops, and on the contracts of `other_ways` and `none_left`.
 use mathlib.Core.Path.{◌≡◌, refl, sym, ap, ◌∙◌}
 use mathlib.Core.Bool.{Bool, true, false, not}
 use mathlib.Core.List.{List, [], ◌∷◌}

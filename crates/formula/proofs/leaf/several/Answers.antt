@@ -1,5 +1,5 @@
 -- `several` meets its contract: once the first way is taken off, one is left.
--- Rests on `clauses`, Loops, and on the contracts of `none-left` and `taken`.
+-- Rests on `clauses`, Loops, and on the contracts of `none_left` and `taken`.
 use mathlib.Core.Path.{◌≡◌, sym, ap, ◌∙◌}
 use mathlib.Core.Bool.{Bool, true, false, not}
 use mathlib.Core.List.{List}
