@@ -1,13 +1,14 @@
 -- `put` meets its contract. The loop's invariant: the bytes of what remains of the number are left to write.
 -- Rests on Over.antt.
 use mathlib.Core.Path.{◌≡◌, refl, ap}
-use mathlib.Core.List.{[], ◌∷◌, ◌++◌}
+use mathlib.Core.List.{List, [], ◌∷◌, ◌++◌}
 use Prim.Native.Nat.{ℕ, zero, suc, ◌-◌, ◌/◌, ◌%◌, ◌<◌, ◌≤◌}
 use native.Mathlib.Omega.{arith}
 use lib.ListN.{length}
 use Rattle.rules.specs.Sheet.{little}
 use Rattle.rules.proofs.Bytes.{length-little}
-use Rattle.writer.proofs.Over.{left-all, left_long, left_room, left_none, next_written, wrote-byte}
+use Rattle.writer.specs.Pieces.{Room}
+use Rattle.writer.proofs.Over.{Left, left-all, left_long, left_room, left_none, next_written, wrote-byte}
 use Rattle.writer.proofs.pieces.put.Goals as goal
 
 -- The lowest byte, and the others.
@@ -22,31 +23,34 @@ unfolding little
 no_bytes zero x h = refl
 no_bytes (suc k) x h = absurd (omega arith)
 
+-- With bytes left to write, there is a place for one more.
+place : {old new : List ℕ} {i next : ℕ} {whole : List ℕ} (k x : ℕ)
+    → Room old i whole → Left old i whole new next (little k x) → 0 < k → next < length new
+place k x room l h = omega (arith, left_room room l, length-little k x)
+
 pub loop-left-init : goal.loop-left-init
 loop-left-init c = left-all c.args.space.now c.args.at (little c.args.width c.args.x)
 
 pub bounds-space-next : goal.bounds-space-next
-bounds-space-next c = (let it : c.loop-left.next < length c.loop-left.space = let l = c.loop-left in
-    omega (arith, left_room c.requires l.invariant, length-little l.left l.rest) in it)
+bounds-space-next c = let l = c.loop-left in place l.left l.rest c.requires l.invariant c.loop-left-test.true
 
 pub overflow_add-next : goal.overflow_add-next
-overflow_add-next c = omega (
-  arith,
-  (let it : c.loop-left.next < length c.loop-left.space = let l = c.loop-left in
-      omega (arith, left_room c.requires l.invariant, length-little l.left l.rest) in it),
-  left_long c.requires c.loop-left.invariant,
-)
+overflow_add-next c =
+    let l = c.loop-left in
+    omega (arith, place l.left l.rest c.requires l.invariant c.loop-left-test.true, left_long c.requires l.invariant)
 
 pub loop-left-preserved : goal.loop-left-preserved
-loop-left-preserved c = let l = c.loop-left in
+loop-left-preserved c =
+    let l = c.loop-left in
+    let some = c.loop-left-test.true in
     next_written (little (l.left - 1) (l.rest / 256)) c.requires
-    (rw (first_byte l.left l.rest c.loop-left-test.true) at l.invariant)
-    (wrote-byte l.space l.next (l.rest % 256) ((let it : c.loop-left.next < length c.loop-left.space = let l = c.loop-left in
-    omega (arith, left_room c.requires l.invariant, length-little l.left l.rest) in it)))
+    (rw (first_byte l.left l.rest some) at l.invariant)
+    (wrote-byte l.space l.next (l.rest % 256) (place l.left l.rest c.requires l.invariant some))
 
 pub shape_of-space : goal.shape_of-space
 shape_of-space c = left_long c.requires c.loop-left.invariant
 
 pub returns : goal.returns
-returns c = let l = c.loop-left in
+returns c =
+    let l = c.loop-left in
     left_none c.requires l.invariant (no_bytes l.left l.rest c.loop-left-test.false)

@@ -1,11 +1,11 @@
 -- `put_contents` meets its contract. The loop's invariant: the entries of the cues from i on are left to write, and their bodies end where all end.
 -- Rests on Over.antt, Walk.antt and the contract of `put_row`.
 use mathlib.Core.Path.{◌≡◌, refl, ap}
-use mathlib.Core.List.{List, ◌++◌}
+use mathlib.Core.List.{List, [], ◌++◌}
 use Prim.Native.Nat.{ℕ, ◌+◌, ◌*◌, ◌<◌, ◌≤◌}
 use native.Mathlib.Omega.{arith}
 use lib.ListN.{length, get_or, drop, drop_of_length-le}
-use Rattle.rules.specs.Sheet.{little, starts}
+use Rattle.rules.specs.Sheet.{little, total, starts}
 use Rattle.rules.proofs.Laid.{entries}
 use Rattle.writer.proofs.Over.{left-all, left_long, left_none, next_room, next_written}
 use Rattle.writer.proofs.Walk.{drop-next, total-next}
@@ -20,7 +20,8 @@ unfolding entries starts
 next-entry ns ks i place h e = rw (drop-next ns i h, drop-next ks i (omega arith))
 
 pub loop-i-init : goal.loop-i-init
-loop-i-init c = let a = c.args in
+loop-i-init c =
+    let a = c.args in
     (omega arith, refl, left-all a.space.now a.at (entries a.numbers.now a.counts.now (starts a.start a.counts.now)))
 
 pub overflow_cast-ways : goal.overflow_cast-ways
@@ -30,29 +31,42 @@ pub overflow_cast-numbers : goal.overflow_cast-numbers
 overflow_cast-numbers c = omega (arith, c.type_inv.numbers c.loop-i.i)
 
 pub put_row-next-requires : goal.put_row-next-requires
-put_row-next-requires c = next_room _ c.requires.room
-    (rw (next-entry c.args.numbers.now c.args.counts.now c.loop-i.i c.loop-i.place (omega arith) c.requires.counts_len) at c.loop-i.invariant.2)
+put_row-next-requires c =
+    let l = c.loop-i in
+    let next = next-entry c.args.numbers.now c.args.counts.now l.i l.place (omega arith) c.requires.counts_len in
+    next_room _ c.requires.room (rw next at l.invariant.2)
+
+-- The bodies up to the next one end within the space.
+next_ends : (ks : List ℕ) (i place end n : ℕ) → i < length ks → place + 16 * total (drop i ks) ≡ end → end ≤ n
+    → place + 16 * get_or ks i 0 ≤ n
+next_ends ks i place end n h e fits = omega (arith, total-next ks i h)
 
 pub overflow_mul-place : goal.overflow_mul-place
-overflow_mul-place c = omega (arith, (let it : c.loop-i.place + 16 * get_or c.args.counts.now c.loop-i.i 0 ≤ length c.args.space.now = omega (arith, total-next c.args.counts.now c.loop-i.i (omega arith), c.loop-i.invariant.1, c.requires.counts_in_bounds) in it))
+overflow_mul-place c =
+    let l = c.loop-i in
+    omega (arith, next_ends _ l.i l.place _ _ (omega arith) l.invariant.1 c.requires.counts_in_bounds)
 
 pub overflow_add-place : goal.overflow_add-place
-overflow_add-place c = omega (arith, (let it : c.loop-i.place + 16 * get_or c.args.counts.now c.loop-i.i 0 ≤ length c.args.space.now = omega (arith, total-next c.args.counts.now c.loop-i.i (omega arith), c.loop-i.invariant.1, c.requires.counts_in_bounds) in it))
+overflow_add-place c =
+    let l = c.loop-i in
+    omega (arith, next_ends _ l.i l.place _ _ (omega arith) l.invariant.1 c.requires.counts_in_bounds)
 
 pub loop-i-preserved : goal.loop-i-preserved
-loop-i-preserved c = (
-  omega arith,
-  omega (arith, total-next c.args.counts.now c.loop-i.i (omega arith), c.loop-i.invariant.1),
-  next_written _ c.requires.room
-      (rw (next-entry c.args.numbers.now c.args.counts.now c.loop-i.i c.loop-i.place (omega arith) c.requires.counts_len) at c.loop-i.invariant.2)
-      c.put_row-next.ensures,
-)
+loop-i-preserved c =
+    let l = c.loop-i in
+    let next = next-entry c.args.numbers.now c.args.counts.now l.i l.place (omega arith) c.requires.counts_len in (
+      omega arith,
+      omega (arith, total-next c.args.counts.now l.i (omega arith), l.invariant.1),
+      next_written _ c.requires.room (rw next at l.invariant.2) c.put_row-next.ensures,
+    )
 
 pub shape_of-space : goal.shape_of-space
 shape_of-space c = left_long c.requires.room c.loop-i.invariant.2
 
 pub returns : goal.returns
 unfolding entries
-returns c = let ks : List ℕ = drop c.loop-i.i c.args.counts.now in
-    left_none c.requires.room c.loop-i.invariant.2
-    (ap (λ (ns : List ℕ). entries ns ks (starts c.loop-i.place ks)) (drop_of_length-le c.args.numbers.now {i = c.loop-i.i} (omega arith)))
+returns c =
+    let l = c.loop-i in
+    let ks : List ℕ = drop l.i c.args.counts.now in
+    let none : drop l.i c.args.numbers.now ≡ [] = drop_of_length-le c.args.numbers.now (omega arith) in
+    left_none c.requires.room l.invariant.2 (ap (λ (ns : List ℕ). entries ns ks (starts l.place ks)) none)

@@ -11,7 +11,8 @@ use Rattle.writer.proofs.pieces.put_contents.Given as goal
 abbrev pub invariant-loop-i : goal.invariant-loop-i
 invariant-loop-i l = (l.i ≤ length l.numbers)
     × (l.place + 16 * total (drop l.i l.counts) ≡ l.start + 16 * total l.counts)
-    × Left l.initial.space l.at (entries l.numbers l.counts (starts l.start l.counts)) l.space l.next (entries (drop l.i l.numbers) (drop l.i l.counts) (starts l.place (drop l.i l.counts)))
+    × Left l.initial.space l.at (entries l.numbers l.counts (starts l.start l.counts)) l.space l.next
+    (entries (drop l.i l.numbers) (drop l.i l.counts) (starts l.place (drop l.i l.counts)))
 
 abbrev pub decreases-loop-i : goal.decreases-loop-i
 decreases-loop-i l = length l.numbers - l.i
