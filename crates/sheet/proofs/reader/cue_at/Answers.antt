@@ -21,35 +21,51 @@ unfolding entry_answer_by
 refuses zero b e some = absurd (some refl)
 refuses (suc n) b e some = refl
 
--- The answer, and with it the reply.
-both : (bs : List ℕ) (i : ℕ) (a : EntryAnswer) → a ≡ entry_answer bs i → (a ≡ entry_answer bs i) × (entry_reply a ≡ counted_by (read_number bs) 0)
-both bs i a e = (e, ap entry_reply e ∙ cue-reply bs i)
+-- The answer settles the reply.
+reply_of : (bs : List ℕ) (i : ℕ) {a : EntryAnswer} → a ≡ entry_answer bs i → entry_reply a ≡ counted_by (read_number bs) 0
+reply_of bs i e = ap entry_reply e ∙ cue-reply bs i
+
+-- ---- the answers, by the number of the sheet and the position
+
+module _ (s : List ℕ) (i : ℕ) where
+  -- The sheet is refused.
+  at_refused : {n : ℕ} → n ≡ read_number s → (n ≡ 0 → ⊥) → EntryAnswer.Refused n ≡ entry_answer s i
+  unfolding entry_answer
+  at_refused {n} number some =
+      refuses n (ltb i (cues_in s)) (entry_in s i) some
+      ∙ ap (λ (k : ℕ). entry_answer_by k (ltb i (cues_in s)) (entry_in s i)) number
+
+  module _ (none : read_number s ≡ 0) where
+    -- It has a cue there.
+    at_cue : {e : Entry} → i < cues_in s → e ≡ entry_in s i → EntryAnswer.Cue e ≡ entry_answer s i
+    unfolding entry_answer entry_answer_by
+    at_cue inside entry = rw (none, lt-ltb i (cues_in s) inside) (ap EntryAnswer.Cue entry)
+
+    -- It has fewer cues.
+    at_past : cues_in s ≤ i → EntryAnswer.Past ≡ entry_answer s i
+    unfolding entry_answer entry_answer_by
+    at_past past = rw (none, le-ltb i (cues_in s) past)
 
 pub returns-then-number-ne0 : goal.returns-then-number-ne0
-unfolding entry_answer
-returns-then-number-ne0 c = let a = c.args in
-    let s = a.s.now in let whole = both s a.i _
-    (refuses c.sheet_number-number.result (ltb a.i (cues_in s)) (entry_in s a.i) c.if-number-ne0.true
-    ∙ ap (λ (n : ℕ). entry_answer_by n (ltb a.i (cues_in s)) (entry_in s a.i)) c.sheet_number-number.ensures) in
-    record { answer = whole.0; reply = whole.1 }
+returns-then-number-ne0 c =
+    let e = at_refused c.args.s.now c.args.i c.sheet_number-number.ensures c.if-number-ne0.true in
+    record { answer = e; reply = reply_of _ _ e }
 
 pub entry_at-requires : goal.entry_at-requires
-entry_at-requires c = let s = c.args.s.now in
-    let few = accepted-few s (sym c.sheet_number-number.ensures ∙ c.if-number-ne0.false) in
+entry_at-requires c =
+    let few = accepted-few c.args.s.now (sym c.sheet_number-number.ensures ∙ c.if-number-ne0.false) in
     (omega (arith, c.cues_in.ensures.0, c.if-i-cues_in.true), few.cues)
 
 pub returns-then-i-cues_in : goal.returns-then-i-cues_in
-unfolding entry_answer entry_answer_by
-returns-then-i-cues_in c = let a = c.args in
-    let s = a.s.now in
-    let none : read_number s ≡ 0 = sym c.sheet_number-number.ensures ∙ c.if-number-ne0.false in
-    let inside : a.i < cues_in s = omega (arith, c.cues_in.ensures.0, c.if-i-cues_in.true) in let whole = both s a.i _ (rw (none, lt-ltb a.i (cues_in s) inside) (ap EntryAnswer.Cue c.entry_at.ensures)) in
-    record { answer = whole.0; reply = whole.1 }
+returns-then-i-cues_in c =
+    let none = sym c.sheet_number-number.ensures ∙ c.if-number-ne0.false in
+    let inside : c.args.i < cues_in c.args.s.now = omega (arith, c.cues_in.ensures.0, c.if-i-cues_in.true) in
+    let e = at_cue c.args.s.now c.args.i none inside c.entry_at.ensures in
+    record { answer = e; reply = reply_of _ _ e }
 
 pub returns : goal.returns
-unfolding entry_answer entry_answer_by
-returns c = let a = c.args in
-    let s = a.s.now in
-    let none : read_number s ≡ 0 = sym c.sheet_number-number.ensures ∙ c.if-number-ne0.false in
-    let past : cues_in s ≤ a.i = omega (arith, c.cues_in.ensures.0, c.if-i-cues_in.false) in let whole = both s a.i _ (rw (none, le-ltb a.i (cues_in s) past)) in
-    record { answer = whole.0; reply = whole.1 }
+returns c =
+    let none = sym c.sheet_number-number.ensures ∙ c.if-number-ne0.false in
+    let past : cues_in c.args.s.now ≤ c.args.i = omega (arith, c.cues_in.ensures.0, c.if-i-cues_in.false) in
+    let e = at_past c.args.s.now c.args.i none past in
+    record { answer = e; reply = reply_of _ _ e }
