@@ -11,18 +11,21 @@ use Rattle.rules.specs.Sheet.{read_refusals, total, numbers_in, counts_in, place
 use Rattle.rules.proofs.First.{first-here, first-later}
 use Rattle.sheet.proofs.number.contents_number.Goals as goal
 
--- ---- past each test, the refusals after it give the number
+-- ---- past each refusal, those after it give the number
 
 module _ (s : List ℕ) (rising : not_rising (numbers_in s) ≡ false) where
+  -- Past 5.
   past-5 : first (drop 4 (read_refusals s)) ≡ first (drop 5 (read_refusals s))
   unfolding read_refusals
   past-5 = first-later _ _ rising
 
   module _ (few : crowded (counts_in s) ≡ false) where
+    -- Past 6.
     past-6 : first (drop 4 (read_refusals s)) ≡ first (drop 6 (read_refusals s))
     unfolding read_refusals
     past-6 = past-5 ∙ first-later _ _ few
 
+    -- Past 7.
     past-7 : not (same_numbers (places_in s) (starts (bodies_in s) (counts_in s))) ≡ false
         → first (drop 4 (read_refusals s)) ≡ first (drop 7 (read_refusals s))
     unfolding read_refusals

@@ -14,23 +14,27 @@ use Rattle.rules.proofs.First.{first-here, first-later}
 use Rattle.rules.proofs.WriterLists.{faults-most}
 use Rattle.sheet.proofs.number.sheet_number.Goals as goal
 
--- ---- past each test, the refusals after it give the number
+-- ---- past each refusal, those after it give the number
 
 module _ (s : List ℕ) (long : 12 ≤ length s) where
+  -- Past 1.
   past-1 : read_number s ≡ first (drop 1 (read_refusals s))
   unfolding read_number read_refusals
   past-1 = first-later _ _ (le-ltb (length s) 12 long)
 
   module _ (within : (faults_outside (faults_in s) || cues_outside (cues_in s)) ≡ false) where
+    -- Past 2: few faults and few cues.
     past-2 : read_number s ≡ first (drop 2 (read_refusals s))
     unfolding read_refusals
     past-2 = past-1 ∙ first-later _ _ within
 
     module _ {z : ℕ} (read : z ≡ zero_in s) (none : z ≤ 0) where
+      -- Past 3: the number that the code reads there is 0.
       past-3 : read_number s ≡ first (drop 3 (read_refusals s))
       unfolding read_refusals
       past-3 = past-2 ∙ first-later _ _ (sym (ap (ltb 0) read) ∙ le-ltb 0 z none)
 
+      -- Past 4: the bytes reach to where the code has the bodies start.
       past-4 : {start : ℕ} → start ≡ bodies_in s → start ≤ length s → read_number s ≡ first (drop 4 (read_refusals s))
       unfolding read_refusals
       past-4 {start} is most = past-3 ∙ first-later _ _ (sym (ap (ltb (length s)) is) ∙ le-ltb (length s) start most)

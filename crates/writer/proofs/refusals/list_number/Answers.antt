@@ -17,6 +17,7 @@ use Rattle.writer.proofs.refusals.list_number.Goals as goal
 -- ---- past each group, those after it give the number
 
 module _ (x : Lists) (front : first (of-front x) ≡ 0) where
+  -- Past 2, 5, 6 and 10.
   past-front : first (lists_refusals x) ≡ first (from-ways x)
   past-front = in_groups x ∙ group_passes (of-front x) (from-ways x) refl (front_numbered x) front
 
@@ -25,9 +26,11 @@ module _ (x : Lists) (front : first (of-front x) ≡ 0) where
   sizes = front-sizes x.weights x.numbers x.counts front
 
   module _ (ways : first (of-ways x) ≡ 0) where
+    -- Past 12 and 13.
     past-ways : first (lists_refusals x) ≡ first (from-limits x)
     past-ways = past-front ∙ group_passes (of-ways x) (from-limits x) refl (ways_numbered x) ways
 
+    -- Past 14 and 15: 21 alone is left.
     past-limits : first (of-limits x) ≡ 0 → first (lists_refusals x) ≡ first (of-lengths x)
     past-limits limits = past-ways ∙ group_passes (of-limits x) (of-lengths x) refl (limits_numbered x) limits
 
