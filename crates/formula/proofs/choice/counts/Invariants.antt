@@ -8,13 +8,17 @@ use Rattle.formula.proofs.Counted.{Counting}
 use Rattle.formula.proofs.choice.counts.Given as goal
 
 abbrev pub invariant-loop-m : goal.invariant-loop-m
-invariant-loop-m l = (all : List Way) → Counting all (ways_of l.present l.absent l.left) l.initial.n l.initial.m → Counting all (ways_of l.present l.absent l.left) l.n l.m
+invariant-loop-m l =
+    let left = ways_of l.present l.absent l.left in
+    (all : List Way) → Counting all left l.initial.n l.initial.m → Counting all left l.n l.m
 
 abbrev pub decreases-loop-m : goal.decreases-loop-m
 decreases-loop-m l = l.m
 
 abbrev pub invariant-loop-left : goal.invariant-loop-left
-invariant-loop-left l = InTable l.present l.absent l.left × Counting (ways_of l.present l.absent l.initial.left) (ways_of l.present l.absent l.left) l.n 0
+invariant-loop-left l =
+    InTable l.present l.absent l.left
+    × Counting (ways_of l.present l.absent l.initial.left) (ways_of l.present l.absent l.left) l.n 0
 
 abbrev pub decreases-loop-left : goal.decreases-loop-left
 decreases-loop-left l = length (ways_of l.present l.absent l.left)
