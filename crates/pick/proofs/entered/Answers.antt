@@ -15,11 +15,14 @@ use Rattle.pick.specs.Steps.{view, came}
 use Rattle.pick.proofs.Wider.{wider-second, wider-first, wider-nothing}
 use Rattle.pick.proofs.entered.Goals as goal
 
+-- A leaf that is closed adds nothing to what was found.
 closed : (best : Found) (i : ℕ) (n : Node) → is_live n ≡ false → best ≡ wider_of best (own_found i n)
 unfolding own_found
 closed best i n q = rw (q, own_found) (sym (wider-nothing best))
 
+-- The leaf is open and w is its width.
 module _ (s : Search) (n : Node) (live : is_live n ≡ true) (w : ℕ) (e : w ≡ record_width n) where
+  -- Found of its own is then this leaf with this width.
   opened : (best : Found) → wider_of best (own_found s.at n) ≡ wider_of best (At s.at w)
   unfolding own_found
   opened best = rw (live, own_found) (ap (λ (u : ℕ). wider_of best (At s.at u)) (sym e))
@@ -31,6 +34,7 @@ module _ (s : Search) (n : Node) (live : is_live n ≡ true) (w : ℕ) (e : w �
   best_none : s.some ≡ false → (view s).best ≡ Nothing
   best_none h = rw h
 
+  -- The first leaf is found, a wider one takes the place of the one before, and any other does not.
   first : s.some ≡ false → At s.at w ≡ wider_of (view s).best (own_found s.at n)
   unfolding wider_of
   first h = sym (opened (view s).best ∙ ap (λ (x : Found). wider_of x (At s.at w)) (best_none h))
@@ -49,15 +53,19 @@ with-best i e = ap (came i false) e
 pub returns-then-not-is_live : goal.returns-then-not-is_live
 returns-then-not-is_live c = c.moved.ensures ∙ with-best _ (closed _ _ _ (sym c.is_live.ensures ∙ c.if-not-is_live.true))
 
+-- From here on the leaf is open.
 pub returns-then-w-s : goal.returns-then-w-s
-returns-then-w-s c = let s = c.args.s in
-    c.moved-then-w-s.ensures ∙ with-best _
-    (not-larger s _ ((let it : is_live c.args.n ≡ true = sym c.is_live.ensures ∙ c.if-not-is_live.false in it)) _ c.width-w.ensures c.if-s.true (omega (arith, c.if-w-s.true)))
+returns-then-w-s c =
+    let live = sym c.is_live.ensures ∙ c.if-not-is_live.false in
+    let no_wider : c.width-w.result ≤ c.args.s.width = omega (arith, c.if-w-s.true) in
+    c.moved-then-w-s.ensures ∙ with-best _ (not-larger c.args.s _ live _ c.width-w.ensures c.if-s.true no_wider)
 
 pub returns-else-w-s : goal.returns-else-w-s
-returns-else-w-s c = let s = c.args.s in
-    with-best _ (larger s _ ((let it : is_live c.args.n ≡ true = sym c.is_live.ensures ∙ c.if-not-is_live.false in it)) _ c.width-w.ensures c.if-s.true c.if-w-s.false)
+returns-else-w-s c =
+    let live = sym c.is_live.ensures ∙ c.if-not-is_live.false in
+    with-best _ (larger c.args.s _ live _ c.width-w.ensures c.if-s.true c.if-w-s.false)
 
 pub returns-else-s : goal.returns-else-s
-returns-else-s c = let s = c.args.s in
-    with-best _ (first s _ ((let it : is_live c.args.n ≡ true = sym c.is_live.ensures ∙ c.if-not-is_live.false in it)) _ c.width-w.ensures c.if-s.false)
+returns-else-s c =
+    let live = sym c.is_live.ensures ∙ c.if-not-is_live.false in
+    with-best _ (first c.args.s _ live _ c.width-w.ensures c.if-s.false)

@@ -1,7 +1,6 @@
 -- `next_leaf` meets its contract. The loop: the search is on its way to the answer.
 -- Rests on Searching.antt and the contracts of `onward`, `found_by` and `store`'s `record_at`.
 use mathlib.Core.Path.{◌≡◌, sym, ◌∙◌, subst}
-use mathlib.Core.Bool.{false}
 use mathlib.Core.List.{List}
 use borrow.Author.Tests.{not-true, not-false}
 use Rattle.records.specs.Records.{record_in}
@@ -20,29 +19,33 @@ step-there xs s n p e f h = rw (f, e) at h
 pub loop-s-init : goal.loop-s-init
 loop-s-init c = subst (Searching _ _) (sym c.begin-s.ensures) (begins _ _ c.requires.linked)
 
+-- The search is not over, so it is at a record of the tree.
 pub record_at-n-requires : goal.record_at-n-requires
-record_at-n-requires c = let l = c.loop-s in inside (view l.s) l.invariant ((let it : c.loop-s.s.over ≡ false = not-true _ c.loop-s-test.true in it))
+record_at-n-requires c = let l = c.loop-s in inside (view l.s) l.invariant (not-true _ c.loop-s-test.true)
 
 pub record_at-p-requires : goal.record_at-p-requires
-record_at-p-requires c = (safe-read (((tree_of c.args.tree.now).nodes)) _ _ c.requires.safe c.record_at-n.ensures).parent_inside
+record_at-p-requires c = (safe-read _ _ _ c.requires.safe c.record_at-n.ensures).parent_inside
 
 pub onward-s-requires : goal.onward-s-requires
 onward-s-requires c = (
-  (safe-read (((tree_of c.args.tree.now).nodes)) _ _ c.requires.safe c.record_at-n.ensures).children_inside,
-  (safe-read (((tree_of c.args.tree.now).nodes)) _ _ c.requires.safe c.record_at-p.ensures).children_inside,
+  (safe-read _ _ _ c.requires.safe c.record_at-n.ensures).children_inside,
+  (safe-read _ _ _ c.requires.safe c.record_at-p.ensures).children_inside,
 )
 
+-- A turn of the loop makes one step.
 pub loop-s-smaller : goal.loop-s-smaller
-loop-s-smaller c = let l = c.loop-s in less (view l.s) l.invariant ((let it : c.loop-s.s.over ≡ false = not-true _ c.loop-s-test.true in it)) ((let it : view c.onward-s.result ≡ (let xs = ((tree_of c.args.tree.now).nodes) in
+loop-s-smaller c =
+    let xs = (tree_of c.args.tree.now).nodes in
     let s = view c.loop-s.s in
-    stepped s (record_in xs s.at) (record_in xs (record_in xs s.at).parent)) = step-there (((tree_of c.args.tree.now).nodes)) (view c.loop-s.s) _ _
-    c.record_at-n.ensures c.record_at-p.ensures c.onward-s.ensures in it))
+    less s c.loop-s.invariant (not-true _ c.loop-s-test.true)
+    (step-there xs s _ _ c.record_at-n.ensures c.record_at-p.ensures c.onward-s.ensures)
 
 pub loop-s-preserved : goal.loop-s-preserved
-loop-s-preserved c = let l = c.loop-s in keeps (view l.s) l.invariant ((let it : c.loop-s.s.over ≡ false = not-true _ c.loop-s-test.true in it)) ((let it : view c.onward-s.result ≡ (let xs = ((tree_of c.args.tree.now).nodes) in
+loop-s-preserved c =
+    let xs = (tree_of c.args.tree.now).nodes in
     let s = view c.loop-s.s in
-    stepped s (record_in xs s.at) (record_in xs (record_in xs s.at).parent)) = step-there (((tree_of c.args.tree.now).nodes)) (view c.loop-s.s) _ _
-    c.record_at-n.ensures c.record_at-p.ensures c.onward-s.ensures in it))
+    keeps s c.loop-s.invariant (not-true _ c.loop-s-test.true)
+    (step-there xs s _ _ c.record_at-n.ensures c.record_at-p.ensures c.onward-s.ensures)
 
 pub returns : goal.returns
 returns c = c.found_by.ensures ∙ c.loop-s.invariant.found (not-false _ c.loop-s-test.false)
