@@ -9,12 +9,18 @@ use Rattle.rules.specs.Table.{Table}
 use Rattle.rules.specs.Tree.{Refinement}
 use Rattle.rules.specs.Run.{aim_of}
 use Rattle.rules.specs.declared.Aim.{Aim}
+use Rattle.rules.specs.declared.Limits.{Limits}
+use Rattle.rules.specs.declared.Verdict.{Verdict}
 use Rattle.records.specs.Records.{history}
 use Rattle.records.specs.declared.Tree.{Tree}
 use Rattle.records.proofs.Positions.{length_places}
 use Rattle.records.proofs.InPlace.{few-places}
 use Rattle.records.proofs.Live.{lean-at}
 use Rattle.store.specs.Lent.{tree_of}
+use Rattle.running.specs.declared.Step.{Step}
+use Rattle.running.specs.declared.Step.TheVariants.{Stop, Go}
+use Rattle.running.specs.Decided.{decided}
+use Rattle.running.specs.Ran.{Ran}
 use Rattle.running.proofs.Turns.{Goes, whole, linked}
 use Rattle.running.proofs.Going.{Going, start, room, goes_on}
 use Rattle.running.proofs.Deciding.{Outcome, means}
@@ -32,34 +38,56 @@ few-made t ns a b x made w =
       few-places t (history x) (whole t x w.good),
     )
 
+-- What `decide` answered on a run's way, with the tree x and so many refinements made.
+module _ (t : Table) (ns : List Refinement) (m : Limits) (x : Tree) (made : ℕ) (w : Going t ns (aim_of m) m.budget x made) where
+  module _ (r : Step) (e : r ≡ decided (aim_of m) x made m.budget) where
+    -- To stop is to have made the run.
+    stops : (v : Verdict) → r ≡ Stop v → Ran t ns m x (record { verdict = v; count = made })
+    stops v h = subst (Outcome t ns m x made w) h (means t ns m x made w e)
+
+    -- To go on is to refine the leaf in record j, as the rules do, and the budget is not spent.
+    goes-there : (j : ℕ) → r ≡ Go j → Goes t (aim_of m) x j × (made ≡ m.budget → ⊥)
+    goes-there j h = subst (Outcome t ns m x made w) h (means t ns m x made w e)
+
 pub loop-verdict-init : goal.loop-verdict-init
-loop-verdict-init c = start ((record { weights = c.args.weights.now; present = c.args.present.now; absent = c.args.absent.now })) _ _ (tree_of c.args.tree.now) c.requires.good c.requires.safe
+loop-verdict-init c = start _ _ _ (tree_of c.args.tree.now) c.requires.good c.requires.safe
 
 pub decide-requires : goal.decide-requires
 decide-requires c = record {
-  linked = linked ((record { weights = c.args.weights.now; present = c.args.present.now; absent = c.args.absent.now })) ((tree_of c.loop-verdict.tree)) c.loop-verdict.invariant.good;
+  linked = linked _ _ c.loop-verdict.invariant.good;
   safe = c.loop-verdict.invariant.safe;
   allowance_bound = c.requires.allowance_bound;
 }
 
 pub returns-in-Stop : goal.returns-in-Stop
-returns-in-Stop c = subst ((Outcome ((record { weights = c.args.weights.now; present = c.args.present.now; absent = c.args.absent.now })) ((history (tree_of c.args.tree.now))) c.args.limits ((tree_of c.loop-verdict.tree)) c.loop-verdict.made c.loop-verdict.invariant)) c.in-Stop.is ((let it : (Outcome ((record { weights = c.args.weights.now; present = c.args.present.now; absent = c.args.absent.now })) ((history (tree_of c.args.tree.now))) c.args.limits ((tree_of c.loop-verdict.tree)) c.loop-verdict.made c.loop-verdict.invariant) c.decide.result = means ((record { weights = c.args.weights.now; present = c.args.present.now; absent = c.args.absent.now })) ((history (tree_of c.args.tree.now))) c.args.limits ((tree_of c.loop-verdict.tree)) c.loop-verdict.made c.loop-verdict.invariant c.decide.ensures in it))
+returns-in-Stop c = let l = c.loop-verdict in stops _ _ c.args.limits _ _ l.invariant _ c.decide.ensures _ c.in-Stop.is
 
 pub refine_by_rule-requires : goal.refine_by_rule-requires
-refine_by_rule-requires c = record {
-  accepted = c.requires.accepted;
-  safe = c.loop-verdict.invariant.safe;
-  j_lt_tree_records = room ((record { weights = c.args.weights.now; present = c.args.present.now; absent = c.args.absent.now })) ((history (tree_of c.args.tree.now))) c.args.limits ((tree_of c.loop-verdict.tree)) c.loop-verdict.made c.loop-verdict.invariant _ ((let it : Goes ((record { weights = c.args.weights.now; present = c.args.present.now; absent = c.args.absent.now })) (aim_of c.args.limits) ((tree_of c.loop-verdict.tree)) c.in-Go.j × (c.loop-verdict.made ≡ c.args.limits.budget → ⊥) = subst ((Outcome ((record { weights = c.args.weights.now; present = c.args.present.now; absent = c.args.absent.now })) ((history (tree_of c.args.tree.now))) c.args.limits ((tree_of c.loop-verdict.tree)) c.loop-verdict.made c.loop-verdict.invariant)) c.in-Go.is ((let it : (Outcome ((record { weights = c.args.weights.now; present = c.args.present.now; absent = c.args.absent.now })) ((history (tree_of c.args.tree.now))) c.args.limits ((tree_of c.loop-verdict.tree)) c.loop-verdict.made c.loop-verdict.invariant) c.decide.result = means ((record { weights = c.args.weights.now; present = c.args.present.now; absent = c.args.absent.now })) ((history (tree_of c.args.tree.now))) c.args.limits ((tree_of c.loop-verdict.tree)) c.loop-verdict.made c.loop-verdict.invariant c.decide.ensures in it)) in it)).0 c.requires.accepted;
-  lean = lean-at ((record { weights = c.args.weights.now; present = c.args.present.now; absent = c.args.absent.now })) c.requires.accepted ((tree_of c.loop-verdict.tree)) c.loop-verdict.invariant.good _;
-}
+refine_by_rule-requires c =
+    let m = c.args.limits in
+    let l = c.loop-verdict in
+    let ok = c.requires.accepted in
+    let goes = goes-there _ _ m _ _ l.invariant _ c.decide.ensures _ c.in-Go.is in
+    record {
+      accepted = ok;
+      safe = l.invariant.safe;
+      j_lt_tree_records = room _ _ m _ _ l.invariant _ goes.0 ok;
+      lean = lean-at _ ok _ l.invariant.good _;
+    }
 
 pub overflow_add-made : goal.overflow_add-made
-overflow_add-made c = omega (arith, few-made ((record { weights = c.args.weights.now; present = c.args.present.now; absent = c.args.absent.now })) ((history (tree_of c.args.tree.now))) (aim_of c.args.limits) c.args.limits.budget ((tree_of c.loop-verdict.tree)) c.loop-verdict.made c.loop-verdict.invariant)
+overflow_add-made c = omega (arith, few-made _ _ _ _ _ _ c.loop-verdict.invariant)
 
 pub loop-verdict-smaller : goal.loop-verdict-smaller
-loop-verdict-smaller c = omega (arith, c.loop-verdict.invariant.sum, ((let it : Goes ((record { weights = c.args.weights.now; present = c.args.present.now; absent = c.args.absent.now })) (aim_of c.args.limits) ((tree_of c.loop-verdict.tree)) c.in-Go.j × (c.loop-verdict.made ≡ c.args.limits.budget → ⊥) = subst ((Outcome ((record { weights = c.args.weights.now; present = c.args.present.now; absent = c.args.absent.now })) ((history (tree_of c.args.tree.now))) c.args.limits ((tree_of c.loop-verdict.tree)) c.loop-verdict.made c.loop-verdict.invariant)) c.in-Go.is ((let it : (Outcome ((record { weights = c.args.weights.now; present = c.args.present.now; absent = c.args.absent.now })) ((history (tree_of c.args.tree.now))) c.args.limits ((tree_of c.loop-verdict.tree)) c.loop-verdict.made c.loop-verdict.invariant) c.decide.result = means ((record { weights = c.args.weights.now; present = c.args.present.now; absent = c.args.absent.now })) ((history (tree_of c.args.tree.now))) c.args.limits ((tree_of c.loop-verdict.tree)) c.loop-verdict.made c.loop-verdict.invariant c.decide.ensures in it)) in it)).1)
+loop-verdict-smaller c =
+    let l = c.loop-verdict in
+    let goes = goes-there _ _ c.args.limits _ _ l.invariant _ c.decide.ensures _ c.in-Go.is in
+    omega (arith, l.invariant.sum, goes.1)
 
 pub loop-verdict-preserved : goal.loop-verdict-preserved
-loop-verdict-preserved c = let g = (let it : Goes ((record { weights = c.args.weights.now; present = c.args.present.now; absent = c.args.absent.now })) (aim_of c.args.limits) ((tree_of c.loop-verdict.tree)) c.in-Go.j × (c.loop-verdict.made ≡ c.args.limits.budget → ⊥) = subst ((Outcome ((record { weights = c.args.weights.now; present = c.args.present.now; absent = c.args.absent.now })) ((history (tree_of c.args.tree.now))) c.args.limits ((tree_of c.loop-verdict.tree)) c.loop-verdict.made c.loop-verdict.invariant)) c.in-Go.is ((let it : (Outcome ((record { weights = c.args.weights.now; present = c.args.present.now; absent = c.args.absent.now })) ((history (tree_of c.args.tree.now))) c.args.limits ((tree_of c.loop-verdict.tree)) c.loop-verdict.made c.loop-verdict.invariant) c.decide.result = means ((record { weights = c.args.weights.now; present = c.args.present.now; absent = c.args.absent.now })) ((history (tree_of c.args.tree.now))) c.args.limits ((tree_of c.loop-verdict.tree)) c.loop-verdict.made c.loop-verdict.invariant c.decide.ensures in it)) in it) in
+loop-verdict-preserved c =
+    let m = c.args.limits in
+    let l = c.loop-verdict in
+    let goes = goes-there _ _ m _ _ l.invariant _ c.decide.ensures _ c.in-Go.is in
     let r = c.refine_by_rule.ensures in
-    goes_on ((record { weights = c.args.weights.now; present = c.args.present.now; absent = c.args.absent.now })) ((history (tree_of c.args.tree.now))) c.args.limits ((tree_of c.loop-verdict.tree)) c.loop-verdict.made c.loop-verdict.invariant _ g.0 c.requires.accepted _ r.grown r.two_more r.safe g.1
+    goes_on _ _ m _ _ l.invariant _ goes.0 c.requires.accepted _ r.grown r.two_more r.safe goes.1

@@ -21,6 +21,7 @@ use Rattle.running.proofs.turn.decide.Goals as goal
 abbrev root-narrow : Aim → Tree → Bool
 root-narrow a x = narrow a (record_in x.nodes 0).low (record_in x.nodes 0).high
 
+-- The definition, test by test: a is what is asked, x the tree, m what was made, and b the budget.
 module _ (a : Aim) (x : Tree) (m b : ℕ) where
   met : root-narrow a x ≡ true → Stop Met ≡ decided a x m b
   unfolding decided
@@ -45,7 +46,8 @@ module _ (a : Aim) (x : Tree) (m b : ℕ) where
       on q r = rw (h, decided, e, ne_eqb x.used tree_records q, with_leaf, ne_eqb m b r)
 
 -- What was tested is the root's record.
-tested : (a : Aim) (x : Tree) (k : Node) (r : Bool) {s : Bool} → k ≡ record_in x.nodes 0 → r ≡ narrow a k.low k.high → r ≡ s → root-narrow a x ≡ s
+tested : (a : Aim) (x : Tree) (k : Node) (r : Bool) {s : Bool} → k ≡ record_in x.nodes 0 → r ≡ narrow a k.low k.high → r ≡ s
+    → root-narrow a x ≡ s
 tested a x k r e n g = sym (ap (λ (k : Node). narrow a k.low k.high) e) ∙ sym n ∙ g
 
 pub next_leaf-found-requires : goal.next_leaf-found-requires
@@ -55,19 +57,38 @@ next_leaf-found-requires c = record {
 }
 
 pub returns-then-narrow : goal.returns-then-narrow
-returns-then-narrow c = met ((c.args.aim)) ((tree_of c.args.tree.now)) _ _ (tested c.args.aim (tree_of c.args.tree.now) _ _ c.record_at.ensures c.narrow.ensures c.if-narrow.true)
+returns-then-narrow c =
+    let a = c.args.aim in
+    let x = tree_of c.args.tree.now in
+    met a x _ _ (tested a x _ _ c.record_at.ensures c.narrow.ensures c.if-narrow.true)
 
+-- From here on the root is wider than is asked.
 pub returns-then-used-eq-RECORDS : goal.returns-then-used-eq-RECORDS
-returns-then-used-eq-RECORDS c = full ((c.args.aim)) ((tree_of c.args.tree.now)) _ _ (tested c.args.aim (tree_of c.args.tree.now) _ _ c.record_at.ensures c.narrow.ensures c.if-narrow.false) _ _
-    (sym c.next_leaf-found.ensures ∙ c.in-At.is) (sym c.used_in-used.ensures ∙ c.if-used-eq-RECORDS.true)
+returns-then-used-eq-RECORDS c =
+    let a = c.args.aim in
+    let x = tree_of c.args.tree.now in
+    let wide = tested a x _ _ c.record_at.ensures c.narrow.ensures c.if-narrow.false in
+    full a x _ _ wide _ _ (sym c.next_leaf-found.ensures ∙ c.in-At.is) (sym c.used_in-used.ensures ∙ c.if-used-eq-RECORDS.true)
 
 pub returns-then-made-budget : goal.returns-then-made-budget
-returns-then-made-budget c = spent ((c.args.aim)) ((tree_of c.args.tree.now)) _ _ (tested c.args.aim (tree_of c.args.tree.now) _ _ c.record_at.ensures c.narrow.ensures c.if-narrow.false) _ _
-    (sym c.next_leaf-found.ensures ∙ c.in-At.is) (λ q. c.if-used-eq-RECORDS.false (c.used_in-used.ensures ∙ q)) c.if-made-budget.true
+returns-then-made-budget c =
+    let a = c.args.aim in
+    let x = tree_of c.args.tree.now in
+    let wide = tested a x _ _ c.record_at.ensures c.narrow.ensures c.if-narrow.false in
+    let space : x.used ≡ tree_records → ⊥ = λ q. c.if-used-eq-RECORDS.false (c.used_in-used.ensures ∙ q) in
+    spent a x _ _ wide _ _ (sym c.next_leaf-found.ensures ∙ c.in-At.is) space c.if-made-budget.true
 
 pub returns-in-Nothing : goal.returns-in-Nothing
-returns-in-Nothing c = done ((c.args.aim)) ((tree_of c.args.tree.now)) _ _ (tested c.args.aim (tree_of c.args.tree.now) _ _ c.record_at.ensures c.narrow.ensures c.if-narrow.false) (sym c.next_leaf-found.ensures ∙ c.in-Nothing.is)
+returns-in-Nothing c =
+    let a = c.args.aim in
+    let x = tree_of c.args.tree.now in
+    let wide = tested a x _ _ c.record_at.ensures c.narrow.ensures c.if-narrow.false in
+    done a x _ _ wide (sym c.next_leaf-found.ensures ∙ c.in-Nothing.is)
 
 pub returns-else-made-budget : goal.returns-else-made-budget
-returns-else-made-budget c = on ((c.args.aim)) ((tree_of c.args.tree.now)) _ _ (tested c.args.aim (tree_of c.args.tree.now) _ _ c.record_at.ensures c.narrow.ensures c.if-narrow.false) _ _
-    (sym c.next_leaf-found.ensures ∙ c.in-At.is) (λ q. c.if-used-eq-RECORDS.false (c.used_in-used.ensures ∙ q)) c.if-made-budget.false
+returns-else-made-budget c =
+    let a = c.args.aim in
+    let x = tree_of c.args.tree.now in
+    let wide = tested a x _ _ c.record_at.ensures c.narrow.ensures c.if-narrow.false in
+    let space : x.used ≡ tree_records → ⊥ = λ q. c.if-used-eq-RECORDS.false (c.used_in-used.ensures ∙ q) in
+    on a x _ _ wide _ _ (sym c.next_leaf-found.ensures ∙ c.in-At.is) space c.if-made-budget.false
