@@ -1,13 +1,10 @@
 -- `run_afresh` meets its contract: refused by 9 to 15, or made on the root leaf alone.
 -- Rests on Fresh.antt, on `store`, Lent, and on the contracts of `run_number`, `root_leaf`, `put_alone` and `run_good`.
 use mathlib.Core.Path.{◌≡◌, sym, ap, subst, ◌∙◌}
-use mathlib.Core.Bool.{false}
 use mathlib.Core.List.{[]}
-use Rattle.rules.specs.Table.{Table, table}
-use Rattle.rules.specs.Calls.{run_number}
+use Rattle.rules.specs.Table.{Table}
 use Rattle.records.specs.Records.{record_at, Good}
 use Rattle.records.specs.declared.Tree.{Tree}
-use Rattle.store.specs.Lent.{tree_of}
 use Rattle.store.specs.Safe.{Safe}
 use Rattle.store.proofs.Lent.{cleared}
 use Rattle.dtree.specs.Promises.{one_record}
@@ -22,18 +19,24 @@ fit t x e = subst (λ (y : Tree). Good t y × Safe y.nodes) (sym e) (alone-good 
 pub returns-then-number-ne0 : goal.returns-then-number-ne0
 returns-then-number-ne0 c = record { answer = refused-afresh _ _ _ c.run_number-number.ensures c.if-number-ne0.true }
 
+-- Behind the test none of 9 to 15 applies.
 pub root_leaf-requires : goal.root_leaf-requires
-root_leaf-requires c = run-accepted _ _ ((let it : run_number ((table c.args.weights.now c.args.present.now c.args.absent.now)) false c.args.limits ≡ 0 = let_through _ _ _ c.run_number-number.ensures c.if-number-ne0.false in it))
+root_leaf-requires c = run-accepted _ _ (let_through _ _ _ c.run_number-number.ensures c.if-number-ne0.false)
 
 pub put_alone-requires : goal.put_alone-requires
 put_alone-requires c = cleared
 
+-- Behind `put_alone` the tree is the root leaf alone.
 pub run_good-requires : goal.run_good-requires
-run_good-requires c = let rest = fit _ _ ((let it : tree_of c.put_alone.new.tree ≡ one_record (record_at ((table c.args.weights.now c.args.present.now c.args.absent.now)) [] []) = c.put_alone.ensures ∙ ap one_record c.root_leaf.ensures in it)) in record {
-  limits_value = (let it : run_number ((table c.args.weights.now c.args.present.now c.args.absent.now)) false c.args.limits ≡ 0 = let_through _ _ _ c.run_number-number.ensures c.if-number-ne0.false in it);
-  good = rest.0;
-  safe = rest.1;
-}
+run_good-requires c =
+    let alone = c.put_alone.ensures ∙ ap one_record c.root_leaf.ensures in
+    record {
+      limits_value = let_through _ _ _ c.run_number-number.ensures c.if-number-ne0.false;
+      good = (fit _ _ alone).0;
+      safe = (fit _ _ alone).1;
+    }
 
 pub returns : goal.returns
-returns c = record { answer = ran-afresh _ _ _ _ ((let it : tree_of c.put_alone.new.tree ≡ one_record (record_at ((table c.args.weights.now c.args.present.now c.args.absent.now)) [] []) = c.put_alone.ensures ∙ ap one_record c.root_leaf.ensures in it)) c.run_good.ensures.promise.call.outcome_is }
+returns c =
+    let alone = c.put_alone.ensures ∙ ap one_record c.root_leaf.ensures in
+    record { answer = ran-afresh _ _ _ _ alone c.run_good.ensures.promise.call.outcome_is }

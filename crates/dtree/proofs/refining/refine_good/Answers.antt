@@ -24,14 +24,17 @@ use Rattle.dtree.proofs.refining.refine_good.Goals as goal
 
 -- What the answer `leaf_at` gave tells: a leaf that can be refined, or the number that refuses.
 module _ (t : Table) (x : Tree) (bs : List ℕ) (k : Kind) (r : Named) (told : Tells (word_table t.present t.absent) x bs k r) where
+  -- The leaf in record j can be refined so.
   refinable : (j : ℕ) → r ≡ Leaf j → Refinable (word_table t.present t.absent) x bs k j
   unfolding Tells
   refinable j e = rw e at told
 
+  -- The number is the leaf's, and not 0.
   number : (n : ℕ) → r ≡ Refused n → (leaf_number (word_table t.present t.absent) x bs k ≡ n) × (n ≡ 0 → ⊥)
   unfolding Tells
   number n e = rw e at told
 
+  -- So the refusal is what is promised.
   refused : Accepted t → Good t x → (n : ℕ) → r ≡ Refused n → Refining t x bs k x (Answer.Refused n)
   refused ok g n e =
       refining t x bs k x (Answer.Refused n)
@@ -39,25 +42,30 @@ module _ (t : Table) (x : Tree) (bs : List ℕ) (k : Kind) (r : Named) (told : T
 
 pub leaf_at-requires : goal.leaf_at-requires
 leaf_at-requires c = record {
-  present_len_bound = few_ways ((table c.args.weights.now c.args.present.now c.args.absent.now)) c.requires.accepted;
-  absent_len = sym (paired_words ((table c.args.weights.now c.args.present.now c.args.absent.now)) c.requires.accepted);
+  present_len_bound = few_ways _ c.requires.accepted;
+  absent_len = sym (paired_words _ c.requires.accepted);
   safe = c.requires.safe;
 }
 
 pub refine_leaf-requires : goal.refine_leaf-requires
-refine_leaf-requires c = record {
-  accepted = c.requires.accepted;
-  good = c.requires.good;
-  safe = c.requires.safe;
-  refinable = refinable ((table c.args.weights.now c.args.present.now c.args.absent.now)) ((tree_of c.args.tree.now)) c.args.place.now c.args.kind c.leaf_at.result c.leaf_at.ensures
-      _ c.in-Leaf.is;
-}
+refine_leaf-requires c =
+    let a = c.args in
+    let t = table a.weights.now a.present.now a.absent.now in
+    record {
+      accepted = c.requires.accepted;
+      good = c.requires.good;
+      safe = c.requires.safe;
+      refinable = refinable t (tree_of a.tree.now) a.place.now a.kind c.leaf_at.result c.leaf_at.ensures _ c.in-Leaf.is;
+    }
 
 pub returns-in-Refused : goal.returns-in-Refused
-returns-in-Refused c = record {
-  promise = refused ((table c.args.weights.now c.args.present.now c.args.absent.now)) ((tree_of c.args.tree.now)) c.args.place.now c.args.kind c.leaf_at.result c.leaf_at.ensures c.requires.accepted c.requires.good _
-      c.in-Refused.is;
-}
+returns-in-Refused c =
+    let a = c.args in
+    let t = table a.weights.now a.present.now a.absent.now in
+    record {
+      promise = refused t (tree_of a.tree.now) a.place.now a.kind c.leaf_at.result c.leaf_at.ensures c.requires.accepted c.requires.good _
+          c.in-Refused.is;
+    }
 
 pub returns-in-Leaf : goal.returns-in-Leaf
 returns-in-Leaf c = record { promise = c.refine_leaf.ensures.promise }
