@@ -14,8 +14,10 @@ text_length-requires c = sym c.sheet_number-number.ensures ∙ c.if-number-ne0.f
 
 pub returns-then-space-text_length : goal.returns-then-space-text_length
 returns-then-space-text_length c = let a = c.args in
-    space-short a.sheet.now a.space (sym c.sheet_number-number.ensures ∙ c.if-number-ne0.false) (omega (arith, c.text_length.ensures, c.if-space-text_length.true))
+    space-short a.sheet.now a.space (sym c.sheet_number-number.ensures ∙ c.if-number-ne0.false)
+    (omega (arith, c.text_length.ensures, c.if-space-text_length.true))
 
 pub returns : goal.returns
 returns c = let a = c.args in
-    space-enough a.sheet.now a.space (sym c.sheet_number-number.ensures ∙ c.if-number-ne0.false) (omega (arith, c.text_length.ensures, c.if-space-text_length.false))
+    space-enough a.sheet.now a.space (sym c.sheet_number-number.ensures ∙ c.if-number-ne0.false)
+    (omega (arith, c.text_length.ensures, c.if-space-text_length.false))

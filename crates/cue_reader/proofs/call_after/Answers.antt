@@ -36,7 +36,8 @@ goes_on bs k d {a = a} x at p = (
 -- ---- the goals
 
 pub loop-made-init : goal.loop-made-init
-loop-made-init c = (omega arith, begins _ c.open_reader-r.result (ap (λ (b : Bor (List ℕ)). b.now) c.open_reader-r.ensures.reader.0) c.open_reader-r.ensures.reader.1)
+loop-made-init c =
+    (omega arith, begins _ c.open_reader-r.result (ap (λ (b : Bor (List ℕ)). b.now) c.open_reader-r.ensures.reader.0) c.open_reader-r.ensures.reader.1)
 
 pub loop-made-preserved : goal.loop-made-preserved
 loop-made-preserved c = (omega (arith, c.loop-made-test.true), goes_on _ _ _ _ c.loop-made.invariant.1 c.next.ensures.promise)

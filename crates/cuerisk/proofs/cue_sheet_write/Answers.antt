@@ -9,4 +9,5 @@ use Rattle.cuerisk.proofs.cue_sheet_write.Goals as goal
 pub returns : goal.returns
 returns c = let a = c.args in
     let m : Limits = record { allowance = a.allowance; budget = a.budget } in
-    let x : Lists = given a.weights.now a.numbers.now a.counts.now a.present.now a.absent.now m in record { promise = writing-told x a.space.now c.write.ensures.promise c.of_write.ensures }
+    let x : Lists = given a.weights.now a.numbers.now a.counts.now a.present.now a.absent.now m in
+    record { promise = writing-told x a.space.now c.write.ensures.promise c.of_write.ensures }

@@ -15,9 +15,11 @@ pub returns-then-used-ge-RECORDS : goal.returns-then-used-ge-RECORDS
 returns-then-used-ge-RECORDS c = nineteen _ _ _ _ c.if-n-ne0.false (sym c.is_live.ensures ∙ c.if-not-is_live.false) c.if-used-ge-RECORDS.true
 
 pub returns-then-possible : goal.returns-then-possible
-returns-then-possible c = nought _ _ _ _ c.if-n-ne0.false (sym c.is_live.ensures ∙ c.if-not-is_live.false) c.if-used-ge-RECORDS.false (c.ways_of-c.ensures.ways_are [])
+returns-then-possible c =
+    nought _ _ _ _ c.if-n-ne0.false (sym c.is_live.ensures ∙ c.if-not-is_live.false) c.if-used-ge-RECORDS.false (c.ways_of-c.ensures.ways_are [])
     c.possible.ensures c.if-possible.true
 
 pub returns-else-possible : goal.returns-else-possible
-returns-else-possible c = twenty _ _ _ _ c.if-n-ne0.false (sym c.is_live.ensures ∙ c.if-not-is_live.false) c.if-used-ge-RECORDS.false (c.ways_of-c.ensures.ways_are [])
+returns-else-possible c =
+    twenty _ _ _ _ c.if-n-ne0.false (sym c.is_live.ensures ∙ c.if-not-is_live.false) c.if-used-ge-RECORDS.false (c.ways_of-c.ensures.ways_are [])
     c.possible.ensures c.if-possible.false

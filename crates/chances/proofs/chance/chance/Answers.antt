@@ -22,7 +22,8 @@ start : (d : Dir) (ws : List ℕ) (p q : ℕ) → p < 2 ^ 64 → q < 2 ^ 64 → 
 start d ws p q hp hq = record { fits = or_lt 64 p q hp hq; small = omega arith; rest = all-faults d ws p q S }
 
 module _ (d : Dir) (ws : List ℕ) (p q c m : ℕ) (inv : Left d ws p q c m) where
-  turn : (m ≡ 0 → ⊥) → count_trailing_zeros 64 m < length ws → (x y : Bool) (r : ℕ) → x ≡ bit (count_trailing_zeros 64 m) p → y ≡ bit (count_trailing_zeros 64 m) q
+  turn : (m ≡ 0 → ⊥) → count_trailing_zeros 64 m < length ws → (x y : Bool) (r : ℕ) → x ≡ bit (count_trailing_zeros 64 m) p
+      → y ≡ bit (count_trailing_zeros 64 m) q
       → (r ≡ step d (get_or ws (count_trailing_zeros 64 m) 0) x y c) × (r ≤ S) → Left d ws p q r (bit_and m (m - 1))
   turn h l x y r e f g =
       record {

@@ -13,11 +13,16 @@ loop-i-init c = (omega arith, refl)
 
 pub returns-then-counts-i-gt128 : goal.returns-then-counts-i-gt128
 unfolding crowded some_above
-returns-then-counts-i-gt128 c = let l = c.loop-i in let counts = c.args.counts.now in found _ (lt-ltb 128 (get_or counts l.i 0) (omega (arith, c.if-counts-i-gt128.true))) (forward crowded counts l.i (omega arith) l.invariant.1)
+returns-then-counts-i-gt128 c =
+    let l = c.loop-i in
+    let counts = c.args.counts.now in
+    found _ (lt-ltb 128 (get_or counts l.i 0) (omega (arith, c.if-counts-i-gt128.true))) (forward crowded counts l.i (omega arith) l.invariant.1)
 
 pub loop-i-preserved : goal.loop-i-preserved
 unfolding crowded some_above
-loop-i-preserved c = let l = c.loop-i in (omega arith, passed (le-ltb _ _ c.if-counts-i-gt128.false) (forward crowded c.args.counts.now l.i (omega arith) l.invariant.1))
+loop-i-preserved c =
+    let l = c.loop-i in
+    (omega arith, passed (le-ltb _ _ c.if-counts-i-gt128.false) (forward crowded c.args.counts.now l.i (omega arith) l.invariant.1))
 
 pub returns : goal.returns
 unfolding crowded some_above

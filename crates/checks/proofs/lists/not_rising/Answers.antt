@@ -20,7 +20,9 @@ loop-i-init c = (omega arith, refl)
 
 pub returns-then-number-last : goal.returns-then-number-last
 unfolding not_rising rising
-returns-then-number-last c = let l = c.loop-i in stops _ (le-ltb _ _ c.if-number-last.true) (forward (rising l.last) c.args.numbers.now l.i (omega arith) l.invariant.1)
+returns-then-number-last c =
+    let l = c.loop-i in
+    stops _ (le-ltb _ _ c.if-number-last.true) (forward (rising l.last) c.args.numbers.now l.i (omega arith) l.invariant.1)
 
 pub loop-i-preserved : goal.loop-i-preserved
 unfolding rising

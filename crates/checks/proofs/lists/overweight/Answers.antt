@@ -12,7 +12,9 @@ loop-i-init c = (omega arith, refl)
 
 pub returns-then-weights-i-gt-S : goal.returns-then-weights-i-gt-S
 unfolding overweight some_above
-returns-then-weights-i-gt-S c = let l = c.loop-i in found _ (lt-ltb _ _ c.if-weights-i-gt-S.true) (forward overweight c.args.weights.now l.i (omega arith) l.invariant.1)
+returns-then-weights-i-gt-S c =
+    let l = c.loop-i in
+    found _ (lt-ltb _ _ c.if-weights-i-gt-S.true) (forward overweight c.args.weights.now l.i (omega arith) l.invariant.1)
 
 pub loop-i-preserved : goal.loop-i-preserved
 unfolding overweight some_above

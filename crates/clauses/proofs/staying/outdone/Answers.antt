@@ -9,7 +9,8 @@ pub loop-j-init : goal.loop-j-init
 loop-j-init c = (refl, omega arith, λ k l. absurd (omega arith))
 
 pub returns-then-outdoes : goal.returns-then-outdoes
-returns-then-outdoes c = one_outdoes _ _ c.args.v c.requires c.loop-j.j (omega (arith, c.loop-j-test.true, c.loop-j.invariant.0)) (sym c.outdoes.ensures ∙ c.if-outdoes.true)
+returns-then-outdoes c =
+    one_outdoes _ _ c.args.v c.requires c.loop-j.j (omega (arith, c.loop-j-test.true, c.loop-j.invariant.0)) (sym c.outdoes.ensures ∙ c.if-outdoes.true)
 
 pub loop-j-preserved : goal.loop-j-preserved
 loop-j-preserved c = (

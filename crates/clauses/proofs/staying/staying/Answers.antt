@@ -32,7 +32,8 @@ pub loop-all-smaller : goal.loop-all-smaller
 loop-all-smaller c = fewer _ _ _ _ c.taken-t.ensures
 
 pub loop-all-preserved : goal.loop-all-preserved
-loop-all-preserved c = skips _ _ _ _ _ _ c.loop-all.invariant _ c.taken-t.ensures c.args.d.cover c.requires.divided.covered (sym c.subsumes.ensures ∙ c.if-subsumes.false)
+loop-all-preserved c =
+    skips _ _ _ _ _ _ c.loop-all.invariant _ c.taken-t.ensures c.args.d.cover c.requires.divided.covered (sym c.subsumes.ensures ∙ c.if-subsumes.false)
 
 pub returns : goal.returns
 returns c = let k = c.restrict-shorter.ensures in

@@ -15,7 +15,8 @@ use Rattle.csv_export.proofs.lengths.cue_length.Goals as goal
 
 pub returns-then-e-eq0 : goal.returns-then-e-eq0
 returns-then-e-eq0 c =
-    let long : length (decimal c.args.e.cue) + 2 ≡ 22 - c.digits_of-d.result.from = omega (arith, digits-length c.args.e.cue c.digits_of-d.result c.digits_of-d.ensures.result_value c.digits_of-d.ensures.bytes_len, c.digits_of-d.ensures.from_bound) in
+    let long : length (decimal c.args.e.cue) + 2 ≡ 22 - c.digits_of-d.result.from = omega
+    (arith, digits-length c.args.e.cue c.digits_of-d.result c.digits_of-d.ensures.result_value c.digits_of-d.ensures.bytes_len, c.digits_of-d.ensures.from_bound) in
     let a = c.args in
     let bs = a.s.now in
     let none = length-column 8 16 a.e.start a.e.ways bs in
@@ -55,7 +56,8 @@ loop-i-preserved c = let a = c.args in
 
 pub returns : goal.returns
 returns c =
-    let long : length (decimal c.args.e.cue) + 2 ≡ 22 - c.digits_of-d.result.from = omega (arith, digits-length c.args.e.cue c.digits_of-d.result c.digits_of-d.ensures.result_value c.digits_of-d.ensures.bytes_len, c.digits_of-d.ensures.from_bound) in
+    let long : length (decimal c.args.e.cue) + 2 ≡ 22 - c.digits_of-d.result.from = omega
+    (arith, digits-length c.args.e.cue c.digits_of-d.result c.digits_of-d.ensures.result_value c.digits_of-d.ensures.bytes_len, c.digits_of-d.ensures.from_bound) in
     let a = c.args in
     let bs = a.s.now in
     let e = a.e in

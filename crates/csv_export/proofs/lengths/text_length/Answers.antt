@@ -24,7 +24,9 @@ overflow_add-result c = omega (arith, c.front_length-front.ensures.1, c.cues_len
 pub returns : goal.returns
 unfolding whole_text
 returns c =
-    let whole = let d = decode c.args.s.now in ap length (text-whole c.args.s.now (each_below 256 c.args.s.now (λ i. (c.type_inv.s i).fits)) c.requires) ∙ length-append (front_text d.limits d.weights) (cues_text d.cues) in
+    let whole = let d = decode c.args.s.now in
+    ap length (text-whole c.args.s.now (each_below 256 c.args.s.now (λ i. (c.type_inv.s i).fits)) c.requires)
+    ∙ length-append (front_text d.limits d.weights) (cues_text d.cues) in
     let given = weights-taken c.args.s.now c.requires c.weights-w.ensures c.faults_in.ensures.0 c.at_most-n.ensures in
     let front = ap₂ (λ m ws. length (front_text m ws)) (limits-taken c.args.s.now c.limits_in.ensures) given.0 in
     omega (

@@ -6,7 +6,8 @@ use Rattle.csv_export.proofs.Naming.{fields_in, Walk}
 use Rattle.csv_export.proofs.pieces.put_faults.Given as goal
 
 abbrev pub invariant-loop-left : goal.invariant-loop-left
-invariant-loop-left l = Walk l.present l.absent l.left × Left l.initial.space l.at (faults_text l.present l.absent) l.space l.next (fields_in l.left 0 64 l.present l.absent)
+invariant-loop-left l =
+    Walk l.present l.absent l.left × Left l.initial.space l.at (faults_text l.present l.absent) l.space l.next (fields_in l.left 0 64 l.present l.absent)
 
 abbrev pub decreases-loop-left : goal.decreases-loop-left
 decreases-loop-left l = l.left

@@ -15,7 +15,8 @@ loop-i-init c = let a = c.args in
 
 pub put_way-next-requires : goal.put_way-next-requires
 put_way-next-requires c =
-    let turn = next_row c.args.cue.now c.args.s.now c.args.e.start (c.args.e.start + 8) c.args.e.ways c.loop-i.i c.loop-i-test.true c.u64_at-p.ensures c.u64_at-q.ensures in
+    let turn = next_row c.args.cue.now c.args.s.now c.args.e.start
+    (c.args.e.start + 8) c.args.e.ways c.loop-i.i c.loop-i-test.true c.u64_at-p.ensures c.u64_at-q.ensures in
     next_room _ c.requires (rw turn at c.loop-i.invariant.1)
 
 pub loop-i-preserved : goal.loop-i-preserved

@@ -19,13 +19,15 @@ unfolding whole_text
 put_front-next-requires c =
     let whole = text-whole c.args.s.now (each_below 256 c.args.s.now (λ i. (c.type_inv.s i).fits)) c.requires.s_value in
     let room = rw whole at c.requires.room in
-    let front = let ws = weights-taken c.args.s.now c.requires.s_value c.weights-w.ensures c.faults_in.ensures.0 c.at_most-n.ensures in ap₂ front_text (limits-taken c.args.s.now c.limits_in.ensures) ws.0 in
+    let front = let ws = weights-taken c.args.s.now c.requires.s_value c.weights-w.ensures c.faults_in.ensures.0 c.at_most-n.ensures in
+    ap₂ front_text (limits-taken c.args.s.now c.limits_in.ensures) ws.0 in
     rw front (room-first (cues_text (decode c.args.s.now).cues) room)
 
 pub put_cues-requires : goal.put_cues-requires
 unfolding whole_text
 put_cues-requires c =
-    let front = let ws = weights-taken c.args.s.now c.requires.s_value c.weights-w.ensures c.faults_in.ensures.0 c.at_most-n.ensures in ap₂ front_text (limits-taken c.args.s.now c.limits_in.ensures) ws.0 in
+    let front = let ws = weights-taken c.args.s.now c.requires.s_value c.weights-w.ensures c.faults_in.ensures.0 c.at_most-n.ensures in
+    ap₂ front_text (limits-taken c.args.s.now c.limits_in.ensures) ws.0 in
     let wrote = rw front at c.put_front-next.ensures in
     let whole = text-whole c.args.s.now (each_below 256 c.args.s.now (λ i. (c.type_inv.s i).fits)) c.requires.s_value in
     let room = rw whole at c.requires.room in
@@ -37,7 +39,8 @@ put_cues-requires c =
 pub returns : goal.returns
 unfolding whole_text
 returns c =
-    let front = let ws = weights-taken c.args.s.now c.requires.s_value c.weights-w.ensures c.faults_in.ensures.0 c.at_most-n.ensures in ap₂ front_text (limits-taken c.args.s.now c.limits_in.ensures) ws.0 in
+    let front = let ws = weights-taken c.args.s.now c.requires.s_value c.weights-w.ensures c.faults_in.ensures.0 c.at_most-n.ensures in
+    ap₂ front_text (limits-taken c.args.s.now c.limits_in.ensures) ws.0 in
     let wrote = rw front at c.put_front-next.ensures in
     let whole = text-whole c.args.s.now (each_below 256 c.args.s.now (λ i. (c.type_inv.s i).fits)) c.requires.s_value in
     let room = rw whole at c.requires.room in

@@ -9,7 +9,9 @@ use Rattle.writer.proofs.Over.{Left}
 use Rattle.csv_export.proofs.whole.put_weights.Given as goal
 
 abbrev pub invariant-loop-i : goal.invariant-loop-i
-invariant-loop-i l = (l.i ≤ length l.weights) × Left l.initial.space l.at (further_fields (map decimal l.weights)) l.space l.next (further_fields (map decimal (drop l.i l.weights)))
+invariant-loop-i l =
+    (l.i ≤ length l.weights)
+    × Left l.initial.space l.at (further_fields (map decimal l.weights)) l.space l.next (further_fields (map decimal (drop l.i l.weights)))
 
 abbrev pub decreases-loop-i : goal.decreases-loop-i
 decreases-loop-i l = length l.weights - l.i

@@ -27,7 +27,8 @@ pub shape_of-absent-then-not-r : goal.shape_of-absent-then-not-r
 shape_of-absent-then-not-r c = c.loop-at.invariant.1.absent
 
 pub returns-then-not-r : goal.returns-then-not-r
-returns-then-not-r c = walk-bad c.loop-at.invariant.0 c.loop-at-test.true c.row-r.result c.row-r.ensures.told_row (not-true _ c.if-not-r.true) c.misread_row.result
+returns-then-not-r c =
+    walk-bad c.loop-at.invariant.0 c.loop-at-test.true c.row-r.result c.row-r.ensures.told_row (not-true _ c.if-not-r.true) c.misread_row.result
     c.misread_row.ensures
 
 pub shape_of-numbers-then-not-may_follow : goal.shape_of-numbers-then-not-may_follow

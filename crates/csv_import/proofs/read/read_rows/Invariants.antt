@@ -7,7 +7,9 @@ use Rattle.csv_import.proofs.Reading.{RowsWalk}
 use Rattle.csv_import.proofs.read.read_rows.Given as goal
 
 abbrev pub invariant-loop-at : goal.invariant-loop-at
-invariant-loop-at l = RowsWalk l.text l.start l.s l.k l.at l.numbers l.counts l.present l.absent × AsLong l.initial.numbers l.initial.counts l.initial.present l.initial.absent l.numbers l.counts l.present l.absent
+invariant-loop-at l =
+    RowsWalk l.text l.start l.s l.k l.at l.numbers l.counts l.present l.absent
+    × AsLong l.initial.numbers l.initial.counts l.initial.present l.initial.absent l.numbers l.counts l.present l.absent
 
 abbrev pub decreases-loop-at : goal.decreases-loop-at
 decreases-loop-at l = length l.text - l.at

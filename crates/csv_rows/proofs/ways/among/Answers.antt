@@ -31,7 +31,8 @@ loop-left-smaller c = let v = c.loop-left in
     let t = c.loop-left-test.true in
     let g = not-false _ c.if-not-y.false in
     ahead-less text v.left c.fault_of-y.result.more v.at c.fault_of-y.result.next t (c.loop-left.invariant.inside t)
-    ((c.fault_of-y.ensures c.args.text.now c.loop-left.at c.field_at.ensures).passed g).further ((c.fault_of-y.ensures c.args.text.now c.loop-left.at c.field_at.ensures).passed g).inside
+    ((c.fault_of-y.ensures c.args.text.now c.loop-left.at c.field_at.ensures).passed g).further
+    ((c.fault_of-y.ensures c.args.text.now c.loop-left.at c.field_at.ensures).passed g).inside
 
 pub loop-left-preserved : goal.loop-left-preserved
 loop-left-preserved c = let v = c.loop-left in

@@ -10,5 +10,6 @@ returns-then-space-n c = let whole = too_short _ _ c.report-r.ensures.promise _ 
 
 pub returns : goal.returns
 returns c =
-    let whole = fits _ _ c.report-r.ensures.promise _ _ c.if-space-n.false (ap (λ (xs : List ℕ). xs ++ drop c.report-r.result.length c.args.space.now) c.copy_from_slice.ensures.after) in
+    let whole = fits _ _ c.report-r.ensures.promise _ _ c.if-space-n.false
+    (ap (λ (xs : List ℕ). xs ++ drop c.report-r.result.length c.args.space.now) c.copy_from_slice.ensures.after) in
     record { value = whole.0; space_after = whole.1 }

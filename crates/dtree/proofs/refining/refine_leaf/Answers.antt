@@ -53,6 +53,7 @@ grow-requires c = let g = c.requires.good in
 
 pub returns : goal.returns
 returns c = record {
-  promise = made_so ((table c.args.weights.now c.args.present.now c.args.absent.now)) ((tree_of c.args.tree.now)) c.args.place.now c.args.kind c.args.j c.requires.accepted c.requires.good c.requires.refinable _ c.grow.ensures _
+  promise = made_so (table c.args.weights.now c.args.present.now c.args.absent.now)
+      (tree_of c.args.tree.now) c.args.place.now c.args.kind c.args.j c.requires.accepted c.requires.good c.requires.refinable _ c.grow.ensures _
       c.record_at-root.ensures;
 }

@@ -14,4 +14,5 @@ run_on-e-requires c = record {
 }
 
 pub returns : goal.returns
-returns c = record { promise = running _ _ _ _ _ (ran_on _ _ c.requires.good _ c.requires.limits_value _ _ c.run_on-e.ensures _ c.record_at-root.ensures _ c.figure.ensures) }
+returns c =
+    record { promise = running _ _ _ _ _ (ran_on _ _ c.requires.good _ c.requires.limits_value _ _ c.run_on-e.ensures _ c.record_at-root.ensures _ c.figure.ensures) }

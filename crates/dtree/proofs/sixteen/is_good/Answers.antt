@@ -29,7 +29,8 @@ remake-requires c = let ok = c.requires in record {
 }
 
 pub returns-then-not-remake : goal.returns-then-not-remake
-returns-then-not-remake c = (stops _ _ _ _ c.loop-left-test.true c.loop-left.invariant _ _ c.remake.ensures (c.if-not-remake.true), λ e. absurd (true≢false (sym e)))
+returns-then-not-remake c =
+    (stops _ _ _ _ c.loop-left-test.true c.loop-left.invariant _ _ c.remake.ensures (c.if-not-remake.true), λ e. absurd (true≢false (sym e)))
 
 pub overflow_sub-left : goal.overflow_sub-left
 overflow_sub-left c = omega (arith, c.loop-left-test.true)

@@ -15,7 +15,8 @@ abbrev pub names : ℕ → Way → Bool
 names f v = bit f (faults v)
 
 abbrev pub invariant-loop-left : goal.invariant-loop-left
-invariant-loop-left l = InTable l.present l.absent l.left × (any (names l.f) (ways_of l.present l.absent l.left) ≡ any (names l.f) (ways_of l.present l.absent l.initial.left))
+invariant-loop-left l =
+    InTable l.present l.absent l.left × (any (names l.f) (ways_of l.present l.absent l.left) ≡ any (names l.f) (ways_of l.present l.absent l.initial.left))
 
 abbrev pub decreases-loop-left : goal.decreases-loop-left
 decreases-loop-left l = length (ways_of l.present l.absent l.left)

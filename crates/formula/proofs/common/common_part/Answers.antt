@@ -41,4 +41,5 @@ loop-left-preserved c = let t = c.taken-t in
 
 pub returns : goal.returns
 returns c = let t = c.taken-first in
-    at_end _ _ _ t.ensures.first c.loop-left.p c.loop-left.q _ c.loop-left.invariant.1 (none-left _ _ _ (no_more c.none_left-in-loop-left.ensures c.loop-left-test.false))
+    at_end _ _ _ t.ensures.first c.loop-left.p c.loop-left.q _ c.loop-left.invariant.1
+    (none-left _ _ _ (no_more c.none_left-in-loop-left.ensures c.loop-left-test.false))

@@ -7,7 +7,9 @@ use Rattle.formula.proofs.Meeting.{common}
 use Rattle.formula.proofs.common.common_part.Given as goal
 
 abbrev pub invariant-loop-left : goal.invariant-loop-left
-invariant-loop-left l = InTable l.present l.absent l.left × (common l.p l.q (ways_of l.present l.absent l.left) ≡ common l.initial.p l.initial.q (ways_of l.present l.absent l.initial.left))
+invariant-loop-left l =
+    InTable l.present l.absent l.left
+    × (common l.p l.q (ways_of l.present l.absent l.left) ≡ common l.initial.p l.initial.q (ways_of l.present l.absent l.initial.left))
 
 abbrev pub decreases-loop-left : goal.decreases-loop-left
 decreases-loop-left l = length (ways_of l.present l.absent l.left)

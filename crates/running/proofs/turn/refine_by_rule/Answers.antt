@@ -46,5 +46,7 @@ choose-k-requires c = record {
 }
 
 pub returns : goal.returns
-returns c = by-rule ((record { weights = c.args.weights.now; present = c.args.present.now; absent = c.args.absent.now })) ((tree_of c.args.tree.now)) c.args.j _ _ c.record_at.ensures c.ways_of-c.ensures _ _
+returns c =
+    by-rule ((record { weights = c.args.weights.now; present = c.args.present.now; absent = c.args.absent.now }))
+    ((tree_of c.args.tree.now)) c.args.j _ _ c.record_at.ensures c.ways_of-c.ensures _ _
     (c.choose-k.ensures.0 c.args.weights.now refl) c.grow.ensures

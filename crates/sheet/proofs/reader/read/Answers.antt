@@ -29,5 +29,6 @@ returns-then-number-ne0 c = let s = c.args.s.now in let whole = both s _
 pub returns : goal.returns
 unfolding read_answer read_answer_by
 returns c = let s = c.args.s.now in
-    let none : read_number s ≡ 0 = sym c.sheet_number-number.ensures ∙ c.if-number-ne0.false in let whole = both s _ (ap ReadAnswer.Sheet c.head_in.ensures ∙ ap (λ (k : ℕ). read_answer_by k (head_in s)) (sym none)) in
+    let none : read_number s ≡ 0 = sym c.sheet_number-number.ensures ∙ c.if-number-ne0.false in
+    let whole = both s _ (ap ReadAnswer.Sheet c.head_in.ensures ∙ ap (λ (k : ℕ). read_answer_by k (head_in s)) (sym none)) in
     record { answer = whole.0; reply = whole.1 }
