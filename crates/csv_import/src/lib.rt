@@ -70,11 +70,12 @@ pub fn import(text: &[u8], space: &mut [u8]) -> ImportAnswer
     let cues = said.cues;
     let ways = said.ways;
     let limits = said.limits;
+    let far = said.far;
     let number = front(faults, cues, &weights, &numbers, &counts);
     if number != 0 {
         return ImportAnswer::Refused(number);
     }
-    if said.far {
+    if far {
         return ImportAnswer::Refused(12);
     }
     let answer = write(

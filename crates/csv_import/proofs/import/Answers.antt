@@ -58,15 +58,15 @@ returns-then-number-ne0 c =
           (front_refuses l (length c.args.space.now) c.front-number.result c.front-number.ensures c.if-number-ne0.true) c.if-number-ne0.true;
     }
 
-pub returns-then-said : goal.returns-then-said
-returns-then-said c =
+pub returns-then-far : goal.returns-then-far
+returns-then-far c =
     let s = c.read_text-said in
     let l = listed s.ensures c.if-misread-ne0.false s.auto.weights s.auto.numbers s.auto.counts s.auto.present s.auto.absent in
     let none-first : front_found l ≡ 0 = sym c.front-number.ensures ∙ c.if-number-ne0.false in
     record {
       promise =
           promise_refused c.args.text.now c.args.space.now (none_misread l) 12
-          (wide-refuses l none-first c.if-said.true (length c.args.space.now)) (λ z. absurd (omega (arith, z)));
+          (wide-refuses l none-first c.if-far.true (length c.args.space.now)) (λ z. absurd (omega (arith, z)));
     }
 
 pub slice_bounds-weights-end : goal.slice_bounds-weights-end
@@ -140,5 +140,5 @@ returns c =
       promise =
           subst (Importing c.args.text.now before after) (sym c.taken_over.ensures)
           (promise_written c.args.text.now before (none_misread l) c.write-answer.result
-          (subst (λ (x : Lists). Writing x before after c.write-answer.result) (lists-said l none-first c.if-said.false) c.write-answer.ensures.promise));
+          (subst (λ (x : Lists). Writing x before after c.write-answer.result) (lists-said l none-first c.if-far.false) c.write-answer.ensures.promise));
     }
