@@ -1,95 +1,75 @@
-//! Numbers read from standard input, for test programs: decimal digits, one other byte after each number.
-//! Past the end of the input every number is 0. Rests on `io` alone.
+//! Numbers read from an input, for test programs: decimal digits, one other byte after each number.
+//! Past the end of the input, or where it cannot be read, every number is 0. Rests on std alone.
 #![tactic(auto)]
 
-ghost use Rattle.std.specs.Prelude.{◌≡◌, ◌+◌, ◌-◌, ◌*◌, ◌^◌, ◌<◌, ◌≤◌};
-ghost use Rattle.io.specs.Counts.{IsPrefixLen};
+ghost use Rattle.std.specs.Prelude.{◌≡◌, ◌+◌, ◌-◌, ◌*◌, ◌^◌, ◌<◌, ◌≤◌, IfOk, vec_len};
 
-/// A byte as a number.
-pub fn wide(b: u8) -> u64
-    ensures { result ≡ b }
-{
-    b as u64
+use std::alloc::{AllocError, Global};
+use std::io::{Bytes, Read};
+
+/// The most digits of a number.
+const DIGITS: usize = 20;
+
+/// The numbers that are left of an input, and the memory for lists of them.
+#[derive(Drop)]
+pub struct Numbers<R> {
+    pub bytes: Bytes<R>,
+    pub alloc: Global,
 }
 
-/// The one byte of an array.
-fn first(b: &[u8; 1]) -> u8 {
-    b[0]
-}
+impl<R: Read + Drop> Numbers<R> {
+    /// The next byte; 0 past the end.
+    pub fn byte(&mut self) -> u8 {
+        match self.bytes.next() {
+            Some(Ok(byte)) => byte,
+            _ => 0,
+        }
+    }
 
-/// The next byte of the input; 0 past its end.
-pub fn byte() -> u8 {
-    let mut b = [0u8; 1];
-    io::read_full(0, &mut b);
-    first(&b)
+    /// The next number, of at most 20 digits.
+    pub fn number(&mut self) -> u64 {
+        let mut number = 0;
+        for _ in 0..DIGITS {
+            let byte = self.byte();
+            if !byte.is_ascii_digit() {
+                return number;
+            }
+            number = longer(number, byte);
+        }
+        self.byte();
+        number
+    }
+
+    /// The next number as a list's length, of at most so many elements: the input has no longer lists.
+    pub fn list_length(&mut self, most: usize) -> usize
+        ensures { result ≤ most }
+    {
+        usize::try_from(self.number()).unwrap_or(most).min(most)
+    }
+
+    /// The next numbers as a list; one that its type does not hold counts as `most`.
+    pub fn list<T: TryFrom<u64> + Copy>(
+        &mut self,
+        count: usize,
+        most: T,
+    ) -> Result<Vec<T>, AllocError>
+    where
+        T::Error: Drop,
+        ensures { IfOk result (λ list. vec_len list ≡ count) }
+    {
+        let alloc = self.alloc;
+        (0..count)
+            .map(|_| T::try_from(self.number()).unwrap_or(most))
+            .collect(alloc)
+    }
 }
 
 /// A number with one more digit, where that fits a word. A digit is 48 and its value.
-fn longer(n: u64, digit: u8) -> u64
+fn longer(number: u64, digit: u8) -> u64
     requires { 48 ≤ digit }
-    ensures { 10 * n + (digit - 48) < 2 ^ 64 → result ≡ 10 * n + (digit - 48) }
+    ensures { 10 * number + (digit - 48) < 2 ^ 64 → result ≡ 10 * number + (digit - 48) }
 {
-    if n > 1844674407370955161 {
-        return n;
-    }
-    std::num::wrapping_add_u64(10 * n, wide(digit - 48))
-}
-
-/// The next number of the input, of at most 20 digits.
-pub fn number() -> u64 {
-    let mut n: u64 = 0;
-    let mut digits: usize = 0;
-    while digits < 20 {
-        let b = byte();
-        if b < 48 || b > 57 {
-            return n;
-        }
-        n = longer(n, b);
-        digits += 1;
-    }
-    byte();
-    n
-}
-
-/// The next number of the input; `most` if it is above that.
-pub fn number_to(most: u64) -> u64
-    ensures { result ≤ most }
-{
-    let n = number();
-    if n > most { most } else { n }
-}
-
-/// The next number as a list's length, of at most so many elements: the input has no longer lists.
-pub fn list_length(most: usize) -> usize
-    ensures { result ≤ most }
-{
-    number_to(most as u64) as usize
-}
-
-/// The next weights of the input, zeros after them.
-pub fn weight_list(count: usize) -> [u32; 65]
-    requires { count ≤ 65 }
-    ensures { IsPrefixLen count result }
-{
-    let mut list = [0u32; 65];
-    let mut i: usize = 0;
-    while i < count {
-        list[i] = number_to(4294967295) as u32;
-        i += 1;
-    }
-    list
-}
-
-/// The next words of the input, zeros after them: as many as a sheet has ways, and one more.
-pub fn word_list(count: usize) -> [u64; 3073]
-    requires { count ≤ 3073 }
-    ensures { IsPrefixLen count result }
-{
-    let mut list = [0u64; 3073];
-    let mut i: usize = 0;
-    while i < count {
-        list[i] = number();
-        i += 1;
-    }
-    list
+    number
+        .checked_mul(10)
+        .map_or(number, |tens| tens.wrapping_add(u64::from(digit - b'0')))
 }

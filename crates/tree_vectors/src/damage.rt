@@ -1,35 +1,49 @@
 //! One number of a tree changed before a call, so that the call has to refuse the tree, and changed back afterwards.
 //! Rests on the words of `store`. Fields are numbered in the order in which a record lists them, from 0; the number after them is the count of
 //! records in use.
+use numbers::Numbers;
 use records::{FIELDS, RECORDS};
-use std::num::{wrapping_add_u64, wrapping_sub_u64};
+use std::io::Read;
 use store::{COUNT, Words};
 
 /// Which number is changed: the record, the field, and what is added to it. Sums wrap around, so that only 0 changes nothing.
 #[derive(Clone, Copy)]
 pub struct Damage {
-    pub record: usize,
-    pub field: usize,
-    pub by: u64,
+    record: usize,
+    field: usize,
+    by: u64,
 }
 
-/// What changes a damaged number back.
-pub fn undoing(d: Damage) -> Damage {
-    Damage {
-        record: d.record,
-        field: d.field,
-        by: wrapping_sub_u64(0, d.by),
-    }
-}
-
-/// Damages the tree. A record that there is not is left alone; past the last field, every number is the count.
-pub fn change(tree: &mut Words, d: Damage) {
-    let mut at: usize = COUNT;
-    if d.field < FIELDS {
-        if RECORDS <= d.record {
-            return;
+impl Damage {
+    /// Reads a damage.
+    pub fn read<R: Read + Drop>(input: &mut Numbers<R>) -> Self {
+        Damage {
+            record: input.number() as usize,
+            field: input.number() as usize,
+            by: input.number(),
         }
-        at = FIELDS * d.record + d.field;
     }
-    tree[at] = wrapping_add_u64(tree[at], d.by);
+
+    /// What changes a damaged number back.
+    pub fn undoing(self) -> Self {
+        Damage {
+            by: self.by.wrapping_neg(),
+            ..self
+        }
+    }
+
+    /// Where the number stands. A record that there is not has none; past the last field, every number is the count.
+    fn word(self) -> Option<usize> {
+        if self.field >= FIELDS {
+            return Some(COUNT);
+        }
+        (self.record < RECORDS).then(|| FIELDS * self.record + self.field)
+    }
+
+    /// Damages the tree.
+    pub fn change(self, tree: &mut Words) {
+        if let Some(word) = self.word().and_then(|at| tree.get_mut(at)) {
+            *word = word.wrapping_add(self.by);
+        }
+    }
 }

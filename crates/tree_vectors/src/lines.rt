@@ -4,8 +4,8 @@ ghost use Rattle.std.specs.Prelude.{◌≡◌};
 ghost use Rattle.rules.specs.Answers.{accepted, refused, answer_reply, run_reply, run_figure};
 ghost use Rattle.tree_vectors.specs.Lines.{line_reply, verdict_number, end_number};
 
-use numbers::wide;
 use rules::{Answer, Figures, RunAnswer, S, Verdict};
+use std::fmt;
 
 /// The four figures of a line.
 #[derive(Clone, Copy)]
@@ -14,6 +14,14 @@ pub struct Line {
     pub low: u64,
     pub high: u64,
     pub count: u64,
+}
+
+/// The line of a run: its verdict and its figure stand behind the four.
+#[derive(Clone, Copy)]
+pub struct RunLine {
+    pub line: Line,
+    pub verdict: u64,
+    pub figure: u64,
 }
 
 /// The line of an accepted call.
@@ -33,7 +41,7 @@ fn refused_line(n: u8) -> Line
     ensures { line_reply result ≡ refused n }
 {
     Line {
-        number: wide(n),
+        number: u64::from(n),
         low: 0,
         high: S,
         count: 0,
@@ -50,16 +58,6 @@ pub fn reply(a: Answer) -> Line
     }
 }
 
-/// What the answer of a run says in the rules' terms.
-fn run_reply(a: RunAnswer) -> Line
-    ensures { line_reply result ≡ run_reply a }
-{
-    match a {
-        RunAnswer::Ended(_, f, _) => accepted_line(f),
-        RunAnswer::Refused(n) => refused_line(n),
-    }
-}
-
 /// A verdict as a number.
 fn verdict_number(v: Verdict) -> u64
     ensures { result ≡ verdict_number v }
@@ -72,48 +70,45 @@ fn verdict_number(v: Verdict) -> u64
     }
 }
 
-/// The verdict of a run as a number.
-fn end_number(a: RunAnswer) -> u64
-    ensures { result ≡ end_number a }
+/// What the answer of a run says in the rules' terms; a refused one has verdict 0 and figure 0.
+pub fn run_line(a: RunAnswer) -> RunLine
+    ensures reply { line_reply result.line ≡ run_reply a }
+    ensures verdict { result.verdict ≡ end_number a }
+    ensures figure { result.figure ≡ run_figure a }
 {
     match a {
-        RunAnswer::Ended(v, _, _) => verdict_number(v),
-        RunAnswer::Refused(_) => 0,
+        RunAnswer::Ended(v, f, g) => RunLine {
+            line: accepted_line(f),
+            verdict: verdict_number(v),
+            figure: g,
+        },
+        RunAnswer::Refused(n) => RunLine {
+            line: refused_line(n),
+            verdict: 0,
+            figure: 0,
+        },
     }
 }
 
-/// The figure of a run.
-fn figure_shown(a: RunAnswer) -> u64
-    ensures { result ≡ run_figure a }
-{
-    match a {
-        RunAnswer::Ended(_, _, g) => g,
-        RunAnswer::Refused(_) => 0,
+impl fmt::Display for Line {
+    fn fmt<W: fmt::Write>(&self, f: &mut fmt::Formatter<W>) -> fmt::Result {
+        let Line {
+            number,
+            low,
+            high,
+            count,
+        } = self;
+        write!(f, "{number} {low} {high} {count}")
     }
 }
 
-/// Prints a number and the byte after it.
-pub fn print_field(n: u64, after: u8) {
-    io::print_decimal(1, n);
-    io::write_all(1, &[after]);
-}
-
-/// Prints a line up to its count, and the byte after it.
-fn print_figures(r: Line, after: u8) {
-    print_field(r.number, b' ');
-    print_field(r.low, b' ');
-    print_field(r.high, b' ');
-    print_field(r.count, after);
-}
-
-/// Prints the line of an opening or a hand refinement.
-pub fn print_line(r: Line) {
-    print_figures(r, b'\n');
-}
-
-/// Prints the line of a run.
-pub fn print_run(a: RunAnswer) {
-    print_figures(run_reply(a), b' ');
-    print_field(end_number(a), b' ');
-    print_field(figure_shown(a), b'\n');
+impl fmt::Display for RunLine {
+    fn fmt<W: fmt::Write>(&self, f: &mut fmt::Formatter<W>) -> fmt::Result {
+        let RunLine {
+            line,
+            verdict,
+            figure,
+        } = self;
+        write!(f, "{line} {verdict} {figure}")
+    }
 }

@@ -3,138 +3,79 @@
 #![tactic(auto)]
 
 mod damage;
-mod input;
 mod lines;
 mod places;
+mod requests;
+mod table;
 
-use damage::{Damage, change, undoing};
-use dtree::opening::open;
-use dtree::refining::refine;
-use dtree::runs::run;
-use input::step_list;
-use lines::{print_line, print_run, reply};
-use numbers::{list_length, number, number_to, weight_list, word_list};
+use numbers::Numbers;
 use places::show;
-use rules::{Kind, Limits};
+use requests::Request;
+use std::alloc::Global;
+use std::io;
+use std::io::{BufReader, BufWriter, Read, Write};
 use store::{NO_NODES, Words};
+use table::Table;
 
-/// Opens the table and prints the line.
-fn opening(weights: &[u32], present: &[u64], absent: &[u64], tree: &mut Words) {
-    print_line(reply(open(weights, present, absent, tree)));
-}
-
-/// Reads what a hand refinement does: 0 for independence, 1 for a fault, 2 for the common part, then the fault's number.
-fn kind_read() -> Kind {
-    let what = number();
-    let fault = number();
-    if what == 0 {
-        return Kind::IndependentOr;
-    }
-    if what == 2 {
-        return Kind::IndependentAnd;
-    }
-    Kind::Shannon(fault)
-}
-
-/// Reads a hand refinement, makes it and prints its line.
-fn hand(weights: &[u32], present: &[u64], absent: &[u64], tree: &mut Words) {
-    let steps = list_length(70);
-    let place = step_list(steps);
-    let kind = kind_read();
-    print_line(reply(refine(weights, present, absent, tree, &place[..steps], kind)));
-}
-
-/// Reads a run, makes it and prints its line.
-fn counted(weights: &[u32], present: &[u64], absent: &[u64], tree: &mut Words) {
-    let allowance = number();
-    let budget = number();
-    print_run(run(weights, present, absent, tree, Limits { allowance, budget }));
-}
-
-/// Makes the call of this code, 0 for a hand refinement and 1 for a run.
-fn call(code: u64, weights: &[u32], present: &[u64], absent: &[u64], tree: &mut Words) {
-    if code == 0 {
-        hand(weights, present, absent, tree);
-        return;
-    }
-    counted(weights, present, absent, tree);
-}
-
-/// Reads a damage and a call, makes the call on the damaged tree and undoes the damage.
-fn on_damaged(weights: &[u32], present: &[u64], absent: &[u64], tree: &mut Words) {
-    let record = number() as usize;
-    let field = number() as usize;
-    let by = number();
-    let d = Damage { record, field, by };
-    change(tree, d);
-    let code = number();
-    call(code, weights, present, absent, tree);
-    change(tree, undoing(d));
-}
-
-/// Does what the next line asks for: 0 or 1 a call, 2 a call on a damaged tree, 3 all places printed, else a call and all places then,
-/// with the tree kept as it was.
-fn request(weights: &[u32], present: &[u64], absent: &[u64], tree: &mut Words) {
-    let code = number();
-    if code < 2 {
-        call(code, weights, present, absent, tree);
-        return;
-    }
-    if code == 2 {
-        on_damaged(weights, present, absent, tree);
-        return;
-    }
-    if code == 3 {
-        show(tree);
-        return;
-    }
-    let next = number();
-    let mut copy = *tree;
-    call(next, weights, present, absent, &mut copy);
-    show(&copy);
-}
-
-/// Reads how many lines there are and does what they ask for, each with the tree that the one before left.
-fn requests(weights: &[u32], present: &[u64], absent: &[u64], tree: &mut Words) {
-    let count = number();
-    let mut done: u64 = 0;
-    while done < count {
-        request(weights, present, absent, tree);
-        done += 1;
+/// Does what a line asks for and prints what it gives.
+fn answer<W: Write>(
+    table: &Table,
+    request: Request,
+    tree: &mut Words,
+    alloc: Global,
+    out: &mut W,
+) -> io::Result<()> {
+    match request {
+        Request::Call(call) => table.call(call, tree, out),
+        Request::OnDamaged(damage, call) => {
+            damage.change(tree);
+            let printed = table.call(call, tree, out);
+            damage.undoing().change(tree);
+            printed
+        }
+        Request::Places => show(tree, alloc, out),
+        Request::Tried(call) => {
+            let mut copy = *tree;
+            table.call(call, &mut copy, out)?;
+            show(&copy, alloc, out)
+        }
     }
 }
 
-/// Reads one script and makes it. It starts with 1 if its table is opened, with 0 if the tree of the script before is handed on.
-fn script(tree: &mut Words) {
-    let opens = number();
-    let faults = list_length(65);
-    let presents = list_length(129);
-    let absents = list_length(129);
-    let weights = weight_list(faults);
-    let present = word_list(presents);
-    let absent = word_list(absents);
-    if opens != 0 {
-        opening(
-            &weights[..faults],
-            &present[..presents],
-            &absent[..absents],
-            tree,
-        );
+/// Reads one script and makes it, each line with the tree that the one before left. It starts with 1 if its table is opened, with 0 if the
+/// tree of the script before is handed on.
+fn script<R: Read + Drop, W: Write>(
+    input: &mut Numbers<R>,
+    tree: &mut Words,
+    out: &mut W,
+) -> io::Result<()> {
+    let opens = input.number() != 0;
+    let table = Table::read(input)?;
+    if opens {
+        table.open(tree, out)?;
     }
-    requests(
-        &weights[..faults],
-        &present[..presents],
-        &absent[..absents],
-        tree,
-    );
+    for _ in 0..input.number() {
+        answer(&table, Request::read(input)?, tree, input.alloc, out)?;
+    }
+    Ok(())
 }
 
-fn main() {
-    let scripts = number();
+/// Makes all scripts.
+fn scripts(rt: &(impl Input + Print + AllocGlobal)) -> io::Result<()> {
+    let alloc = rt.alloc();
+    let mut input = Numbers {
+        bytes: BufReader::new(alloc, rt.reader())?.bytes(),
+        alloc,
+    };
+    let mut out = BufWriter::new(alloc, io::writer(rt))?;
     let mut tree = NO_NODES;
-    let mut done: u64 = 0;
-    while done < scripts {
-        script(&mut tree);
-        done += 1;
+    for _ in 0..input.number() {
+        script(&mut input, &mut tree, &mut out)?;
     }
+    out.flush()
+}
+
+/// What is printed is compared from outside; the status is 0 whatever becomes of it.
+fn main(rt: HostRuntime) {
+    let _ = scripts(&rt);
 }

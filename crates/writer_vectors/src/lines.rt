@@ -1,88 +1,57 @@
-//! Printed lines: numbers, and a hash for what is too long to print. Rests on `io` and `numbers`.
-use numbers::wide;
-use rules::WriteAnswer;
+//! Printed lines: numbers, and a hash for what is too long to print. Rests on the answers of `rules`.
+use rules::{Entry, Head, WriteAnswer};
+use std::io;
+use std::io::Write;
 
-/// A quarter word as a word.
-fn wide_quarter(x: u16) -> u64 {
-    x as u64
-}
+/// The prime of the hash.
+const PRIME: u64 = 1000000007;
 
-/// A half word as a word.
-fn wide_half(x: u32) -> u64 {
-    x as u64
-}
-
-/// The hash of a list that is longer by x: a polynomial in 257, modulo the prime 1000000007.
+/// The hash of a list that is longer by x.
 fn hashed(hash: u64, x: u64) -> u64 {
-    (257 * (hash % 1000000007) + x % 1000000007 + 1) % 1000000007
+    (257 * (hash % PRIME) + x % PRIME + 1) % PRIME
 }
 
-/// The hash of bytes.
-fn bytes_hash(s: &[u8]) -> u64 {
-    let mut hash: u64 = 0;
-    let mut i: usize = 0;
-    while i < s.len() {
-        hash = hashed(hash, wide(s[i]));
-        i += 1;
-    }
-    hash
+/// The hash of a list: a polynomial in 257, modulo the prime.
+fn hash<T: Copy + Into<u64>>(list: &[T]) -> u64 {
+    list.iter().fold(0, |hash, &x| hashed(hash, x.into()))
 }
 
-/// The hash of weights.
-pub fn weights_hash(s: &[u32]) -> u64 {
-    let mut hash: u64 = 0;
-    let mut i: usize = 0;
-    while i < s.len() {
-        hash = hashed(hash, wide_half(s[i]));
-        i += 1;
-    }
-    hash
+/// Prints what reading finds in the head, and the hash of the weights with zeros behind.
+pub fn print_head<W: Write>(head: Head, weights: &[u32], out: &mut W) -> io::Result<()> {
+    let Head {
+        faults,
+        cues,
+        limits,
+    } = head;
+    let (allowance, budget) = (limits.allowance, limits.budget);
+    writeln!(
+        out,
+        "head {faults} {cues} {allowance} {budget} {}",
+        hash(weights)
+    )
 }
 
-/// The hash of words.
-pub fn words_hash(s: &[u64]) -> u64 {
-    let mut hash: u64 = 0;
-    let mut i: usize = 0;
-    while i < s.len() {
-        hash = hashed(hash, s[i]);
-        i += 1;
-    }
-    hash
+/// Prints what reading finds of a cue: number, ways, start of its body, and the hashes of its words with zeros behind.
+pub fn print_cue<W: Write>(
+    entry: Entry,
+    present: &[u64],
+    absent: &[u64],
+    out: &mut W,
+) -> io::Result<()> {
+    let Entry { cue, ways, start } = entry;
+    writeln!(
+        out,
+        "cue {cue} {ways} {start} {} {}",
+        hash(present),
+        hash(absent)
+    )
 }
 
-/// Prints a blank and a number.
-pub fn print_number(n: u64) {
-    io::write_all(1, b" ");
-    io::print_decimal(1, n);
-}
-
-/// Prints a blank and a quarter word.
-pub fn print_quarter(n: u16) {
-    print_number(wide_quarter(n));
-}
-
-/// Prints a blank and a half word.
-pub fn print_half(n: u32) {
-    print_number(wide_half(n));
-}
-
-/// Ends the line.
-pub fn print_end() {
-    io::write_all(1, b"\n");
-}
-
-/// Prints a blank, the number and a blank, the count.
-fn print_answer(number: u8, count: u64) {
-    print_number(wide(number));
-    print_number(count);
-}
-
-/// Prints what the writer answered, and the hash of the whole space afterwards.
-pub fn print_written(a: WriteAnswer, space: &[u8]) {
-    match a {
-        WriteAnswer::Written(n) => print_answer(0, n),
-        WriteAnswer::Refused(n) => print_answer(n, 0),
-    }
-    print_number(bytes_hash(space));
-    print_end();
+/// Prints what the writer answered, behind a name, and the hash of the whole space afterwards.
+pub fn print_written<W: Write>(answer: WriteAnswer, space: &[u8], out: &mut W) -> io::Result<()> {
+    let (number, count) = match answer {
+        WriteAnswer::Written(count) => (0, count),
+        WriteAnswer::Refused(number) => (number, 0),
+    };
+    writeln!(out, " {number} {count} {}", hash(space))
 }

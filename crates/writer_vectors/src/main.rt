@@ -2,108 +2,93 @@
 //! Rests on `writer` and `sheet`. An independent implementation writes the input and the expected lines.
 #![tactic(auto)]
 
-mod again;
-mod input;
 mod lines;
+mod lists;
 
-ghost use Rattle.std.specs.Prelude.{◌≤◌, length};
-
-use again::write_again;
-use input::{cue_list, print_name};
 use lines::print_written;
-use numbers::{list_length, number, weight_list, word_list};
-use rules::{Limits, WriteAnswer};
-use writer::write;
+use lists::Lists;
+use numbers::Numbers;
+use rules::{ReadAnswer, WriteAnswer};
+use sheet::reader::read;
+use std::alloc::Global;
+use std::io;
+use std::io::{BufReader, BufWriter, Read, Write};
 
-/// Writes lists to a space of which only the first bytes are lent.
-fn write_front(
-    weights: &[u32],
-    numbers: &[u16],
-    counts: &[u16],
-    present: &[u64],
-    absent: &[u64],
-    limits: Limits,
+/// The most bytes of a case's name.
+const NAME: usize = 80;
+
+/// The length of a space: a little more than that of the longest sheet.
+const SPACE: usize = 49620;
+
+/// A space before anything is written.
+const BLANK: [u8; SPACE] = [170; SPACE];
+
+/// Prints the name that stands before the next colon, and the colon.
+fn print_name<R: Read + Drop, W: Write>(input: &mut Numbers<R>, out: &mut W) -> io::Result<()> {
+    for _ in 0..NAME {
+        let byte = input.byte();
+        out.write_all(&[byte])?;
+        if byte == b':' {
+            break;
+        }
+    }
+    Ok(())
+}
+
+/// Reads a sheet, prints what reading finds and writes it into the space; a refused sheet is not written.
+fn write_again<W: Write>(
+    alloc: Global,
+    sheet: &[u8],
     space: &mut [u8],
-    lent: usize,
-) -> WriteAnswer
-    requires { lent ≤ length space.old }
-{
-    write(
-        weights,
-        numbers,
-        counts,
-        present,
-        absent,
-        limits,
-        &mut space[..lent],
-    )
-}
-
-/// Reads the sheet at the front of the space and writes what was read to another space.
-fn back(space: &[u8], count: u64) {
-    let end = count as usize;
-    if end <= space.len() {
-        let mut second = [170u8; 49620];
-        let a = write_again(&space[..end], &mut second);
-        io::write_all(1, b"again:");
-        print_written(a, &second);
+    out: &mut W,
+) -> io::Result<WriteAnswer> {
+    match read(sheet) {
+        ReadAnswer::Sheet(head) => Ok(Lists::read_back(alloc, sheet, head, out)?.write(space)),
+        ReadAnswer::Refused(number) => Ok(WriteAnswer::Refused(number)),
     }
 }
 
-/// Writes lists into the front of a space that is 170 throughout, prints what is there afterwards, and reads back an accepted sheet.
-fn forth(
-    weights: &[u32],
-    numbers: &[u16],
-    counts: &[u16],
-    present: &[u64],
-    absent: &[u64],
-    limits: Limits,
-    lent: usize,
-)
-    requires { lent ≤ 49620 }
-{
-    let mut space = [170u8; 49620];
-    let a = write_front(
-        weights, numbers, counts, present, absent, limits, &mut space, lent,
-    );
-    print_written(a, &space);
-    if let WriteAnswer::Written(n) = a {
-        back(&space, n);
+/// Reads a written sheet back and writes what was read to another space.
+fn back<W: Write>(alloc: Global, sheet: &[u8], out: &mut W) -> io::Result<()> {
+    let mut space = BLANK;
+    let answer = write_again(alloc, sheet, &mut space, out)?;
+    write!(out, "again:")?;
+    print_written(answer, &space, out)
+}
+
+/// Makes a case: its name, its lists, and the length lent of a space. Prints what is in the space after writing, and reads back an accepted
+/// sheet.
+fn case<R: Read + Drop, W: Write>(input: &mut Numbers<R>, out: &mut W) -> io::Result<()> {
+    print_name(input, out)?;
+    let lists = Lists::read(input)?;
+    let lent = input.list_length(SPACE);
+    let mut space = BLANK;
+    let answer = lists.write(&mut space[..lent]);
+    print_written(answer, &space, out)?;
+    match answer {
+        WriteAnswer::Written(length) => match space.get(..length as usize) {
+            Some(sheet) => back(input.alloc, sheet, out),
+            None => Ok(()),
+        },
+        WriteAnswer::Refused(_) => Ok(()),
     }
 }
 
-/// Reads a case: its name, the lengths of the lists, the lists, the limits and the length lent.
-fn case() {
-    print_name();
-    let faults = list_length(65);
-    let cues = list_length(25);
-    let counted = list_length(25);
-    let presents = list_length(3073);
-    let absents = list_length(3073);
-    let weights = weight_list(faults);
-    let numbers = cue_list(cues);
-    let counts = cue_list(counted);
-    let present = word_list(presents);
-    let absent = word_list(absents);
-    let allowance = number();
-    let budget = number();
-    let lent = list_length(49620);
-    forth(
-        &weights[..faults],
-        &numbers[..cues],
-        &counts[..counted],
-        &present[..presents],
-        &absent[..absents],
-        Limits { allowance, budget },
-        lent,
-    );
+/// Makes all cases.
+fn cases(rt: &(impl Input + Print + AllocGlobal)) -> io::Result<()> {
+    let alloc = rt.alloc();
+    let mut input = Numbers {
+        bytes: BufReader::new(alloc, rt.reader())?.bytes(),
+        alloc,
+    };
+    let mut out = BufWriter::new(alloc, io::writer(rt))?;
+    for _ in 0..input.number() {
+        case(&mut input, &mut out)?;
+    }
+    out.flush()
 }
 
-fn main() {
-    let cases = number();
-    let mut done: u64 = 0;
-    while done < cases {
-        case();
-        done += 1;
-    }
+/// What is printed is compared from outside; the status is 0 whatever becomes of it.
+fn main(rt: HostRuntime) {
+    let _ = cases(&rt);
 }

@@ -1,0 +1,61 @@
+//! A script's table, lent to the calls on its tree, and the lines of what they answer.
+//! Rests on `dtree`.
+use super::lines::{reply, run_line};
+use super::requests::Call;
+use dtree::opening::open;
+use dtree::refining::refine;
+use dtree::runs::run;
+use numbers::Numbers;
+use std::alloc::AllocError;
+use std::io;
+use std::io::{Read, Write};
+use store::Words;
+
+/// The most weights of a script: one more than a table may have.
+const WEIGHTS: usize = 65;
+
+/// The most words of either kind: one more than a table may have.
+const WAYS: usize = 129;
+
+/// A table as it is lent, good or not.
+#[derive(Drop)]
+pub struct Table {
+    weights: Vec<u32>,
+    present: Vec<u64>,
+    absent: Vec<u64>,
+}
+
+impl Table {
+    /// Reads a table: the lengths of its lists, then the lists.
+    pub fn read<R: Read + Drop>(input: &mut Numbers<R>) -> Result<Self, AllocError> {
+        let faults = input.list_length(WEIGHTS);
+        let presents = input.list_length(WAYS);
+        let absents = input.list_length(WAYS);
+        Ok(Table {
+            weights: input.list(faults, u32::MAX)?,
+            present: input.list(presents, u64::MAX)?,
+            absent: input.list(absents, u64::MAX)?,
+        })
+    }
+
+    /// Opens the table and prints the line.
+    pub fn open<W: Write>(&self, tree: &mut Words, out: &mut W) -> io::Result<()> {
+        let answer = open(&self.weights, &self.present, &self.absent, tree);
+        writeln!(out, "{}", reply(answer))
+    }
+
+    /// Makes a call and prints its line.
+    pub fn call<W: Write>(&self, call: Call, tree: &mut Words, out: &mut W) -> io::Result<()> {
+        let (weights, present, absent) = (&self.weights, &self.present, &self.absent);
+        match call {
+            Call::Refine { place, kind } => {
+                let answer = refine(weights, present, absent, tree, &place, kind);
+                writeln!(out, "{}", reply(answer))
+            }
+            Call::Run(limits) => {
+                let answer = run(weights, present, absent, tree, limits);
+                writeln!(out, "{}", run_line(answer))
+            }
+        }
+    }
+}
