@@ -1,6 +1,17 @@
-//! A sheet of the longest kind, 49,612 bytes, built in loops: 64 faults, and 24 cues of 128 ways that share faults at random.
-//! The ways come from a xorshift generator, so that they are the same everywhere.
-use super::bytes::{put, put_entry, put_head};
+//! A sheet of the longest kind: 64 faults, and 24 cues of 128 ways that share faults at random.
+//! The ways come from a xorshift generator, so that they are the same everywhere. Rests on `writer`.
+use rules::Limits;
+use std::alloc::{AllocError, Global};
+use writer::write;
+
+/// The length of the sheet.
+pub const LONGEST: usize = 49612;
+
+/// How many cues the sheet has.
+const CUES: u16 = 24;
+
+/// How many ways each cue has.
+const WAYS: u16 = 128;
 
 /// The next state of the generator.
 fn next(x: u64) -> u64 {
@@ -24,46 +35,32 @@ fn absent(x: u64) -> u64 {
     bit(x / 262144) & !present(x)
 }
 
-/// The contents: cues 1 to 24, each of 128 ways, whose bodies follow one another from 460 on.
-fn put_contents(s: &mut [u8]) {
-    let mut cue: usize = 0;
-    while cue < 24 {
-        put_entry(
-            s,
-            12 + 8 * cue,
-            (cue + 1) as u64,
-            128,
-            (460 + 2048 * cue) as u64,
-        );
-        cue += 1;
+/// The sheet and one zero behind it. The weights are three thousandths for fault 0, and three more for each fault; each way has a state of
+/// the generator.
+pub fn longest(alloc: Global) -> Result<Vec<u8>, AllocError> {
+    let weights: Vec<u32> = (1..=64).map(|fault| 3000000 * fault).collect(alloc)?;
+    let numbers: Vec<u16> = (1..=CUES).collect(alloc)?;
+    let mut states = Vec::new(alloc);
+    let mut state = 1;
+    for _ in 0..CUES * WAYS {
+        state = next(state);
+        states.push(state)?;
     }
-}
-
-/// The weights: three thousandths for fault 0, and three more for each fault.
-fn put_weights(s: &mut [u8]) {
-    let mut fault: usize = 0;
-    while fault < 64 {
-        put(s, 204 + 4 * fault, 4, (3000000 * (fault + 1)) as u64);
-        fault += 1;
-    }
-}
-
-/// The ways of all cues, a state of the generator for each.
-fn put_ways(s: &mut [u8]) {
-    let mut x: u64 = 1;
-    let mut way: usize = 0;
-    while way < 3072 {
-        x = next(x);
-        put(s, 460 + 16 * way, 8, present(x));
-        put(s, 468 + 16 * way, 8, absent(x));
-        way += 1;
-    }
-}
-
-/// The whole sheet, put into zeros.
-pub fn put_longest(s: &mut [u8]) {
-    put_head(s, 64, 24, 62500000, 4);
-    put_contents(s);
-    put_weights(s);
-    put_ways(s);
+    let present: Vec<u64> = states.iter().map(|&x| present(x)).collect(alloc)?;
+    let absent: Vec<u64> = states.iter().map(|&x| absent(x)).collect(alloc)?;
+    let limits = Limits {
+        allowance: 62500000,
+        budget: 4,
+    };
+    let mut sheet = vec![in alloc; 0; LONGEST + 1]?;
+    write(
+        &weights,
+        &numbers,
+        &[WAYS; CUES as usize],
+        &present,
+        &absent,
+        limits,
+        &mut sheet,
+    );
+    Ok(sheet)
 }
