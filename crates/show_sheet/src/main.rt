@@ -5,35 +5,45 @@
 mod show;
 
 use rules::{Limits, WriteAnswer};
-use show::{ABSENT, ALLOWANCE, BUDGET, COUNTS, CUES, FAULTS, NUMBERS, PRESENT, WAYS, WEIGHTS};
+use show::{ALLOWANCE, BUDGET, CUES, Cue, WEIGHTS};
+use std::io;
+use std::io::Write;
 use writer::write;
 
-/// The length of the sheet: head, contents, weights, bodies.
-const LENGTH: usize = 12 + 8 * CUES + 4 * FAULTS + 16 * WAYS;
+/// The length of the longest sheet.
+const LONGEST: usize = 49612;
 
-/// A refusal's number as a word.
-fn wide(n: u8) -> u64 {
-    n as u64
+/// How many ways a cue has. A cue that has more than can be counted is refused like one that has too many.
+fn count(cue: &Cue) -> u16 {
+    u16::try_from(cue.ways.len()).unwrap_or(u16::MAX)
 }
 
-/// Writes the sheet, or the line of a refusal if the lists are not in order.
-fn main() {
-    let mut space = [0u8; LENGTH];
+/// Writes the sheet, or the line of a refusal if the lists are not in order. The status is 0 whatever becomes of the output.
+fn main(rt: HostRuntime) -> io::Result<()> {
+    let alloc = rt.alloc();
+    let numbers: Vec<u16> = CUES.iter().map(|cue| cue.number).collect(alloc)?;
+    let counts: Vec<u16> = CUES.iter().map(count).collect(alloc)?;
+    let mut present = Vec::new(alloc);
+    let mut absent = Vec::new(alloc);
+    for cue in CUES {
+        for &(with, without) in cue.ways {
+            present.push(with)?;
+            absent.push(without)?;
+        }
+    }
     let limits = Limits {
         allowance: ALLOWANCE,
         budget: BUDGET,
     };
-    let a = write(
-        &WEIGHTS, &NUMBERS, &COUNTS, &PRESENT, &ABSENT, limits, &mut space,
-    );
-    match a {
-        WriteAnswer::Written(_) => {
-            io::write_all(1, &space);
+    let mut sheet = vec![in alloc; 0; LONGEST]?;
+    let _ = match write(
+        WEIGHTS, &numbers, &counts, &present, &absent, limits, &mut sheet,
+    ) {
+        WriteAnswer::Written(length) => {
+            sheet.truncate(length as usize);
+            io::writer(&rt).write_all(&sheet)
         }
-        WriteAnswer::Refused(n) => {
-            io::write_all(1, b"refused ");
-            io::print_decimal(1, wide(n));
-            io::write_all(1, b"\n");
-        }
-    }
+        WriteAnswer::Refused(number) => println!(rt; "refused {number}"),
+    };
+    Ok(())
 }

@@ -1,5 +1,4 @@
-//! The show: its faults, its cues and the ways in which each cue goes wrong. Change a row for a show of your own; where
-//! rows are added or taken away, FAULTS, CUES, WAYS and COUNTS say how many there are.
+//! The show: its faults, its cues and the ways in which each cue goes wrong. Change, add or take away rows for a show of your own.
 
 // The faults. Fault i is bit i of a way's words, and its chance is row i of WEIGHTS.
 
@@ -25,10 +24,9 @@ const FOG_COLD: u64 = 1 << 8;
 const WRONG_MARK: u64 = 1 << 9;
 /// No fault at all.
 const NONE: u64 = 0;
-/// How many faults there are.
-pub const FAULTS: usize = 10;
+
 /// The chance of each fault, in billionths.
-pub const WEIGHTS: [u32; FAULTS] = [
+pub const WEIGHTS: &[u32] = &[
     17500000, // DROPPED
     100000000, // SPARE_OFF
     250000000, // RESENT_LATE
@@ -46,69 +44,69 @@ pub const ALLOWANCE: u64 = 0;
 /// The most refinements that are made for a cue.
 pub const BUDGET: u64 = 8;
 
-/// How many cues there are.
-pub const CUES: usize = 6;
-/// Their numbers, rising.
-pub const NUMBERS: [u16; CUES] = [1, 2, 3, 5, 8, 12];
-/// How many ways each of them has.
-pub const COUNTS: [u16; CUES] = [1, 3, 3, 0, 4, 9];
-/// How many ways all cues have together.
-pub const WAYS: usize = 20;
-/// The faults that each way names present, cue after cue.
-pub const PRESENT: [u64; WAYS] = [
-    // Cue 1, house lights out: the start is dropped, and too late when it is sent again.
-    DROPPED | RESENT_LATE,
-    // Cue 2, thunder and lightning: one is late and the other is not, or the operator presses twice.
-    SOUND_LATE,
-    DIMMER_SLOW,
-    PRESSED_TWICE,
-    // Cue 3, fog: the machine, the radio or the operator.
-    FOG_COLD,
-    DROPPED | SPARE_OFF | RESENT_LATE,
-    PRESSED_TWICE | HEADSET_DEAD,
-    // Cue 5, the interval, is switched by hand: no ways.
-    // Cue 8, moving lamps: the radio or a lamp, two groups that share no fault.
-    DROPPED | SPARE_OFF,
-    DROPPED | RESENT_LATE,
-    LAMP_STUCK | WRONG_MARK,
-    LAMP_STUCK,
-    // Cue 12, the finale: nearly everything at once.
-    DROPPED | SPARE_OFF,
-    DROPPED | RESENT_LATE,
-    SOUND_LATE,
-    DIMMER_SLOW,
-    PRESSED_TWICE | HEADSET_DEAD,
-    LAMP_STUCK | WRONG_MARK,
-    FOG_COLD | SOUND_LATE,
-    FOG_COLD | LAMP_STUCK,
-    PRESSED_TWICE | DROPPED,
-];
+/// A way in which a cue goes wrong: the faults that it names present, and those that it names absent.
+pub type Way = (u64, u64);
 
-/// The faults that each way names absent, in the same order.
-pub const ABSENT: [u64; WAYS] = [
-    // Cue 1
-    NONE,
-    // Cue 2: late together, sound and light are still in step.
-    DIMMER_SLOW,
-    SOUND_LATE,
-    NONE,
-    // Cue 3
-    NONE,
-    NONE,
-    NONE,
-    // Cue 8: a slow dimmer gives a lamp that sticks the time it needs.
-    NONE,
-    NONE,
-    NONE,
-    DIMMER_SLOW,
-    // Cue 12
-    NONE,
-    NONE,
-    DIMMER_SLOW,
-    SOUND_LATE,
-    NONE,
-    NONE,
-    NONE,
-    NONE,
-    NONE,
+/// A cue: its number and its ways.
+#[derive(Clone, Copy)]
+pub struct Cue {
+    pub number: u16,
+    pub ways: &'static [Way],
+}
+
+/// The cues, whose numbers rise.
+pub const CUES: &[Cue] = &[
+    // House lights out: the start is dropped, and too late when it is sent again.
+    Cue {
+        number: 1,
+        ways: &[(DROPPED | RESENT_LATE, NONE)],
+    },
+    // Thunder and lightning: one is late and the other is not, since late together they are still in step; or the operator presses twice.
+    Cue {
+        number: 2,
+        ways: &[
+            (SOUND_LATE, DIMMER_SLOW),
+            (DIMMER_SLOW, SOUND_LATE),
+            (PRESSED_TWICE, NONE),
+        ],
+    },
+    // Fog: the machine, the radio or the operator.
+    Cue {
+        number: 3,
+        ways: &[
+            (FOG_COLD, NONE),
+            (DROPPED | SPARE_OFF | RESENT_LATE, NONE),
+            (PRESSED_TWICE | HEADSET_DEAD, NONE),
+        ],
+    },
+    // The interval is switched by hand: no ways.
+    Cue {
+        number: 5,
+        ways: &[],
+    },
+    // Moving lamps: the radio or a lamp, two groups that share no fault. A slow dimmer gives a lamp that sticks the time it needs.
+    Cue {
+        number: 8,
+        ways: &[
+            (DROPPED | SPARE_OFF, NONE),
+            (DROPPED | RESENT_LATE, NONE),
+            (LAMP_STUCK | WRONG_MARK, NONE),
+            (LAMP_STUCK, DIMMER_SLOW),
+        ],
+    },
+    // The finale: nearly everything at once.
+    Cue {
+        number: 12,
+        ways: &[
+            (DROPPED | SPARE_OFF, NONE),
+            (DROPPED | RESENT_LATE, NONE),
+            (SOUND_LATE, DIMMER_SLOW),
+            (DIMMER_SLOW, SOUND_LATE),
+            (PRESSED_TWICE | HEADSET_DEAD, NONE),
+            (LAMP_STUCK | WRONG_MARK, NONE),
+            (FOG_COLD | SOUND_LATE, NONE),
+            (FOG_COLD | LAMP_STUCK, NONE),
+            (PRESSED_TWICE | DROPPED, NONE),
+        ],
+    },
 ];
