@@ -4,6 +4,7 @@ ghost use Rattle.std.specs.Prelude.{◌≡◌};
 ghost use Rattle.reader_vectors.specs.Lines.{shown};
 
 use rules::EntryAnswer;
+use std::fmt;
 
 /// The figures of a line.
 #[derive(Clone, Copy)]
@@ -15,47 +16,43 @@ pub struct Line {
     pub start: u64,
 }
 
+/// Cue 0 with 0 ways.
+const NO_CUE: Line = Line {
+    number: 0,
+    past: 0,
+    cue: 0,
+    ways: 0,
+    start: 0,
+};
+
 /// What an answer says in the rules' terms.
-fn figures(a: EntryAnswer) -> Line
+pub fn figures(a: EntryAnswer) -> Line
     ensures { result ≡ shown a }
 {
     match a {
         EntryAnswer::Cue(e) => Line {
-            number: 0,
-            past: 0,
-            cue: e.cue as u64,
-            ways: e.ways as u64,
-            start: e.start as u64,
+            cue: u64::from(e.cue),
+            ways: u64::from(e.ways),
+            start: u64::from(e.start),
+            ..NO_CUE
         },
-        EntryAnswer::Past => Line {
-            number: 0,
-            past: 1,
-            cue: 0,
-            ways: 0,
-            start: 0,
-        },
+        EntryAnswer::Past => Line { past: 1, ..NO_CUE },
         EntryAnswer::Refused(n) => Line {
-            number: n as u64,
-            past: 0,
-            cue: 0,
-            ways: 0,
-            start: 0,
+            number: u64::from(n),
+            ..NO_CUE
         },
     }
 }
 
-/// Prints a number and the byte after it.
-fn print_field(n: u64, after: u8) {
-    io::print_decimal(1, n);
-    io::write_all(1, &[after]);
-}
-
-/// Prints the line of an answer.
-pub fn print_answer(a: EntryAnswer) {
-    let l = figures(a);
-    print_field(l.number, b' ');
-    print_field(l.past, b' ');
-    print_field(l.cue, b' ');
-    print_field(l.ways, b' ');
-    print_field(l.start, b'\n');
+impl fmt::Display for Line {
+    fn fmt<W: fmt::Write>(&self, f: &mut fmt::Formatter<W>) -> fmt::Result {
+        let Line {
+            number,
+            past,
+            cue,
+            ways,
+            start,
+        } = self;
+        write!(f, "{number} {past} {cue} {ways} {start}")
+    }
 }
