@@ -2,25 +2,28 @@
 //! Rests on `csv_export`, whose contract says what the text is. A refusal is one line on standard error, and then standard output stays empty.
 #![tactic(auto)]
 
+use csv_export::export;
 use rules::WriteAnswer;
+use std::io;
+use std::io::{Read, Write};
 
-/// The line of a refusal.
-fn refused(n: u8) {
-    io::write_all(2, b"refused ");
-    io::print_decimal(2, n as u64);
-    io::write_all(2, b"\n");
-}
+/// The longest sheet has 49,612 bytes. One more is read, so that a longer input is refused as one.
+const MOST: usize = 49613;
 
-/// The longest sheet has 49,612 bytes, and one more is read, so that a longer input is refused as one. The longest text has 781,021.
-fn main() {
-    let mut sheet = [0u8; 49613];
-    let mut space = [0u8; 781021];
-    let n = io::read_full(0, &mut sheet);
-    let a = csv_export::export(&sheet[..n], &mut space);
-    match a {
-        WriteAnswer::Written(k) => {
-            io::write_all(1, &space[..k as usize]);
+/// The length of the longest text.
+const LONGEST: usize = 781021;
+
+/// Fails only for want of memory: a read that fails is taken for the end, and output that cannot be written is lost.
+fn main(rt: HostRuntime) -> io::Result<()> {
+    let mut sheet = Vec::with_capacity(rt.alloc(), MOST)?;
+    let _ = rt.reader().take(MOST as u64).read_to_end(&mut sheet);
+    let mut text = vec![in rt.alloc(); 0; LONGEST]?;
+    let _ = match export(&sheet, &mut text) {
+        WriteAnswer::Written(length) => {
+            text.truncate(length as usize);
+            rt.stdout().write_all(&text)
         }
-        WriteAnswer::Refused(k) => refused(k),
-    }
+        WriteAnswer::Refused(number) => eprintln!(rt; "refused {number}"),
+    };
+    Ok(())
 }

@@ -2,33 +2,29 @@
 //! Rests on `csv_import`, whose contract says what the bytes are. A refusal is one line on standard error, and then standard output stays empty.
 #![tactic(auto)]
 
+use csv_import::import;
 use csv_text::ImportAnswer;
-
-/// The line of a refusal.
-fn refused(n: u64) {
-    io::write_all(2, b"refused ");
-    io::print_decimal(2, n);
-    io::write_all(2, b"\n");
-}
-
-/// The line of a record that is misread.
-fn misread(k: u64) {
-    io::write_all(2, b"refused 23 at record ");
-    io::print_decimal(2, k);
-    io::write_all(2, b"\n");
-}
+use std::io;
+use std::io::{Read, Write};
 
 /// The longest text that is taken has 1,180,517 bytes, every field quoted. One more is read, so that a longer one is not taken for its front.
-fn main() {
-    let mut text = [0u8; 1180518];
-    let mut space = [0u8; 49612];
-    let n = io::read_full(0, &mut text);
-    let a = csv_import::import(&text[..n], &mut space);
-    match a {
-        ImportAnswer::Written(k) => {
-            io::write_all(1, &space[..k as usize]);
+const MOST: usize = 1180518;
+
+/// The length of the longest sheet.
+const LONGEST: usize = 49612;
+
+/// Fails only for want of memory: a read that fails is taken for the end, and output that cannot be written is lost.
+fn main(rt: HostRuntime) -> io::Result<()> {
+    let mut text = Vec::with_capacity(rt.alloc(), MOST)?;
+    let _ = rt.reader().take(MOST as u64).read_to_end(&mut text);
+    let mut sheet = vec![in rt.alloc(); 0; LONGEST]?;
+    let _ = match import(&text, &mut sheet) {
+        ImportAnswer::Written(length) => {
+            sheet.truncate(length as usize);
+            rt.stdout().write_all(&sheet)
         }
-        ImportAnswer::Misread(k) => misread(k),
-        ImportAnswer::Refused(k) => refused(k as u64),
-    }
+        ImportAnswer::Misread(record) => eprintln!(rt; "refused 23 at record {record}"),
+        ImportAnswer::Refused(number) => eprintln!(rt; "refused {number}"),
+    };
+    Ok(())
 }

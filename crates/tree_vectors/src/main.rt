@@ -13,7 +13,7 @@ use places::show;
 use requests::Request;
 use std::alloc::Global;
 use std::io;
-use std::io::{BufReader, BufWriter, Read, Write};
+use std::io::{BufReader, BufWriter, ErrorKind, Read, Write};
 use store::{NO_NODES, Words};
 use table::Table;
 
@@ -75,7 +75,10 @@ fn scripts(rt: &(impl Input + Print + AllocGlobal)) -> io::Result<()> {
     out.flush()
 }
 
-/// What is printed is compared from outside; the status is 0 whatever becomes of it.
-fn main(rt: HostRuntime) {
-    let _ = scripts(&rt);
+/// Fails only for want of memory: output that cannot be written is missed where it is compared.
+fn main(rt: HostRuntime) -> io::Result<()> {
+    match scripts(&rt) {
+        Err(why) if why.kind() == ErrorKind::OutOfMemory => Err(why),
+        _ => Ok(()),
+    }
 }
