@@ -1,9 +1,10 @@
--- How the code's values stand for those of the definitions of `rules`: a bool for a direction.
+-- The direction of the rules that the code's direction stands for.
 -- Rests on `rules`, Rounding.
-use Rattle.std.specs.Prelude.{Bool, true, false}
 use Rattle.rules.specs.Rounding.{Dir, down, up}
+use Rattle.chances.specs.declared.direction.Direction.{Direction}
+use Rattle.chances.specs.declared.direction.Direction.TheVariants.{Down, Up}
 
--- The direction that a bool says: true is up.
-abbrev pub dir_of : Bool → Dir
-dir_of true = up
-dir_of false = down
+-- The same direction.
+abbrev pub dir_of : Direction → Dir
+dir_of Down = down
+dir_of Up = up

@@ -1,4 +1,4 @@
 -- Laws on plain lists and numbers that the functions' proofs rest on.
--- Numbers.antt: which refusal is the first. Walk.antt: a search over one list, or over two in step.
-mod Numbers
+-- Above.antt: some number of a list is above a limit. Walk.antt: a search over the rows of two lists in step.
+mod Above
 mod Walk

@@ -1,9 +1,9 @@
 //! Tests on a run's limits. Rests on the definitions of `rules`, Refusals.
 //! The limits are words, judged as they are handed over.
 ghost use Rattle.std.specs.Prelude.{◌≡◌};
-ghost use Rattle.rules.specs.Refusals.{first, limit_refusals, allowance_above, budget_above};
+ghost use Rattle.rules.specs.Refusals.{answered, limit_refusals, allowance_above, budget_above};
 
-use rules::{Limits, S};
+use rules::{Limits, Refusal, S};
 
 /// 14: the allowance is above S.
 fn allowance_above(m: Limits) -> bool
@@ -19,15 +19,10 @@ fn budget_above(m: Limits) -> bool
     255 < m.budget
 }
 
-/// The number of the limits: 14, 15 or 0.
-pub fn limit_number(m: Limits) -> u8
-    ensures { result ≡ first (limit_refusals m) }
+/// The limits are refused by 14 or 15, or let pass.
+pub fn check_limits(m: Limits) -> Result<(), Refusal>
+    ensures { result ≡ answered (limit_refusals m) tt }
 {
-    if allowance_above(m) {
-        return 14;
-    }
-    if budget_above(m) {
-        return 15;
-    }
-    0
+    Refusal::AllowanceAbove.test(allowance_above(m))?;
+    Refusal::BudgetAbove.test(budget_above(m))
 }

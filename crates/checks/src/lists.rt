@@ -23,28 +23,14 @@ pub fn cues_outside(n: usize) -> bool
 pub fn overweight(weights: &[u32]) -> bool
     ensures { result ≡ Refusals.overweight weights.now }
 {
-    let mut i: usize = 0;
-    while i < weights.len() {
-        if S < weights[i] as u64 {
-            return true;
-        }
-        i += 1;
-    }
-    false
+    weights.iter().any(|&weight| S < u64::from(weight))
 }
 
 /// 6: a way count is above 128.
 pub fn crowded(counts: &[u16]) -> bool
     ensures { result ≡ Refusals.crowded counts.now }
 {
-    let mut i: usize = 0;
-    while i < counts.len() {
-        if 128 < counts[i] {
-            return true;
-        }
-        i += 1;
-    }
-    false
+    counts.iter().any(|&count| 128 < count)
 }
 
 /// 5: the first cue number is 0, or some number is not above the one before it.
@@ -52,14 +38,11 @@ pub fn not_rising(numbers: &[u16]) -> bool
     ensures { result ≡ Refusals.not_rising numbers.now }
 {
     let mut last: u16 = 0;
-    let mut i: usize = 0;
-    while i < numbers.len() {
-        let number = numbers[i];
+    for &number in numbers {
         if number <= last {
             return true;
         }
         last = number;
-        i += 1;
     }
     false
 }

@@ -1,25 +1,23 @@
 //! Tests on the words of ways, which come as two lists. Rests on the definitions of `rules`, Table and Refusals.
 //! The lists may differ in length: a word that one of them lacks is 0, and the rows of the longer list are judged.
-ghost use Rattle.std.specs.Prelude.{◌≡◌, ◌^◌, ◌≤◌, max, leb, length, get_or};
+ghost use Rattle.std.specs.Prelude.{◌≡◌, ◌||◌, ◌^◌, ◌≤◌, max, leb, length, get_or};
 ghost use Rattle.rules.specs.Table.{rows};
-ghost use Rattle.rules.specs.Refusals.{first, words_amiss, names_beyond, names_both, way_refusals};
+ghost use Rattle.rules.specs.Refusals.{answered, words_amiss, names_beyond, names_both, way_refusals};
+
+use rules::Refusal;
 
 /// The word at i, 0 beyond the end.
 fn word_at(words: &[u64], i: usize) -> u64
     ensures { result ≡ get_or words.now i 0 }
 {
-    if i < words.len() { words[i] } else { 0 }
+    words.get(i).copied().unwrap_or(0)
 }
 
 /// The length of the longer list: how many rows the two give.
 fn row_count(present: &[u64], absent: &[u64]) -> usize
     ensures { result ≡ max (length present.now) (length absent.now) }
 {
-    if present.len() < absent.len() {
-        absent.len()
-    } else {
-        present.len()
-    }
+    present.len().max(absent.len())
 }
 
 /// A word names a fault at or above n. Of 64 faults no word names one beyond, and a shift by 64 has no meaning.
@@ -27,10 +25,15 @@ fn beyond(n: usize, word: u64) -> bool
     requires { n ≤ 64 }
     ensures { result ≡ leb (2 ^ n) word }
 {
-    if n == 64 {
-        return false;
-    }
-    word >> n != 0
+    n < 64 && word >> n != 0
+}
+
+/// One of a row's two words does.
+fn either_beyond(n: usize, present: u64, absent: u64) -> bool
+    requires { n ≤ 64 }
+    ensures { result ≡ (leb (2 ^ n) present || leb (2 ^ n) absent) }
+{
+    beyond(n, present) || beyond(n, absent)
 }
 
 /// 11: more than 128 present words, or not as many absent words.
@@ -45,16 +48,10 @@ pub fn names_beyond(n: usize, present: &[u64], absent: &[u64]) -> bool
     requires { n ≤ 64 }
     ensures { result ≡ names_beyond n (rows 0 present.now absent.now) }
 {
-    let end = row_count(present, absent);
-    let mut i: usize = 0;
-    while i < end {
-        if beyond(n, word_at(present, i)) {
+    for i in 0..row_count(present, absent) {
+        if either_beyond(n, word_at(present, i), word_at(absent, i)) {
             return true;
         }
-        if beyond(n, word_at(absent, i)) {
-            return true;
-        }
-        i += 1;
     }
     false
 }
@@ -63,27 +60,19 @@ pub fn names_beyond(n: usize, present: &[u64], absent: &[u64]) -> bool
 pub fn names_both(present: &[u64], absent: &[u64]) -> bool
     ensures { result ≡ names_both (rows 0 present.now absent.now) }
 {
-    let end = row_count(present, absent);
-    let mut i: usize = 0;
-    while i < end {
+    for i in 0..row_count(present, absent) {
         if word_at(present, i) & word_at(absent, i) != 0 {
             return true;
         }
-        i += 1;
     }
     false
 }
 
-/// The number of the ways: 12, 13 or 0, each test over all ways before the next.
-pub fn way_number(n: usize, present: &[u64], absent: &[u64]) -> u8
+/// The ways are refused by 12 or 13, each tried over all ways before the next, or let pass.
+pub fn check_ways(n: usize, present: &[u64], absent: &[u64]) -> Result<(), Refusal>
     requires { n ≤ 64 }
-    ensures { result ≡ first (way_refusals n (rows 0 present.now absent.now)) }
+    ensures { result ≡ answered (way_refusals n (rows 0 present.now absent.now)) tt }
 {
-    if names_beyond(n, present, absent) {
-        return 12;
-    }
-    if names_both(present, absent) {
-        return 13;
-    }
-    0
+    Refusal::NamesBeyond.test(names_beyond(n, present, absent))?;
+    Refusal::NamesBoth.test(names_both(present, absent))
 }

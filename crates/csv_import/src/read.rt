@@ -1,136 +1,88 @@
-//! A text read in one pass: the first two records, then the records of ways.
-//! Rests on the records of `csv_rows`, on sums.rt and on keep.rt.
-ghost use Rattle.std.specs.Prelude.{◌≡◌};
-ghost use Rattle.csv_rows.specs.Scan.{records_from};
-ghost use Rattle.csv_import.specs.Gather.{ToldRows, ToldText};
+//! A text read in one pass: the first two records, then the records of ways. Rests on `csv_rows`, cues.rt and ways.rt.
+ghost use Rattle.std.specs.Prelude.{◌≡◌, List, []};
+ghost use Rattle.rules.specs.Sheet.{Cue};
+ghost use Rattle.writer.specs.Given.{given};
+ghost use Rattle.csv_text.specs.Cut.{records_in};
+ghost use Rattle.csv_text.specs.Shapes.{row_in};
+ghost use Rattle.csv_rows.specs.Told.{row_of};
+ghost use Rattle.csv_import.specs.Gather.{Gathers, Adds, ReadsRows, ReadsText, lists_kept};
 
-use super::keep::keep_row;
-use super::sums::{may_follow, no_sums, with_row};
-use csv_rows::heads::{run, weights as weights_in};
+use super::cues::Cues;
+use super::ways::Ways;
+use arrayvec::ArrayVec;
+use csv_rows::Row;
+use csv_rows::heads::{run, weights};
 use csv_rows::ways::row;
+use csv_text::ImportError;
 use rules::Limits;
+use writer::lists::Lists;
 
-/// What was read of the records of ways: the number of the first that is misread; where none is, the cues, the ways,
-/// and whether some way names a fault beyond the 64th.
-#[derive(Clone, Copy)]
-pub struct RowsRead {
-    pub misread: u64,
-    pub cues: usize,
-    pub ways: usize,
-    pub far: bool,
+/// What the records of ways say: their cues and the words of their ways.
+#[derive(Drop)]
+pub struct Gathered {
+    pub cues: Cues,
+    pub ways: Ways,
 }
 
-/// What was read of a text: likewise, with the limits and how many weights there are.
-#[derive(Clone, Copy)]
-pub struct TextRead {
-    pub misread: u64,
-    pub limits: Limits,
-    pub faults: usize,
-    pub cues: usize,
-    pub ways: usize,
-    pub far: bool,
-}
-
-/// The records of ways from a position on, of which the first is the third of the text.
-fn read_rows(
-    text: &[u8],
-    start: usize,
-    numbers: &mut [u16],
-    counts: &mut [u16],
-    present: &mut [u64],
-    absent: &mut [u64],
-) -> RowsRead
-    ensures { ToldRows (records_from text.now start) result
-        numbers.new counts.new present.new absent.new }
-{
-    let mut s = no_sums();
-    let mut k: u64 = 3;
-    let mut at = start;
-    while at < text.len() {
-        let r = row(text, at);
-        if !r.good {
-            return misread_row(k);
+impl Gathered {
+    /// Before the first record.
+    pub fn new() -> Gathered
+        ensures { Gathers [] result }
+    {
+        Gathered {
+            cues: Cues::new(),
+            ways: Ways::new(),
         }
-        if !may_follow(s, r) {
-            return misread_row(k);
+    }
+
+    /// One record more, if it may follow the one before it.
+    fn add(&mut self, row: Row) -> Option<()>
+        ensures { (cs : List Cue) (r : _) → Gathers cs self.old → row ≡ row_of (row_in r) → Adds cs (row_in r) self.new result }
+    {
+        self.cues.add(row.cue, row.way.is_some())?;
+        if let Some(way) = row.way {
+            self.ways.add(way);
         }
-        s = with_row(s, r);
-        keep_row(r, s, numbers, counts, present, absent);
-        k += 1;
-        at = r.next;
+        Some(())
     }
-    RowsRead {
-        misread: 0,
-        cues: s.cues,
-        ways: s.ways,
-        far: s.far,
-    }
-}
 
-/// Record k is misread.
-fn misread_row(k: u64) -> RowsRead
-    ensures { result.misread ≡ k }
-{
-    RowsRead {
-        misread: k,
-        cues: 0,
-        ways: 0,
-        far: false,
+    /// The records of ways, of which the first is the third of the text.
+    fn read_rows(&mut self, text: &[u8]) -> Result<(), ImportError>
+        ensures { Gathers [] self.old → ReadsRows (records_in text.now) self.new result }
+    {
+        let mut record: u64 = 3;
+        let mut rest = text;
+        while !rest.is_empty() {
+            let (row, lines) = row(rest).ok_or(ImportError::Misread(record))?;
+            self.add(row).ok_or(ImportError::Misread(record))?;
+            record += 1;
+            rest = lines;
+        }
+        self.cues.close();
+        Ok(())
     }
-}
 
-/// Record k, the first or the second, is misread.
-fn misread_at(k: u64) -> TextRead
-    ensures { result.misread ≡ k }
-{
-    TextRead {
-        misread: k,
-        limits: Limits {
-            allowance: 0,
-            budget: 0,
-        },
-        faults: 0,
-        cues: 0,
-        ways: 0,
-        far: false,
+    /// The whole text. The limits and the weights are handed over, one weight more than a sheet may have, so that it is refused.
+    pub fn read(&mut self, text: &[u8]) -> Result<(Limits, ArrayVec<u32, 65>), ImportError>
+        ensures { Gathers [] self.old → ReadsText text.now self.new result }
+    {
+        let (limits, rest) = run(text).ok_or(ImportError::Misread(1))?;
+        let (weights, rest) = weights(rest).ok_or(ImportError::Misread(2))?;
+        self.read_rows(rest)?;
+        Ok((limits, weights))
     }
-}
 
-/// The whole text.
-pub fn read_text(
-    text: &[u8],
-    weights: &mut [u32],
-    numbers: &mut [u16],
-    counts: &mut [u16],
-    present: &mut [u64],
-    absent: &mut [u64],
-) -> TextRead
-    ensures { ToldText text.now result weights.new
-        numbers.new counts.new present.new absent.new }
-{
-    if text.len() == 0 {
-        return misread_at(1);
-    }
-    let first = run(text, 0);
-    if !first.good {
-        return misread_at(1);
-    }
-    let limits = first.limits;
-    let second = first.next;
-    if text.len() <= second {
-        return misread_at(2);
-    }
-    let w = weights_in(text, second, weights);
-    if !w.good {
-        return misread_at(2);
-    }
-    let rows = read_rows(text, w.next, numbers, counts, present, absent);
-    TextRead {
-        misread: rows.misread,
-        limits,
-        faults: w.count,
-        cues: rows.cues,
-        ways: rows.ways,
-        far: rows.far,
+    /// The lists for the writer.
+    pub fn lists<'a>(&'a self, limits: Limits, weights: &'a [u32]) -> Lists<'a>
+        ensures { given result ≡ lists_kept self.now limits weights.now }
+    {
+        Lists {
+            limits,
+            weights,
+            numbers: self.cues.numbers.as_slice(),
+            counts: self.cues.counts.as_slice(),
+            present: self.ways.present.as_slice(),
+            absent: self.ways.absent.as_slice(),
+        }
     }
 }

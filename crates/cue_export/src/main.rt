@@ -3,7 +3,6 @@
 #![tactic(auto)]
 
 use csv_export::export;
-use rules::WriteAnswer;
 use std::io;
 use std::io::{Read, Write};
 
@@ -19,11 +18,11 @@ fn main(rt: HostRuntime) -> io::Result<()> {
     let _ = rt.reader().take(MOST as u64).read_to_end(&mut sheet);
     let mut text = vec![in rt.alloc(); 0; LONGEST]?;
     let _ = match export(&sheet, &mut text) {
-        WriteAnswer::Written(length) => {
+        Ok(length) => {
             text.truncate(length as usize);
             rt.stdout().write_all(&text)
         }
-        WriteAnswer::Refused(number) => eprintln!(rt; "refused {number}"),
+        Err(refusal) => eprintln!(rt; "refused {}", u8::from(refusal)),
     };
     Ok(())
 }

@@ -3,7 +3,7 @@
 #![tactic(auto)]
 
 use csv_import::import;
-use csv_text::ImportAnswer;
+use csv_text::ImportError;
 use std::io;
 use std::io::{Read, Write};
 
@@ -19,12 +19,12 @@ fn main(rt: HostRuntime) -> io::Result<()> {
     let _ = rt.reader().take(MOST as u64).read_to_end(&mut text);
     let mut sheet = vec![in rt.alloc(); 0; LONGEST]?;
     let _ = match import(&text, &mut sheet) {
-        ImportAnswer::Written(length) => {
+        Ok(length) => {
             sheet.truncate(length as usize);
             rt.stdout().write_all(&sheet)
         }
-        ImportAnswer::Misread(record) => eprintln!(rt; "refused 23 at record {record}"),
-        ImportAnswer::Refused(number) => eprintln!(rt; "refused {number}"),
+        Err(ImportError::Misread(record)) => eprintln!(rt; "refused 23 at record {record}"),
+        Err(ImportError::Refused(refusal)) => eprintln!(rt; "refused {}", u8::from(refusal)),
     };
     Ok(())
 }

@@ -13,7 +13,6 @@ const MOST: usize = 49613;
 fn main(rt: HostRuntime) -> io::Result<()> {
     let mut sheet = Vec::with_capacity(rt.alloc(), MOST)?;
     let _ = rt.reader().take(MOST as u64).read_to_end(&mut sheet);
-    let report = report(&sheet);
-    let _ = rt.stdout().write_all(&report.text[..report.length]);
+    let _ = rt.stdout().write_all(report(&sheet).as_slice());
     Ok(())
 }

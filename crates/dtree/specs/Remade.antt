@@ -6,7 +6,6 @@ use Rattle.rules.specs.declared.Kind.{Kind}
 use Rattle.records.specs.Records.{record_in, kind_of, Good}
 use Rattle.records.specs.Growing.{grown_at, may_at}
 use Rattle.records.specs.declared.Tree.{Tree}
-use Rattle.store.specs.Safe.{Safe}
 
 -- The record of the next refinement's place: the parent of the next left child.
 abbrev pub next_at : Tree → Tree → ℕ
@@ -25,5 +24,4 @@ pub record Remade (t : Table) (x y z : Tree) (r : Bool) : Type 0 where
   pub said : r ≡ may_next t x y
   pub grown : r ≡ true → z.nodes ≡ grown_at t y.nodes y.used (next_at x y) (next_kind x y)
   pub two_more : r ≡ true → z.used ≡ y.used + 2
-  pub safe : r ≡ true → Safe z.nodes
   pub good : r ≡ true → Good t z

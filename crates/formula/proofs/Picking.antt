@@ -101,7 +101,8 @@ pub kept_if : (us : List Way) (v : Way) → kept (us ++ (v ∷ [])) ≡ kept us 
 kept_if us v = keep-more [] us v ∙ ap (λ (b : Bool). kept us ++ unless b v) (shares-word v (kept us))
 
 -- SO ONE WAY MORE LEAVES THE WORD AS IT IS, WHERE IT IS PASSED OVER, OR ADDS ITS FAULTS.
-pub held-is : (us : List Way) (v : Way) → held (us ++ (v ∷ [])) ≡ elim (touches (held us) v) as (λ b. ℕ) [ true ↦ held us | false ↦ bit_or (held us) (faults v) ]
+pub held-is : (us : List Way) (v : Way)
+    → held (us ++ (v ∷ [])) ≡ elim (touches (held us) v) as (λ b. ℕ) [ true ↦ held us | false ↦ bit_or (held us) (faults v) ]
 held-is us v = ap union (kept_if us v) ∙ union_more (kept us) (unless (touches (held us) v) v) ∙ go (touches (held us) v)
   where
     go : (t : Bool) → bit_or (held us) (union (unless t v)) ≡ elim t as (λ b. ℕ) [ true ↦ held us | false ↦ bit_or (held us) (faults v) ]

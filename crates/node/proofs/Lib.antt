@@ -1,2 +1,2 @@
 -- No law is needed here: each function's proof stands in its own directory.
--- They rest on the contracts of `formula` and `chances`, on `clauses`, Loops, and on `store`, SafeLaws.
+-- They rest on the contracts of `formula` and `chances`, on `clauses`, Leaf, and on `records`, SafeLaws.

@@ -1,13 +1,15 @@
 -- The ways of a record as the code has them: by their numbers in the table.
 -- Rests on `records`, Records, and on `clauses`, Leaves.
-use Rattle.std.specs.Prelude.{◌≡◌, List, [], ℕ}
+use Rattle.std.specs.Prelude.{List, []}
 use Rattle.rules.specs.Tree.{Node as Spot}
 use Rattle.rules.specs.declared.Way.{Way}
 use Rattle.records.specs.Records.{record_ways}
 use Rattle.records.specs.declared.Node.{Node}
 use Rattle.clauses.specs.declared.Clauses.{Clauses}
-use Rattle.clauses.specs.declared.Gone.{Gone}
-use Rattle.clauses.specs.Leaves.{ways_of, InTable}
+use Rattle.clauses.specs.declared.lost.Gone.{Gone}
+use Rattle.clauses.specs.Leaves.{Of}
+use Rattle.checks.specs.declared.accepted.Table.{Table}
+use Rattle.checks.specs.Tables.{table_of}
 
 -- The faults that are gone from a record's ways: those that it has fixed, and those that it leaves out.
 abbrev pub gone_in : Node → Gone
@@ -17,8 +19,6 @@ gone_in x = record { present = x.present; absent = x.absent; out = x.out }
 abbrev pub spot_with : Gone → List Way → Spot
 spot_with g vs = record { set = []; present = g.present; absent = g.absent; out = g.out; ways = vs }
 
--- The ways of record x of a table with these words, and the faults that are gone. They do not depend on the weights.
-pub record LeafWays (ps qs : List ℕ) (x : Node) (c : Clauses) : Type 0 where
-  pub within : InTable ps qs c
-  pub ways_are : (ws : List ℕ) → ways_of ps qs c ≡ record_ways (record { weights = ws; present = ps; absent = qs }) x
-  pub gone_is : c.gone ≡ gone_in x
+-- The ways of record x of a table, and the faults that are gone from them.
+abbrev pub LeafWays : Table → Node → Clauses → Type 0
+LeafWays t x c = Of t (gone_in x) (record_ways (table_of t) x) c

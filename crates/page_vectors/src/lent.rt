@@ -1,13 +1,13 @@
 //! Records that no tree has, lent to the search. Rests on `page` and the records of `records`.
 use super::print;
-use page::{widest, widest_in};
-use records::{Node, RECORDS};
+use page::widest;
+use records::{NO_NODES, Node, RECORDS};
 use std::alloc::Global;
 use std::io;
 use std::io::Write;
 
 /// What a case says of a record: its kind, its mark, its low and its high.
-type Fields = (u64, u64, u64, u64);
+pub type Fields = (u64, u64, u64, u64);
 
 /// Records that are all the same, and how many are lent.
 const ALIKE: [(Fields, usize); 14] = [
@@ -61,22 +61,13 @@ const FRONTS: [usize; 9] = [
 ];
 
 /// A record with these fields and zeros besides.
-fn record((kind, live, low, high): Fields) -> Node {
+pub fn record((kind, live, low, high): Fields) -> Node {
     Node {
         kind,
-        fault: 0,
         live,
-        parent: 0,
-        left: 0,
-        waysa: 0,
-        waysb: 0,
-        present: 0,
-        absent: 0,
-        out: 0,
         low,
         high,
-        ownlow: 0,
-        ownhigh: 0,
+        ..NO_NODES.nodes[0]
     }
 }
 
@@ -101,15 +92,15 @@ pub fn mixed<W: Write>(out: &mut W) -> io::Result<()> {
     Ok(())
 }
 
-/// As many records as a tree has, by value.
+/// As many records as a tree has.
 pub fn as_many_as_a_tree<W: Write>(out: &mut W) -> io::Result<()> {
     let mut records = [record((0, 0, 0, 0)); RECORDS];
     // none: blanks.
-    print(widest_in(records), out)?;
+    print(widest(&records), out)?;
     // 510: the one that counts.
     records[510] = record((1, 1, 0, 1));
-    print(widest_in(records), out)?;
+    print(widest(&records), out)?;
     // 0: as wide and earlier.
     records[0] = record((1, 1, 999999999, 1000000000));
-    print(widest_in(records), out)
+    print(widest(&records), out)
 }

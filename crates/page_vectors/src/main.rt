@@ -5,15 +5,14 @@
 mod drawn;
 mod lent;
 
-use page::Spot;
 use std::io;
 use std::io::{BufWriter, ErrorKind, Write};
 
 /// Prints what the page is told.
-fn print<W: Write>(spot: Spot, out: &mut W) -> io::Result<()> {
-    match spot {
-        Spot::At(position) => writeln!(out, "{position}"),
-        Spot::Nothing => writeln!(out, "none"),
+fn print<W: Write>(widest: Option<usize>, out: &mut W) -> io::Result<()> {
+    match widest {
+        Some(position) => writeln!(out, "{position}"),
+        None => writeln!(out, "none"),
     }
 }
 

@@ -3,7 +3,7 @@
 ghost use Rattle.std.specs.Prelude.{◌≡◌};
 ghost use Rattle.reader_vectors.specs.Lines.{shown};
 
-use rules::EntryAnswer;
+use rules::{Entry, Refusal};
 use std::fmt;
 
 /// The figures of a line.
@@ -26,19 +26,19 @@ const NO_CUE: Line = Line {
 };
 
 /// What an answer says in the rules' terms.
-pub fn figures(a: EntryAnswer) -> Line
-    ensures { result ≡ shown a }
+pub fn figures(answer: Result<Option<Entry>, Refusal>) -> Line
+    ensures { result ≡ shown answer }
 {
-    match a {
-        EntryAnswer::Cue(e) => Line {
-            cue: u64::from(e.cue),
-            ways: u64::from(e.ways),
-            start: u64::from(e.start),
+    match answer {
+        Ok(Some(entry)) => Line {
+            cue: u64::from(entry.cue),
+            ways: u64::from(entry.ways),
+            start: u64::from(entry.start),
             ..NO_CUE
         },
-        EntryAnswer::Past => Line { past: 1, ..NO_CUE },
-        EntryAnswer::Refused(n) => Line {
-            number: u64::from(n),
+        Ok(None) => Line { past: 1, ..NO_CUE },
+        Err(refusal) => Line {
+            number: u64::from(u8::from(refusal)),
             ..NO_CUE
         },
     }

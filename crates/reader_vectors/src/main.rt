@@ -4,7 +4,7 @@
 
 mod lines;
 
-use cue_reader::{next, open_reader};
+use cue_reader::Reader;
 use lines::figures;
 use std::io;
 use std::io::{BufWriter, ErrorKind, Read, Write};
@@ -51,9 +51,9 @@ const REFUSED: [Case; 14] = [
 
 /// Prints the answers of the first calls of a reader opened on the bytes.
 fn drive<W: Write>(sheet: &[u8], calls: usize, out: &mut W) -> io::Result<()> {
-    let mut reader = open_reader(sheet);
+    let mut reader = Reader::open(sheet);
     for _ in 0..calls {
-        writeln!(out, "{}", figures(next(&mut reader)))?;
+        writeln!(out, "{}", figures(reader.next()))?;
     }
     Ok(())
 }

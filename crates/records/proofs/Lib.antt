@@ -12,3 +12,7 @@ mod Raised
 pub mod Grown
 pub mod Live
 pub mod Rebuilt
+pub mod Compared
+pub mod SafeLaws
+pub mod Reduced
+pub mod SafeTrees

@@ -1,6 +1,7 @@
 -- What the records of a tree hold: `layout` of a series of refinements, and `history`, the series read back off any records.
 -- RULES 6: which record holds a place, the blank, and the codes. Rests on the rules alone.
-use Rattle.std.specs.Prelude.{◌≡◌, Bool, true, false, not, ◌&&◌, List, [], ◌∷◌, ◌++◌, map, ℕ, zero, suc, ◌-◌, ◌/◌, ◌^◌, length, get_or, drop, replicate, eqb, ltb}
+use Rattle.std.specs.Prelude.{◌≡◌, Bool, true, false, not, ◌&&◌, List, [], ◌∷◌, ◌++◌, map, length, get_or, drop, replicate}
+use Rattle.std.specs.Prelude.{ℕ, zero, suc, ◌-◌, ◌/◌, ◌^◌, eqb, ltb}
 use Rattle.std.proofs.Math.Option.{Option, none, some}
 use Rattle.std.specs.Int.Bits.{bit_or}
 use Rattle.rules.specs.Rounding.{down, up}
@@ -16,10 +17,6 @@ use Rattle.records.specs.declared.Tree.{Tree}
 -- The records of a tree: 255 refinements make 511 nodes.
 abbrev pub tree_records : ℕ
 tree_records = 511
-
--- The fields of a record.
-abbrev pub record_fields : ℕ
-record_fields = 14
 
 -- A record that is not in use.
 abbrev pub blank : Node

@@ -2,3 +2,4 @@
 -- Rests on those.
 pub mod Decided
 pub mod Ran
+pub mod Tasks

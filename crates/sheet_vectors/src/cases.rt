@@ -1,6 +1,7 @@
 //! The sheet of RULES 11.7, 72 bytes: 3 faults, cue 7 with two ways and cue 9 with none; and the cases, which cut or change it.
 //! Rests on `writer`.
 use rules::Limits;
+use writer::lists::Lists;
 use writer::write;
 
 /// A field of the sheet: where it stands and how wide it is.
@@ -136,22 +137,21 @@ pub const CASES: [Case; 58] = [
     ),
 ];
 
-/// The sheet of RULES 11.7 and the zeros behind it.
+/// The sheet of RULES 11.7 and the zeros behind it. Its lists are in order, so that the writer takes them.
 fn paper() -> [u8; ROOM] {
-    let limits = Limits {
-        allowance: 10000000,
-        budget: 40,
+    let lists = Lists {
+        limits: Limits {
+            allowance: 10000000,
+            budget: 40,
+        },
+        weights: &[500000000, 500000000, 200000000],
+        numbers: &[7, 9],
+        counts: &[2, 0],
+        present: &[3, 5],
+        absent: &[0, 0],
     };
     let mut sheet = [0; ROOM];
-    write(
-        &[500000000, 500000000, 200000000],
-        &[7, 9],
-        &[2, 0],
-        &[3, 5],
-        &[0, 0],
-        limits,
-        &mut sheet,
-    );
+    let _ = write(lists, &mut sheet);
     sheet
 }
 

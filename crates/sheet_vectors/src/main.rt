@@ -17,9 +17,8 @@ fn show<W: Write>(name: &str, sheet: &[u8], length: usize, out: &mut W) -> io::R
     let Some(front) = sheet.get(..length) else {
         return Ok(());
     };
-    let report = report(front);
     writeln!(out, "{name}:")?;
-    out.write_all(&report.text[..report.length])
+    out.write_all(report(front).as_slice())
 }
 
 /// All sheets: those of the cases, then the longest sheet, and with a byte more or less.

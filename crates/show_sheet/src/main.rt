@@ -4,10 +4,11 @@
 
 mod show;
 
-use rules::{Limits, WriteAnswer};
+use rules::Limits;
 use show::{ALLOWANCE, BUDGET, CUES, Cue, WEIGHTS};
 use std::io;
 use std::io::Write;
+use writer::lists::Lists;
 use writer::write;
 
 /// The length of the longest sheet.
@@ -18,7 +19,7 @@ fn count(cue: &Cue) -> u16 {
     u16::try_from(cue.ways.len()).unwrap_or(u16::MAX)
 }
 
-/// Writes the sheet, or the line of a refusal if the lists are not in order. The status is 0 whatever becomes of the output.
+/// Writes the sheet, or the line of a refusal if the lists are not in order. Fails only for want of memory: output that cannot be written is lost.
 fn main(rt: HostRuntime) -> io::Result<()> {
     let alloc = rt.alloc();
     let numbers: Vec<u16> = CUES.iter().map(|cue| cue.number).collect(alloc)?;
@@ -31,19 +32,24 @@ fn main(rt: HostRuntime) -> io::Result<()> {
             absent.push(without)?;
         }
     }
-    let limits = Limits {
-        allowance: ALLOWANCE,
-        budget: BUDGET,
+    let lists = Lists {
+        limits: Limits {
+            allowance: ALLOWANCE,
+            budget: BUDGET,
+        },
+        weights: WEIGHTS,
+        numbers: &numbers,
+        counts: &counts,
+        present: &present,
+        absent: &absent,
     };
     let mut sheet = vec![in alloc; 0; LONGEST]?;
-    let _ = match write(
-        WEIGHTS, &numbers, &counts, &present, &absent, limits, &mut sheet,
-    ) {
-        WriteAnswer::Written(length) => {
+    let _ = match write(lists, &mut sheet) {
+        Ok(length) => {
             sheet.truncate(length as usize);
-            io::writer(&rt).write_all(&sheet)
+            rt.stdout().write_all(&sheet)
         }
-        WriteAnswer::Refused(number) => println!(rt; "refused {number}"),
+        Err(refusal) => println!(rt; "refused {}", u8::from(refusal)),
     };
     Ok(())
 }

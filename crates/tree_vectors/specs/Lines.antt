@@ -1,8 +1,9 @@
 -- A printed line as a reply of the rules: number, low, high and count, and a run's verdict as a number.
 -- Rests on `rules`, Answers.
-use Rattle.std.specs.Prelude.{ℕ}
+use Rattle.std.specs.Prelude.{ℕ, Result, Ok, Err}
 use Rattle.rules.specs.Answers.{Reply}
-use Rattle.rules.specs.declared.RunAnswer.{RunAnswer}
+use Rattle.rules.specs.declared.Ended.{Ended}
+use Rattle.rules.specs.declared.Refusal.{Refusal}
 use Rattle.rules.specs.declared.Verdict.{Verdict}
 use Rattle.tree_vectors.specs.declared.lines.Line.{Line}
 
@@ -18,6 +19,6 @@ verdict_number Verdict.Full = 3
 verdict_number Verdict.Spent = 4
 
 -- A refused run has no verdict: 0.
-abbrev pub end_number : RunAnswer → ℕ
-end_number (RunAnswer.Ended v f g) = verdict_number v
-end_number (RunAnswer.Refused n) = 0
+abbrev pub end_number : Result Ended Refusal → ℕ
+end_number (Ok e) = verdict_number e.verdict
+end_number (Err r) = 0

@@ -2,9 +2,10 @@
 //! Rests on the answers of `rules`.
 ghost use Rattle.std.specs.Prelude.{◌≡◌};
 ghost use Rattle.rules.specs.Answers.{accepted, refused, answer_reply, run_reply, run_figure};
+ghost use Rattle.rules.specs.Refusals.{number};
 ghost use Rattle.tree_vectors.specs.Lines.{line_reply, verdict_number, end_number};
 
-use rules::{Answer, Figures, RunAnswer, S, Verdict};
+use rules::{Ended, Figures, Refusal, S, Verdict};
 use std::fmt;
 
 /// The four figures of a line.
@@ -25,23 +26,24 @@ pub struct RunLine {
 }
 
 /// The line of an accepted call.
-fn accepted_line(f: Figures) -> Line
-    ensures { line_reply result ≡ accepted f }
+fn accepted_line(figures: Figures) -> Line
+    ensures { line_reply result ≡ accepted figures }
 {
+    let Figures { low, high, count } = figures;
     Line {
         number: 0,
-        low: f.low,
-        high: f.high,
-        count: f.count,
+        low,
+        high,
+        count,
     }
 }
 
 /// The line of a refused call.
-fn refused_line(n: u8) -> Line
-    ensures { line_reply result ≡ refused n }
+fn refused_line(refusal: Refusal) -> Line
+    ensures { line_reply result ≡ refused (number refusal) }
 {
     Line {
-        number: u64::from(n),
+        number: u64::from(u8::from(refusal)),
         low: 0,
         high: S,
         count: 0,
@@ -49,20 +51,17 @@ fn refused_line(n: u8) -> Line
 }
 
 /// What the answer of an opening or a hand refinement says in the rules' terms.
-pub fn reply(a: Answer) -> Line
-    ensures { line_reply result ≡ answer_reply a }
+pub fn reply(answer: Result<Figures, Refusal>) -> Line
+    ensures { line_reply result ≡ answer_reply answer }
 {
-    match a {
-        Answer::Accepted(f) => accepted_line(f),
-        Answer::Refused(n) => refused_line(n),
-    }
+    answer.map_or_else(refused_line, accepted_line)
 }
 
 /// A verdict as a number.
-fn verdict_number(v: Verdict) -> u64
-    ensures { result ≡ verdict_number v }
+fn verdict_number(verdict: Verdict) -> u64
+    ensures { result ≡ verdict_number verdict }
 {
-    match v {
+    match verdict {
         Verdict::Met => 1,
         Verdict::Done => 2,
         Verdict::Full => 3,
@@ -71,19 +70,19 @@ fn verdict_number(v: Verdict) -> u64
 }
 
 /// What the answer of a run says in the rules' terms; a refused one has verdict 0 and figure 0.
-pub fn run_line(a: RunAnswer) -> RunLine
-    ensures reply { line_reply result.line ≡ run_reply a }
-    ensures verdict { result.verdict ≡ end_number a }
-    ensures figure { result.figure ≡ run_figure a }
+pub fn run_line(answer: Result<Ended, Refusal>) -> RunLine
+    ensures reply { line_reply result.line ≡ run_reply answer }
+    ensures verdict { result.verdict ≡ end_number answer }
+    ensures figure { result.figure ≡ run_figure answer }
 {
-    match a {
-        RunAnswer::Ended(v, f, g) => RunLine {
-            line: accepted_line(f),
-            verdict: verdict_number(v),
-            figure: g,
+    match answer {
+        Ok(ended) => RunLine {
+            line: accepted_line(ended.figures),
+            verdict: verdict_number(ended.verdict),
+            figure: ended.figure,
         },
-        RunAnswer::Refused(n) => RunLine {
-            line: refused_line(n),
+        Err(refusal) => RunLine {
+            line: refused_line(refusal),
             verdict: 0,
             figure: 0,
         },

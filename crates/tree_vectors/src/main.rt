@@ -10,18 +10,18 @@ mod table;
 
 use numbers::Numbers;
 use places::show;
+use records::{NO_NODES, Tree};
 use requests::Request;
 use std::alloc::Global;
 use std::io;
 use std::io::{BufReader, BufWriter, ErrorKind, Read, Write};
-use store::{NO_NODES, Words};
 use table::Table;
 
 /// Does what a line asks for and prints what it gives.
 fn answer<W: Write>(
     table: &Table,
     request: Request,
-    tree: &mut Words,
+    tree: &mut Tree,
     alloc: Global,
     out: &mut W,
 ) -> io::Result<()> {
@@ -46,7 +46,7 @@ fn answer<W: Write>(
 /// tree of the script before is handed on.
 fn script<R: Read + Drop, W: Write>(
     input: &mut Numbers<R>,
-    tree: &mut Words,
+    tree: &mut Tree,
     out: &mut W,
 ) -> io::Result<()> {
     let opens = input.number() != 0;

@@ -6,10 +6,10 @@ use dtree::opening::open;
 use dtree::refining::refine;
 use dtree::runs::run;
 use numbers::Numbers;
+use records::Tree;
 use std::alloc::AllocError;
 use std::io;
 use std::io::{Read, Write};
-use store::Words;
 
 /// The most weights of a script: one more than a table may have.
 const WEIGHTS: usize = 65;
@@ -39,13 +39,13 @@ impl Table {
     }
 
     /// Opens the table and prints the line.
-    pub fn open<W: Write>(&self, tree: &mut Words, out: &mut W) -> io::Result<()> {
+    pub fn open<W: Write>(&self, tree: &mut Tree, out: &mut W) -> io::Result<()> {
         let answer = open(&self.weights, &self.present, &self.absent, tree);
         writeln!(out, "{}", reply(answer))
     }
 
     /// Makes a call and prints its line.
-    pub fn call<W: Write>(&self, call: Call, tree: &mut Words, out: &mut W) -> io::Result<()> {
+    pub fn call<W: Write>(&self, call: Call, tree: &mut Tree, out: &mut W) -> io::Result<()> {
         let (weights, present, absent) = (&self.weights, &self.present, &self.absent);
         match call {
             Call::Refine { place, kind } => {

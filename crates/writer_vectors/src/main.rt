@@ -2,14 +2,14 @@
 //! Rests on `writer` and `sheet`. An independent implementation writes the input and the expected lines.
 #![tactic(auto)]
 
+mod gathered;
 mod lines;
-mod lists;
 
+use gathered::Gathered;
 use lines::print_written;
-use lists::Lists;
 use numbers::Numbers;
-use rules::{ReadAnswer, WriteAnswer};
-use sheet::reader::read;
+use rules::Refusal;
+use sheet::accepted::Sheet;
 use std::alloc::Global;
 use std::io;
 use std::io::{BufReader, BufWriter, ErrorKind, Read, Write};
@@ -41,10 +41,10 @@ fn write_again<W: Write>(
     sheet: &[u8],
     space: &mut [u8],
     out: &mut W,
-) -> io::Result<WriteAnswer> {
-    match read(sheet) {
-        ReadAnswer::Sheet(head) => Ok(Lists::read_back(alloc, sheet, head, out)?.write(space)),
-        ReadAnswer::Refused(number) => Ok(WriteAnswer::Refused(number)),
+) -> io::Result<Result<u64, Refusal>> {
+    match Sheet::read(sheet) {
+        Ok(sheet) => Ok(Gathered::read_back(alloc, sheet, out)?.write(space)),
+        Err(refusal) => Ok(Err(refusal)),
     }
 }
 
@@ -60,18 +60,17 @@ fn back<W: Write>(alloc: Global, sheet: &[u8], out: &mut W) -> io::Result<()> {
 /// sheet.
 fn case<R: Read + Drop, W: Write>(input: &mut Numbers<R>, out: &mut W) -> io::Result<()> {
     print_name(input, out)?;
-    let lists = Lists::read(input)?;
+    let gathered = Gathered::read(input)?;
     let lent = input.list_length(SPACE);
     let mut space = BLANK;
-    let answer = lists.write(&mut space[..lent]);
+    let answer = gathered.write(&mut space[..lent]);
     print_written(answer, &space, out)?;
-    match answer {
-        WriteAnswer::Written(length) => match space.get(..length as usize) {
-            Some(sheet) => back(input.alloc, sheet, out),
-            None => Ok(()),
-        },
-        WriteAnswer::Refused(_) => Ok(()),
+    if let Ok(length) = answer
+        && let Some(sheet) = space.get(..length as usize)
+    {
+        back(input.alloc, sheet, out)?;
     }
+    Ok(())
 }
 
 /// Makes all cases.

@@ -4,4 +4,4 @@ use Rattle.cuerisk.proofs.Telling.{exporting-told}
 use Rattle.cuerisk.proofs.cue_csv_export.Goals as goal
 
 pub returns : goal.returns
-returns c = let a = c.args in record { promise = exporting-told a.sheet.now a.space.now c.export.ensures.promise c.of_write.ensures }
+returns c = let a = c.args in record { promise = exporting-told a.sheet.now a.space.now c.export.ensures.promise c.from.ensures }

@@ -4,4 +4,4 @@ use Rattle.cuerisk.proofs.Telling.{importing-told}
 use Rattle.cuerisk.proofs.cue_csv_import.Goals as goal
 
 pub returns : goal.returns
-returns c = let a = c.args in record { promise = importing-told a.text.now a.space.now c.import.ensures.promise c.of_import.ensures }
+returns c = let a = c.args in record { promise = importing-told a.text.now a.space.now c.import.ensures.promise c.from.ensures }

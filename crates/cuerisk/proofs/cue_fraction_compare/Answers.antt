@@ -4,4 +4,4 @@ use Rattle.cuerisk.proofs.Telling.{comparing-told}
 use Rattle.cuerisk.proofs.cue_fraction_compare.Goals as goal
 
 pub returns : goal.returns
-returns c = record { promise = comparing-told _ _ c.compare.ensures.promise c.of_order.ensures }
+returns c = record { promise = comparing-told _ _ c.compare.ensures.promise c.from.ensures }

@@ -4,4 +4,4 @@ use Rattle.cuerisk.proofs.Telling.{weighing-told}
 use Rattle.cuerisk.proofs.cue_fraction_weight.Goals as goal
 
 pub returns : goal.returns
-returns c = record { promise = weighing-told _ c.weight.ensures.promise c.of_weight.ensures }
+returns c = record { promise = weighing-told _ c.weight.ensures.promise c.from.ensures }

@@ -4,4 +4,4 @@ use Rattle.cuerisk.proofs.Telling.{adding-told}
 use Rattle.cuerisk.proofs.cue_fractions.Goals as goal
 
 pub returns : goal.returns
-returns c = record { promise = adding-told _ c.total.ensures.promise c.of_fraction.ensures }
+returns c = record { promise = adding-told _ c.total.ensures.promise c.from.ensures }

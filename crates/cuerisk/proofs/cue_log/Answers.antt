@@ -4,4 +4,4 @@ use Rattle.cuerisk.proofs.Telling.{log-told}
 use Rattle.cuerisk.proofs.cue_log.Goals as goal
 
 pub returns : goal.returns
-returns c = record { promise = log-told _ c.log.ensures.promise c.of_fraction.ensures }
+returns c = record { promise = log-told _ c.log.ensures.promise c.from.ensures }

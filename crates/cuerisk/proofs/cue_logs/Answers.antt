@@ -4,4 +4,4 @@ use Rattle.cuerisk.proofs.Telling.{logs-told}
 use Rattle.cuerisk.proofs.cue_logs.Goals as goal
 
 pub returns : goal.returns
-returns c = record { promise = logs-told _ c.logs.ensures.promise c.of_fraction.ensures }
+returns c = record { promise = logs-told _ c.logs.ensures.promise c.from.ensures }

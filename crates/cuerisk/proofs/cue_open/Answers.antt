@@ -4,4 +4,4 @@ use Rattle.cuerisk.proofs.Telling.{opening-told}
 use Rattle.cuerisk.proofs.cue_open.Goals as goal
 
 pub returns : goal.returns
-returns c = record { promise = opening-told _ _ _ _ c.open.ensures.promise c.of_answer.ensures }
+returns c = record { promise = opening-told _ _ _ _ c.open.ensures.promise c.from.ensures }

@@ -4,4 +4,4 @@ use Rattle.cuerisk.proofs.Telling.{reading-told}
 use Rattle.cuerisk.proofs.cue_sheet_check.Goals as goal
 
 pub returns : goal.returns
-returns c = record { promise = reading-told _ _ _ (c.read.ensures.answer, c.read.ensures.reply) c.of_read.ensures }
+returns c = record { promise = reading-told _ _ _ (c.read.ensures.answer, c.read.ensures.reply) c.from.ensures }

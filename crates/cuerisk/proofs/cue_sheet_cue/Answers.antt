@@ -4,4 +4,4 @@ use Rattle.cuerisk.proofs.Telling.{entry-told}
 use Rattle.cuerisk.proofs.cue_sheet_cue.Goals as goal
 
 pub returns : goal.returns
-returns c = record { promise = entry-told _ _ _ _ (c.cue_at.ensures.answer, c.cue_at.ensures.reply) c.of_entry.ensures }
+returns c = record { promise = entry-told _ _ _ _ (c.cue_at.ensures.answer, c.cue_at.ensures.reply) c.from.ensures }

@@ -7,5 +7,5 @@ use Rattle.cuerisk.proofs.cue_sheet_report.Goals as goal
 
 pub returns : goal.returns
 returns c =
-    let e = c.of_write.ensures ∙ ap flat_write c.put_text.ensures.value in
+    let e = c.from.ensures ∙ ap flat_write c.put_text.ensures.value in
     record { promise = record { numbers = e; counts = e ∙ ap flat (report-reply _ _); space = c.put_text.ensures.space_after } }

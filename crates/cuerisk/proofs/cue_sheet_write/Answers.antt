@@ -2,12 +2,12 @@
 -- Rests on Telling.antt and the contracts of `writer::write` and `of_write`.
 use Rattle.rules.specs.Sheet.{Lists}
 use Rattle.rules.specs.declared.Limits.{Limits}
-use Rattle.writer.specs.Given.{given}
+use Rattle.cuerisk.specs.Told.{lists}
 use Rattle.cuerisk.proofs.Telling.{writing-told}
 use Rattle.cuerisk.proofs.cue_sheet_write.Goals as goal
 
 pub returns : goal.returns
 returns c = let a = c.args in
     let m : Limits = record { allowance = a.allowance; budget = a.budget } in
-    let x : Lists = given a.weights.now a.numbers.now a.counts.now a.present.now a.absent.now m in
-    record { promise = writing-told x a.space.now c.write.ensures.promise c.of_write.ensures }
+    let x : Lists = lists a.weights.now a.numbers.now a.counts.now a.present.now a.absent.now m in
+    record { promise = writing-told x a.space.now c.write.ensures.promise c.from.ensures }

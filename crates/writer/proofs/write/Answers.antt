@@ -1,25 +1,25 @@
--- `write` meets its contract: a call whose number is 0 writes the sheet, and any other writes nothing.
--- Rests on Writing.antt, Over.antt and the contracts of `write_number` and `put_sheet`.
-use mathlib.Core.Path.{sym, ◌∙◌}
-use Rattle.writer.proofs.Over.{wrote-long}
-use Rattle.writer.proofs.Writing.{may_write, wrote_sheet, wrote_nothing}
+-- `write` meets its contract: a refused call writes nothing, and any other the sheet.
+-- Rests on Accepted.antt, Writing.antt and the contracts of `check_write` and `put_sheet`.
+use Rattle.std.proofs.Common.{rules}
+use Rattle.writer.specs.Given.{given}
+use Rattle.writer.proofs.Accepted.{short}
+use Rattle.writer.proofs.Writing.{wrote_nothing, kept, room, wrote_sheet}
 use Rattle.writer.proofs.write.Goals as goal
 
-pub put_sheet-end-requires : goal.put_sheet-end-requires
-put_sheet-end-requires c =
-    let kept = sym c.write_number-number.ensures ∙ c.if-number-eq0.true in
-    let whole = may_write _ _ kept in
-    record { limits_value = whole.0; room = whole.1 }
+pub returns-in_err-check_write : goal.returns-in_err-check_write
+returns-in_err-check_write c =
+    record { promise = wrote_nothing _ _ c.check_write.ensures _ c.in_err-check_write.field-0.0 (search rules) (search rules) }
 
-pub shape_of-space-then-number-eq0 : goal.shape_of-space-then-number-eq0
-shape_of-space-then-number-eq0 c =
-    let kept = sym c.write_number-number.ensures ∙ c.if-number-eq0.true in
-    wrote-long (may_write _ _ kept).1 c.put_sheet-end.ensures
+pub put_sheet-requires-clause-short : goal.put_sheet-requires-clause-short
+put_sheet-requires-clause-short c = let x = given c.args.lists in
+    short x (kept x _ c.check_write.ensures c.in_ok-check_write.was)
 
-pub returns-then-number-eq0 : goal.returns-then-number-eq0
-returns-then-number-eq0 c =
-    let kept = sym c.write_number-number.ensures ∙ c.if-number-eq0.true in
-    record { promise = wrote_sheet _ _ kept c.put_sheet-end.ensures }
+pub put_sheet-requires-clause-room : goal.put_sheet-requires-clause-room
+put_sheet-requires-clause-room c = let fresh = c.new-out.ensures in
+    room _ _ c.check_write.ensures c.in_ok-check_write.was fresh.written fresh.left
 
 pub returns : goal.returns
-returns c = record { promise = wrote_nothing _ _ c.write_number-number.ensures c.if-number-eq0.false }
+returns c =
+    let fresh = c.new-out.ensures in
+    let done = wrote_sheet _ _ c.check_write.ensures c.in_ok-check_write.was fresh.written fresh.left c.put_sheet.ensures in
+    record { promise = done _ (search rules) _ c.len.ensures }

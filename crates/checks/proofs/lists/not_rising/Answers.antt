@@ -1,6 +1,6 @@
--- `not_rising` meets its contract. The loop's invariant: the numbers from i on, after the last one, answer for all.
+-- `not_rising` meets its contract. The loop's invariant: the numbers from here on, after the last one, answer for all.
 -- Rests on Walk.antt.
-use mathlib.Core.Path.{◌≡◌, refl, ap}
+use mathlib.Core.Path.{◌≡◌, ap}
 use mathlib.Core.Bool.{Bool, true, false, not, ◌&&◌}
 use native.Mathlib.Omega.{arith}
 use borrow.Author.Tests.{lt-ltb, le-ltb}
@@ -15,23 +15,17 @@ stops rest h e = rw h at (ap not e)
 goes_on : {t rest R : Bool} → t ≡ true → t && rest ≡ R → rest ≡ R
 goes_on h e = rw h at e
 
-pub loop-i-init : goal.loop-i-init
-loop-i-init c = (omega arith, refl)
-
 pub returns-then-number-last : goal.returns-then-number-last
 unfolding not_rising rising
 returns-then-number-last c =
-    let l = c.loop-i in
-    stops _ (le-ltb _ _ c.if-number-last.true) (forward (rising l.last) c.args.numbers.now l.i (omega arith) l.invariant.1)
+    let l = c.loop-number in
+    stops _ (le-ltb _ _ c.if-number-last.true) (forward (rising l.last) c.args.numbers.now l.number-index (omega arith) l.invariant)
 
-pub loop-i-preserved : goal.loop-i-preserved
+pub loop-number-preserved : goal.loop-number-preserved
 unfolding rising
-loop-i-preserved c = let l = c.loop-i in (
-  omega arith,
-  goes_on (lt-ltb _ _ c.if-number-last.false)
-      (forward (rising l.last) c.args.numbers.now l.i (omega arith) l.invariant.1),
-)
+loop-number-preserved c = let l = c.loop-number in
+    goes_on (lt-ltb _ _ c.if-number-last.false) (forward (rising l.last) c.args.numbers.now l.number-index (omega arith) l.invariant)
 
 pub returns : goal.returns
 unfolding not_rising rising
-returns c = let l = c.loop-i in ap not (ended (rising l.last) c.args.numbers.now l.i (omega arith) l.invariant.1)
+returns c = let l = c.loop-number in ap not (ended (rising l.last) c.args.numbers.now l.number-index (omega arith) l.invariant)

@@ -1,45 +1,31 @@
--- `put_fault` meets its contract: a comma, a minus, and the fault's number behind it or over it.
--- Rests on `writer`, Over, on Putting.antt and on the contracts of `sign_length` and `put_short`.
-use Prim.Native.Nat.{◌+◌}
-use native.Mathlib.Omega.{arith}
-use lib.ListN.{set, length-set}
-use Rattle.rules.proofs.Decimal.{decimal-leading}
-use Rattle.csv_export.proofs.Putting.{fault_fits, digits-fit, fault-written}
+-- `put_fault` meets its contract: a comma, a minus or none, and one digit or two.
+-- Rests on Faults.antt and on `writer`, Over.
+use Rattle.std.proofs.Common.{◌≡◌, ◌+◌, ◌/◌, arith}
+use Rattle.writer.proofs.Over.{room_first, room_second, wrote_both}
+use Rattle.csv_export.proofs.Faults.{one_digit, two_digits}
 use Rattle.csv_export.proofs.pieces.put_fault.Goals as goal
+use Rattle.csv_export.proofs.pieces.put_fault.Goals.{then-tens-eq0, else-tens-eq0}
 
-pub bounds-space-at : goal.bounds-space-at
-bounds-space-at c = let a = c.args in omega (arith, fault_fits a.space.now a.at a.f c.requires.room)
+pub push_around-requires : goal.push_around-requires
+push_around-requires c = elim c.if-tens-eq0.branch [
+  | then-tens-eq0 w ↦ rw w.first-is (rw (one_digit c.args.fault (omega arith)) at c.requires.room)
+  | else-tens-eq0 w ↦ rw w.first-is (room_first _ (rw (two_digits c.args.fault (omega arith) (omega arith)) at c.requires.room))
+]
 
-pub overflow_add-space : goal.overflow_add-space
-overflow_add-space c = let a = c.args in omega (arith, fault_fits a.space.now a.at a.f c.requires.room, c.well_formed)
+pub push-requires : goal.push-requires
+push-requires c =
+    let tens : c.if-tens-eq0.first ≡ (c.args.fault.place + 1) / 10 =
+    elim c.if-tens-eq0.branch [ then-tens-eq0 w ↦ absurd (omega arith) | else-tens-eq0 w ↦ w.first-is ] in
+    room_second _ (rw tens at c.push_around.ensures) (rw (two_digits c.args.fault (omega arith) (omega arith)) at c.requires.room)
 
-pub bounds-space-at-2 : goal.bounds-space-at-2
-bounds-space-at-2 c = let a = c.args in omega (arith, fault_fits a.space.now a.at a.f c.requires.room, length-set a.space.now a.at 44)
+pub returns-then-tens-ne0 : goal.returns-then-tens-ne0
+returns-then-tens-ne0 c =
+    let tens : c.if-tens-eq0.first ≡ (c.args.fault.place + 1) / 10 =
+    elim c.if-tens-eq0.branch [ then-tens-eq0 w ↦ absurd (omega arith) | else-tens-eq0 w ↦ w.first-is ] in
+    rw (two_digits c.args.fault (omega arith) (omega arith)) (wrote_both _ (rw tens at c.push_around.ensures) c.push.ensures)
 
-pub overflow_add-digits : goal.overflow_add-digits
-overflow_add-digits c = let a = c.args in omega (arith, fault_fits a.space.now a.at a.f c.requires.room, c.well_formed)
-
-pub overflow_add-digits-2 : goal.overflow_add-digits-2
-overflow_add-digits-2 c =
-    let a = c.args in
-    -- There is room for the digits behind the sign.
-    let fit = digits-fit a.space.now a.at a.f c.requires.room c.sign_length.ensures in
-    omega (
-      arith,
-      fit.fits,
-      length-set (set a.space.now a.at 44) (a.at + 1) 45,
-      length-set a.space.now a.at 44,
-      c.well_formed,
-      (decimal-leading (a.f.place + 1)).0,
-    )
-
-pub put_short-requires : goal.put_short-requires
-put_short-requires c =
-    let a = c.args in
-    record {
-      n_bound = omega (arith, c.requires.place_bound);
-      room = digits-fit a.space.now a.at a.f c.requires.room c.sign_length.ensures;
-    }
-
-pub returns : goal.returns
-returns c = let a = c.args in fault-written a.space.now a.at a.f c.requires.room c.sign_length.ensures c.put_short.ensures
+pub returns-else-tens-ne0 : goal.returns-else-tens-ne0
+returns-else-tens-ne0 c =
+    let one : c.if-tens-eq0.first ≡ c.args.fault.place + 1 =
+    elim c.if-tens-eq0.branch [ then-tens-eq0 w ↦ w.first-is | else-tens-eq0 w ↦ absurd (omega arith) ] in
+    rw (one_digit c.args.fault (omega arith)) (rw one at c.push_around.ensures)

@@ -7,9 +7,6 @@ use Rattle.rules.specs.Table.{bit}
 use Rattle.rules.proofs.Bits.{bit_high}
 use Rattle.formula.proofs.child.names.Goals as goal
 
-pub returns-then-f-lt64 : goal.returns-then-f-lt64
-returns-then-f-lt64 c = (c.has.ensures ∙ ap (bit c.args.f) c.faults-w.ensures, λ t. c.if-f-lt64.true)
-
 pub returns-else-f-lt64 : goal.returns-else-f-lt64
 returns-else-f-lt64 c = let f = c.args.f in
     (sym (bit_high 64 f c.faults-w.result c.if-f-lt64.false (search rules)) ∙ ap (bit f) c.faults-w.ensures, λ t. absurd (true≢false (sym t)))
