@@ -1,6 +1,7 @@
 -- Which numbers are discarded after the last accepted one: on the circle of 256 it is that number and the 19 before it.
 -- Rests on specs/Logs.antt.
-use Rattle.std.proofs.Common.{◌≡◌, ℕ, suc, ◌+◌, ◌-◌, ◌%◌, ◌<◌, ◌≤◌, true, false, ◌&&◌, ltb, ◌↔◌, ℤ, pos, negsuc, ◌-ℤ◌, sym, refl, ap, ◌∙◌, arith, ltb-true, le-ltb, lt-ltb}
+use Rattle.std.proofs.Common.{◌≡◌, ℕ, suc, ◌+◌, ◌-◌, ◌%◌, ◌<◌, ◌≤◌, true, false, ◌&&◌, ltb, ◌↔◌, ℤ, pos, negsuc, sym, ap, ◌∙◌, arith, ltb-true, le-ltb, lt-ltb}
+use Rattle.std.proofs.lemmas.Int.{ints}
 use native.Mathlib.Decide.{dec_lt}
 use lib.Signed.{le_z, lt_z}
 use lib.Dec.{leb-suc-suc}
@@ -10,28 +11,16 @@ use Rattle.captures.specs.Logs.{difference, signed, discards}
 -- ---- eight bits read as signed
 
 -- Below 128 they are the number itself.
-pub signed_low : (d : ℕ) → d < 128 → signed d ≡ pos d
+signed_low : (d : ℕ) → d < 128 → signed d ≡ pos d
 unfolding signed
-signed_low d h = rw (lt-ltb d 128 h, signed) refl
+signed_low d h = grind (arith, ints)
 
--- 256 less than d is 256 − d below 0; `negsuc n` stands for −(n + 1).
-pub less-256 : (d : ℕ) → d < 256 → pos d -ℤ pos 256 ≡ negsuc (255 - d)
-less-256 d h = rw (lt-ltb d 256 h) (ap negsuc (one_less d))
-  where
-    one_less : (d : ℕ) → 256 - suc d ≡ 255 - d
-    one_less d = omega arith
-
--- From 128 on they are below 0.
-pub signed_high : (d : ℕ) → 128 ≤ d → d < 256 → signed d ≡ negsuc (255 - d)
+-- From 128 on they are 256 − d below 0; `negsuc n` stands for −(n + 1).
+signed_high : (d : ℕ) → 128 ≤ d → d < 256 → signed d ≡ negsuc (255 - d)
 unfolding signed
-signed_high d low high = rw (le-ltb d 128 low, signed) (less-256 d high)
+signed_high d low high = grind (arith, ints)
 
 -- ---- the difference
-
--- It is the one number on eight bits that, added to the last accepted one, gives the new one.
-pub difference-is : (last new d : ℕ) → last < 256 → d < 256 → (d + last) % 256 ≡ new → d ≡ difference last new
-unfolding difference
-difference-is last new d l h e = omega arith
 
 -- It is on eight bits.
 pub difference_below : (last new : ℕ) → difference last new < 256

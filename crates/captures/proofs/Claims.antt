@@ -1,18 +1,20 @@
 -- WHERE TO LOOK FIRST: what is shown of weights from captures, each claim under the clauses of docs/RULES.md that it settles.
 -- Every claim is about the definitions in specs/; the contracts of the code say that its results equal those definitions.
-use Rattle.std.proofs.Common.{◌≡◌, ℕ, ◌+◌, ◌-◌, ◌%◌, ◌<◌, ◌≤◌, Bool, true, false, ltb, ◌↔◌, List, [], ◌∷◌, ◌++◌, map, length, sym, refl, ap, ◌∙◌, ap₂, zero-le, lt_irrefl, arith, ltb-false, ltb-true, lt-ltb}
+use Rattle.std.proofs.Common.{◌≡◌, ℕ, ◌+◌, ◌-◌, ◌%◌, ◌<◌, ◌≤◌, Bool, true, false, ltb, ◌↔◌, List, [], ◌∷◌, ◌++◌, map, length, sym, refl, ap, ◌∙◌, ap₂, subst, zero-le, lt_irrefl, arith, ltb-false, ltb-true, lt-ltb}
+use Rattle.std.specs.Prelude.{Result, Ok, Err}
+use Rattle.std.specs.Ordering.{MatchOrdering}
+use Rattle.std.specs.declared.cmp.Ordering.{Ordering}
+use Rattle.std.proofs.lemmas.Cmp.{ranked}
+use Rattle.std.proofs.lemmas.Result.{IfOk-at_ok}
 use mathlib.Core.List.Permᴰ
 use mathlib.Core.List.{flatten, map-append}
+use Rattle.rules.specs.declared.Refusal.{Refusal}
 use Rattle.rules.proofs.Refused.{numbers_tried}
 use Rattle.captures.specs.declared.Fraction.{Fraction}
-use Rattle.captures.specs.declared.FractionAnswer.{FractionAnswer}
-use Rattle.captures.specs.declared.WeightAnswer.{WeightAnswer}
-use Rattle.captures.specs.declared.OrderAnswer.{OrderAnswer}
 use Rattle.captures.specs.Logs.{discards, heard_all, silent, counted, fraction_of, in_pieces, limit}
 use Rattle.captures.specs.Fractions.{fraction, beyond, fraction_refusals, fraction_answer, log_answer, total_refusals, total_answer, logs_answer, joined}
-use Rattle.captures.specs.Fractions.{weight_refusals, weight_answer, compare_refusals, compare_answer, fraction_refused, fraction_told}
-use Rattle.captures.specs.Fractions.{weight_refused, weight_told, order_refused, order_told}
-use Rattle.captures.specs.Promises.{LogCounted, LogsCounted, Added, Weighed, Compared}
+use Rattle.captures.specs.Fractions.{weight_refusals, weight_answer, compare_refusals, compare_answer, number_told, fraction_told, weight_told, order_told}
+use Rattle.captures.specs.Promises.{LogCounted, LogsCounted, Added, Weighed, Over, Compared}
 use Rattle.captures.proofs.Circle.{discards-exactly}
 use Rattle.captures.proofs.Counting.{heard-joined, heard-within, judged-is, pieces-capped, pieces-within}
 use Rattle.captures.proofs.Sums.{beyond-judged, fraction-refused, fraction-counted, total-told}
@@ -69,21 +71,16 @@ log-counted bs = by (beyond (fraction_of bs)) refl
 
     by : (b : Bool) → beyond (fraction_of bs) ≡ b → LogCounted bs (log_answer bs)
     by true e =
-        rw (fraction-refused (fraction_of bs) e)
-        (record {
-          answer = sym (fraction-refused (fraction_of bs) e);
-          too_long = (λ _. long e, λ _. refl);
-          judged = λ z. omega (arith, z);
-          discarded = zero-le;
-        })
+        let is : log_answer bs ≡ Err Refusal.Beyond = fraction-refused (fraction_of bs) e in
+        record { answer = refl; too_long = (λ _. long e, λ _. is); judged = rw is tt; discarded = rw is tt }
     by false e =
-        rw (fraction-counted (fraction_of bs) e)
-        (record {
-          answer = sym (fraction-counted (fraction_of bs) e);
-          too_long = (λ z. omega (arith, z), λ h. absurd (short e h));
-          judged = λ _. all-judged bs;
-          discarded = never-above bs;
-        })
+        let is : log_answer bs ≡ Ok (fraction_of bs) = fraction-counted (fraction_of bs) e in
+        record {
+          answer = refl;
+          too_long = (λ r. absurd (cc (r, is)), λ h. absurd (short e h));
+          judged = rw is (all-judged bs);
+          discarded = rw is (never-above bs);
+        }
 
 -- ---- RULES 14.7: sums. In another order, whatever it is, the same fraction or refusal; so for two lists joined in the other order.
 
@@ -108,7 +105,7 @@ logs-joined ls ms = ap total_answer (map-append fraction_of ls ms) ∙ total-joi
 
 -- ONE LOG MORE, read in pieces: added to the sum of the logs before it, it gives the answer of the list with it. So a program may read its files one
 -- by one, each piece by piece.
-pub log-by-log : (ls ps : List (List ℕ)) (s : Fraction) → logs_answer ls ≡ FractionAnswer.Counted s
+pub log-by-log : (ls ps : List (List ℕ)) (s : Fraction) → logs_answer ls ≡ Ok s
     → total_answer (s ∷ counted (in_pieces silent ps) ∷ []) ≡ logs_answer (ls ++ flatten ps ∷ [])
 log-by-log ls ps s e =
     let log : List ℕ = flatten ps in
@@ -120,11 +117,11 @@ log-by-log ls ps s e =
     ∙ sym (logs-joined ls (log ∷ []))
 
 -- A list with a refused fraction is refused whole.
-pub refused-whole : (xs ys : List Fraction) (x : Fraction) → beyond x ≡ true → total_answer (xs ++ x ∷ ys) ≡ FractionAnswer.Refused 25
+pub refused-whole : (xs ys : List Fraction) (x : Fraction) → beyond x ≡ true → total_answer (xs ++ x ∷ ys) ≡ Err Refusal.Beyond
 refused-whole = some-refused
 
 -- So is a list with a refused log.
-pub log-refused-whole : (ls ms : List (List ℕ)) (bs : List ℕ) → limit + 1 < length bs → logs_answer (ls ++ bs ∷ ms) ≡ FractionAnswer.Refused 25
+pub log-refused-whole : (ls ms : List (List ℕ)) (bs : List ℕ) → limit + 1 < length bs → logs_answer (ls ++ bs ∷ ms) ≡ Err Refusal.Beyond
 log-refused-whole ls ms bs h =
     ap total_answer (map-append fraction_of ls (bs ∷ ms))
     ∙ some-refused (map fraction_of ls) (map fraction_of ms) (fraction_of bs) (log-beyond bs ∙ lt-ltb limit (length bs - 1) (over (length bs) h))
@@ -141,6 +138,36 @@ weight-smallest = weighed
 
 pub order-exact : (x y : Fraction) → Compared x y (compare_answer x y)
 order-exact = compared
+
+-- 1, 2 or 3 as a number is less than another, equal to it or greater.
+pub record Tells (n a b : ℕ) : Type 0 where
+  pub less : (n ≡ 1) ↔ (a < b)
+  pub equal : (n ≡ 2) ↔ (a ≡ b)
+  pub greater : (n ≡ 3) ↔ (b < a)
+
+-- So it is told of the numerators over any common denominator.
+pub order-numbers : (x y : Fraction) (o : Ordering) → compare_answer x y ≡ Ok o → (m a b : ℕ) → Over x y m a b → Tells (order_told (Ok o)) a b
+order-numbers x y o e m a b over = tells o (ranked a b o (IfOk-at_ok _ e (compared x y).exact m a b over))
+  where
+    tells : (o : Ordering) → MatchOrdering o (a < b) (a ≡ b) (b < a) → Tells (order_told (Ok o)) a b
+    tells Ordering.Less h =
+        record {
+          less = (λ _. h, λ _. refl);
+          equal = (λ e. omega (arith, e), λ e. omega (arith, h, e));
+          greater = (λ e. omega (arith, e), λ k. omega (arith, h, k));
+        }
+    tells Ordering.Equal h =
+        record {
+          less = (λ e. omega (arith, e), λ k. omega (arith, h, k));
+          equal = (λ _. h, λ _. refl);
+          greater = (λ e. omega (arith, e), λ k. omega (arith, h, k));
+        }
+    tells Ordering.Greater h =
+        record {
+          less = (λ e. omega (arith, e), λ k. omega (arith, h, k));
+          equal = (λ e. omega (arith, e), λ e. omega (arith, h, e));
+          greater = (λ _. h, λ _. refl);
+        }
 
 -- ---- RULES 8.3 and 14.10: the refusals of each call in their order, and what a refused call tells.
 
@@ -161,18 +188,38 @@ unfolding compare_refusals
 compare-tries x y = refl
 
 -- REFUSED, a fraction is 0 of 0.
-pub no_fraction : (a : FractionAnswer) → 0 < fraction_refused a → fraction_told a ≡ fraction 0 0
-no_fraction (FractionAnswer.Counted x) h = absurd (lt_irrefl 0 h)
-no_fraction (FractionAnswer.Refused n) h = refl
+pub no_fraction : (a : Result Fraction Refusal) → 0 < number_told a → fraction_told a ≡ fraction 0 0
+no_fraction (Ok x) h = absurd (lt_irrefl 0 h)
+no_fraction (Err r) h = refl
 
 -- A weight is 0.
-pub no-weight : (a : WeightAnswer) → 0 < weight_refused a → weight_told a ≡ 0
-no-weight (WeightAnswer.Weight w) h = absurd (lt_irrefl 0 h)
-no-weight (WeightAnswer.Refused n) h = refl
+pub no-weight : (a : Result ℕ Refusal) → 0 < number_told a → weight_told a ≡ 0
+no-weight (Ok w) h = absurd (lt_irrefl 0 h)
+no-weight (Err r) h = refl
 
 -- A comparison is 0.
-pub no-order : (a : OrderAnswer) → 0 < order_refused a → order_told a ≡ 0
-no-order OrderAnswer.Less h = absurd (lt_irrefl 0 h)
-no-order OrderAnswer.Equal h = absurd (lt_irrefl 0 h)
-no-order OrderAnswer.Greater h = absurd (lt_irrefl 0 h)
-no-order (OrderAnswer.Refused n) h = refl
+pub no-order : (a : Result Ordering Refusal) → 0 < number_told a → order_told a ≡ 0
+no-order (Ok o) h = absurd (lt_irrefl 0 h)
+no-order (Err r) h = refl
+
+-- ---- what keeps a promise: whatever is the answer that is defined
+
+-- A log.
+pub log_promise : (bs : List ℕ) (r : Result Fraction Refusal) → r ≡ log_answer bs → LogCounted bs r
+log_promise bs r e = subst (LogCounted bs) (sym e) (log-counted bs)
+
+-- Several.
+pub logs_promise : (ls : List (List ℕ)) (r : Result Fraction Refusal) → r ≡ logs_answer ls → LogsCounted ls r
+logs_promise ls r e = subst (LogsCounted ls) (sym e) (logs-any-order ls)
+
+-- A sum.
+pub sum_promise : (xs : List Fraction) (r : Result Fraction Refusal) → r ≡ total_answer xs → Added xs r
+sum_promise xs r e = subst (Added xs) (sym e) (fractions-any-order xs)
+
+-- A weight.
+pub weight_promise : (x : Fraction) (r : Result ℕ Refusal) → r ≡ weight_answer x → Weighed x r
+weight_promise x r e = subst (Weighed x) (sym e) (weighed x)
+
+-- A comparison.
+pub order_promise : (x y : Fraction) (r : Result Ordering Refusal) → r ≡ compare_answer x y → Compared x y r
+order_promise x y r e = subst (Compared x y) (sym e) (compared x y)

@@ -2,26 +2,25 @@
 -- The checker computes all of them from the definitions. They pin what the theorems leave open: which packet is the first that is judged, what is
 -- carried over, which refusal comes first. Rests on specs/ alone.
 use Rattle.std.proofs.Common.{◌≡◌, ℕ, Bool, true, ◌&&◌, List, [], ◌∷◌, refl}
+use Rattle.std.specs.Prelude.{Result}
+use Rattle.std.specs.declared.cmp.Ordering.{Ordering}
 use Rattle.rules.specs.Refusals
 use Rattle.rules.specs.Sheet
 use Rattle.rules.specs.Sheet.{same_numbers}
+use Rattle.rules.specs.declared.Refusal.{Refusal}
 use Rattle.captures.specs.declared.Fraction.{Fraction}
-use Rattle.captures.specs.declared.FractionAnswer.{FractionAnswer}
-use Rattle.captures.specs.declared.WeightAnswer.{WeightAnswer}
-use Rattle.captures.specs.declared.OrderAnswer.{OrderAnswer}
 use Rattle.captures.specs.Logs
 use Rattle.captures.specs.Fractions
 use Rattle.captures.specs.Logs.{logs_in}
 use Rattle.captures.specs.Fractions.{fraction, log_answer, logs_answer, total_answer, fractions_in, weight_answer, compare_answer}
-use Rattle.captures.specs.Fractions.{fraction_refused, fraction_told, weight_refused, weight_told, order_refused, order_told}
+use Rattle.captures.specs.Fractions.{number_told, fraction_told, weight_told, order_told}
 
 -- What the checker computes with.
 unfoldable of-captures : Unit {0}
-unfolding Refusals.first Sheet.same_numbers Logs.difference Logs.signed Logs.discards Logs.hear Logs.heard_all Logs.logs_in Fractions.unjudged
-    Fractions.beyond Fractions.some_beyond Fractions.fraction_by Fractions.fraction_refusals Fractions.fraction_answer Fractions.sum_of
-    Fractions.total_refusals Fractions.total_number Fractions.total_answer Fractions.fractions_in Fractions.weight_of Fractions.weight_refusals
-    Fractions.weight_number Fractions.weight_by Fractions.weight_answer Fractions.order_of Fractions.compare_refusals Fractions.compare_number
-    Fractions.compare_by Fractions.compare_answer
+unfolding Refusals.answered Sheet.same_numbers Logs.difference Logs.signed Logs.discards Logs.hear Logs.heard_all Logs.logs_in Fractions.unjudged
+    Fractions.beyond Fractions.some_beyond Fractions.fraction_refusals Fractions.fraction_answer Fractions.sum_of Fractions.total_refusals
+    Fractions.total_answer Fractions.fractions_in Fractions.weight_of Fractions.weight_refusals Fractions.weight_answer
+    Fractions.compare_refusals Fractions.compare_answer
 of-captures = tt
 
 -- ---- the form of a figure
@@ -35,16 +34,16 @@ pub data CaptureCall : Type 0 where
   compare : Fraction → Fraction → CaptureCall
 
 -- The numbers that a fraction's answer tells.
-abbrev fraction_numbers : FractionAnswer → List ℕ
-fraction_numbers a = fraction_refused a ∷ (fraction_told a).discarded ∷ (fraction_told a).judged ∷ []
+abbrev fraction_numbers : Result Fraction Refusal → List ℕ
+fraction_numbers a = number_told a ∷ (fraction_told a).discarded ∷ (fraction_told a).judged ∷ []
 
 -- Those of a weight's.
-abbrev weight_numbers : WeightAnswer → List ℕ
-weight_numbers a = weight_refused a ∷ weight_told a ∷ []
+abbrev weight_numbers : Result ℕ Refusal → List ℕ
+weight_numbers a = number_told a ∷ weight_told a ∷ []
 
 -- Those of a comparison's.
-abbrev order_numbers : OrderAnswer → List ℕ
-order_numbers a = order_refused a ∷ order_told a ∷ []
+abbrev order_numbers : Result Ordering Refusal → List ℕ
+order_numbers a = number_told a ∷ order_told a ∷ []
 
 -- Those of a call.
 abbrev told : CaptureCall → List ℕ

@@ -1,18 +1,24 @@
 -- Sums of fractions: when they are refused, that lists may be joined in any order, and one turn of a loop that adds.
 -- Rests on specs/Fractions.antt and Counting.antt.
-use Rattle.std.proofs.Common.{◌≡◌, ℕ, zero, suc, ◌<◌, ◌≤◌, Bool, true, false, ◌||◌, ltb, List, [], ◌∷◌, ◌++◌, map, length, get_or, take, drop, sym, refl, ap, ◌∙◌, ap₂, zero-le, le_trans, lt_of_lt_of_le, arith, take-append-drop, take-suc, ltb-false, ltb-true, le-ltb, lt-ltb}
+use Rattle.std.proofs.Common.{◌≡◌, ℕ, ◌+◌, ◌<◌, ◌≤◌, Bool, true, false, ◌||◌, ltb, List, [], ◌∷◌, ◌++◌, map, sym, refl, ap, ◌∙◌, ap₂, zero-le, le_trans, lt_of_lt_of_le, arith, ltb-false, ltb-true, le-ltb, lt-ltb}
+use Rattle.std.specs.Prelude.{Result, Ok, Err}
 use mathlib.Core.Bool.{or-false, or_assoc, or_comm}
 use mathlib.Core.List.Permᴰ
 use mathlib.Core.List.{Permᴰ}
-use Rattle.rules.proofs.First.{first-none, first-here, first-later}
+use Rattle.rules.specs.Refusals.{Test, test, first, answered}
+use Rattle.rules.specs.declared.Refusal.{Refusal}
+use Rattle.rules.proofs.Answering.{answered-none, answered-here, answered-later, by-number}
 use Rattle.rules.proofs.Booleans.{or-first, or_split, or-neither}
 use Rattle.captures.specs.declared.Log.{Log}
 use Rattle.captures.specs.declared.Fraction.{Fraction}
-use Rattle.captures.specs.declared.FractionAnswer.{FractionAnswer}
-use Rattle.captures.specs.Logs.{counted, is_full, full, capped, limit}
-use Rattle.captures.specs.Fractions.{fraction, beyond, some_beyond, fraction_by, fraction_refusals, fraction_answer, plus, sum_of}
-use Rattle.captures.specs.Fractions.{total_refusals, total_number, total_answer, joined, fraction_refused}
-use Rattle.captures.proofs.Counting.{capped-full, capped-open}
+use Rattle.captures.specs.Logs.{counted, is_full, full, capped, limit, heard_all, silent, fraction_of}
+use Rattle.captures.specs.Fractions.{fraction, beyond, some_beyond, fraction_refusals, fraction_answer, plus, sum_of}
+use Rattle.captures.specs.Fractions.{total_refusals, total_number, total_answer, joined, number_told}
+use Rattle.captures.proofs.Counting.{capped-full, capped-open, heard-within}
+
+-- An answer tells the number of the first refusal that applies.
+pub told : {A : Type 0} (xs : List Test) (a : A) → number_told (answered xs a) ≡ first xs
+told xs a = by-number number_told (λ n. n) xs a refl (λ _. refl)
 
 -- ---- 25 for a fraction
 
@@ -28,36 +34,28 @@ within-is x h =
     let both = or_split (ltb limit x.judged) (ltb x.judged x.discarded) h in
     record { judged = ltb-false limit x.judged both.0; discarded = ltb-false x.judged x.discarded both.1 }
 
--- Too many judged are beyond whatever is discarded.
-pub beyond-many : (x : Fraction) → limit < x.judged → beyond x ≡ true
-unfolding beyond
-beyond-many x h = or-first (ltb limit x.judged) (ltb x.judged x.discarded) (lt-ltb limit x.judged h)
-
--- Of fewer the discarded packets decide.
-pub beyond-few : (x : Fraction) → x.judged ≤ limit → beyond x ≡ ltb x.judged x.discarded
-unfolding beyond
-beyond-few x h = ap (λ b. b || ltb x.judged x.discarded) (le-ltb limit x.judged h)
-
 -- Where no more is discarded than judged, only the judged packets count.
 pub beyond-judged : (x : Fraction) → x.discarded ≤ x.judged → beyond x ≡ ltb limit x.judged
 unfolding beyond
 beyond-judged x h = ap (λ b. ltb limit x.judged || b) (le-ltb x.judged x.discarded h) ∙ or-false (ltb limit x.judged)
 
 -- The answer of a fraction that is beyond.
-pub fraction-refused : (x : Fraction) → beyond x ≡ true → fraction_answer x ≡ FractionAnswer.Refused 25
-unfolding fraction_answer fraction_refusals fraction_by
-fraction-refused x h = ap (λ n. fraction_by n x) (first-here (record { number = 25; applies = beyond x }) [] h)
+pub fraction-refused : (x : Fraction) → beyond x ≡ true → fraction_answer x ≡ Err Refusal.Beyond
+unfolding fraction_answer fraction_refusals
+fraction-refused x h = answered-here (test Refusal.Beyond (beyond x)) [] x h
 
 -- And of one that is not.
-pub fraction-counted : (x : Fraction) → beyond x ≡ false → fraction_answer x ≡ FractionAnswer.Counted x
-unfolding fraction_answer fraction_refusals fraction_by
-fraction-counted x h = ap (λ n. fraction_by n x) (first-later (record { number = 25; applies = beyond x }) [] h ∙ first-none)
+pub fraction-counted : (x : Fraction) → beyond x ≡ false → fraction_answer x ≡ Ok x
+unfolding fraction_answer fraction_refusals
+fraction-counted x h = answered-later (test Refusal.Beyond (beyond x)) [] x h ∙ answered-none x
 
--- By whatever number, the answer tells it.
-fraction-told : (n : ℕ) (x : Fraction) → fraction_refused (fraction_by n x) ≡ n
-unfolding fraction_by
-fraction-told zero x = refl
-fraction-told (suc n) x = refl
+-- What is accepted is handed back as it is.
+pub accepted-same : (x y : Fraction) → fraction_answer x ≡ Ok y → y ≡ x
+accepted-same x y e = by (beyond x) refl
+  where
+    by : (b : Bool) → beyond x ≡ b → y ≡ x
+    by true h = absurd (cc (fraction-refused x h, e))
+    by false h = cc (fraction-counted x h, e)
 
 -- ---- 25 for a list
 
@@ -66,27 +64,24 @@ unfoldable pub amiss : List Fraction → Bool
 amiss xs = some_beyond xs || beyond (sum_of xs)
 
 -- The answer of a sum of which one is.
-pub total-refused : (xs : List Fraction) → amiss xs ≡ true → total_answer xs ≡ FractionAnswer.Refused 25
-unfolding total_answer total_number total_refusals fraction_by amiss
-total-refused xs h = ap (λ n. fraction_by n (sum_of xs)) (first-here (record { number = 25; applies = amiss xs }) [] h)
+pub total-refused : (xs : List Fraction) → amiss xs ≡ true → total_answer xs ≡ Err Refusal.Beyond
+unfolding total_answer total_refusals amiss
+total-refused xs h = answered-here (test Refusal.Beyond (amiss xs)) [] (sum_of xs) h
 
 -- None of them is: the sum.
-pub total-counted : (xs : List Fraction) → amiss xs ≡ false → total_answer xs ≡ FractionAnswer.Counted (sum_of xs)
-unfolding total_answer total_number total_refusals fraction_by amiss
-total-counted xs h = ap (λ n. fraction_by n (sum_of xs)) (first-later (record { number = 25; applies = amiss xs }) [] h ∙ first-none)
+pub total-counted : (xs : List Fraction) → amiss xs ≡ false → total_answer xs ≡ Ok (sum_of xs)
+unfolding total_answer total_refusals amiss
+total-counted xs h = answered-later (test Refusal.Beyond (amiss xs)) [] (sum_of xs) h ∙ answered-none (sum_of xs)
 
 -- Two lists that are amiss alike and have the same sum have the same answer.
 total-alike : (xs ys : List Fraction) → amiss xs ≡ amiss ys → sum_of xs ≡ sum_of ys → total_answer xs ≡ total_answer ys
-total-alike xs ys e s = by (amiss xs) refl
-  where
-    by : (b : Bool) → amiss xs ≡ b → total_answer xs ≡ total_answer ys
-    by true h = total-refused xs h ∙ sym (total-refused ys (sym e ∙ h))
-    by false h = total-counted xs h ∙ ap FractionAnswer.Counted s ∙ sym (total-counted ys (sym e ∙ h))
+unfolding total_answer total_refusals amiss
+total-alike xs ys e s = ap₂ (λ b x. answered (test Refusal.Beyond b ∷ []) x) e s
 
 -- The answer tells the number.
-pub total-told : (xs : List Fraction) → fraction_refused (total_answer xs) ≡ total_number xs
-unfolding total_answer
-total-told xs = fraction-told (total_number xs) (sum_of xs)
+pub total-told : (xs : List Fraction) → number_told (total_answer xs) ≡ total_number xs
+unfolding total_answer total_number
+total-told xs = told (total_refusals xs) (sum_of xs)
 
 -- ---- lists joined
 
@@ -218,11 +213,6 @@ total-joined xs ys = by (amiss xs) (amiss ys) refl refl
 
 -- ---- adding one by one
 
--- No fraction at all has 0 of 0.
-pub total-none : total_answer [] ≡ FractionAnswer.Counted (fraction 0 0)
-unfolding amiss some_beyond sum_of beyond
-total-none = total-counted [] refl
-
 -- A fraction by itself is a list of one.
 pub total-one : (x : Fraction) → total_answer (x ∷ []) ≡ fraction_answer x
 unfolding amiss some_beyond sum_of
@@ -235,49 +225,116 @@ total-one x = by (beyond x) refl
     by true h = total-refused (x ∷ []) (or-first (beyond x || false) _ (or-first (beyond x) false h)) ∙ sym (fraction-refused x h)
     by false h =
         total-counted (x ∷ []) (or-neither (beyond x || false) (beyond (sum_of (x ∷ []))) (or-neither (beyond x) false h refl) (ap beyond alone ∙ h))
-        ∙ ap FractionAnswer.Counted alone
+        ∙ ap Ok alone
         ∙ sym (fraction-counted x h)
 
 -- A list with a fraction that is beyond is refused whole.
-pub some-refused : (xs ys : List Fraction) (x : Fraction) → beyond x ≡ true → total_answer (xs ++ x ∷ ys) ≡ FractionAnswer.Refused 25
+pub some-refused : (xs ys : List Fraction) (x : Fraction) → beyond x ≡ true → total_answer (xs ++ x ∷ ys) ≡ Err Refusal.Beyond
 unfolding amiss some_beyond
 some-refused xs ys x h =
     total-refused (xs ++ x ∷ ys)
     (amiss-behind xs (x ∷ ys) (or-first (beyond x || some_beyond ys) _ (or-first (beyond x) (some_beyond ys) h)))
 
 -- A sum and one more fraction: the answers joined, or the two added.
-pub add-one-more : (s x : Fraction) → joined (FractionAnswer.Counted s) (fraction_answer x) ≡ total_answer (s ∷ x ∷ [])
+pub add-one-more : (s x : Fraction) → joined (Ok s) (fraction_answer x) ≡ total_answer (s ∷ x ∷ [])
 unfolding joined
 add-one-more s x = by (beyond x) refl
   where
-    by : (b : Bool) → beyond x ≡ b → joined (FractionAnswer.Counted s) (fraction_answer x) ≡ total_answer (s ∷ x ∷ [])
-    by true h = ap (joined (FractionAnswer.Counted s)) (fraction-refused x h) ∙ sym (some-refused (s ∷ []) [] x h)
-    by false h = ap (joined (FractionAnswer.Counted s)) (fraction-counted x h)
+    by : (b : Bool) → beyond x ≡ b → joined (Ok s) (fraction_answer x) ≡ total_answer (s ∷ x ∷ [])
+    by true h = ap (joined (Ok s)) (fraction-refused x h) ∙ sym (some-refused (s ∷ []) [] x h)
+    by false h = ap (joined (Ok s)) (fraction-counted x h)
 
--- Two fractions that are not beyond are added.
-pub two-added : (x y : Fraction) → beyond x ≡ false → beyond y ≡ false → total_answer (x ∷ y ∷ []) ≡ fraction_answer (plus x y)
-two-added x y hx hy = by (beyond (plus x y)) refl
-  where
-    by : (b : Bool) → beyond (plus x y) ≡ b → total_answer (x ∷ y ∷ []) ≡ fraction_answer (plus x y)
-    by true h = total-refused (x ∷ y ∷ []) (amiss-two x y hx hy ∙ h) ∙ sym (fraction-refused (plus x y) h)
-    by false h =
-        total-counted (x ∷ y ∷ []) (amiss-two x y hx hy ∙ h)
-        ∙ ap FractionAnswer.Counted (sum-two x y)
-        ∙ sym (fraction-counted (plus x y) h)
-
--- ONE TURN of a loop that adds: where s is the sum of the first i fractions, s and the next have the answer of one more.
-pub turn : (xs : List Fraction) (i : ℕ) (s d : Fraction) → i < length xs → total_answer (take i xs) ≡ FractionAnswer.Counted s
-    → total_answer (s ∷ get_or xs i d ∷ []) ≡ total_answer (take (suc i) xs)
-turn xs i s d h e =
-    sym (add-one-more s (get_or xs i d))
-    ∙ ap₂ joined (sym e) (sym (total-one (get_or xs i d)))
-    ∙ sym (ap total_answer (take-suc xs i d h) ∙ total-joined (take i xs) (get_or xs i d ∷ []))
-
--- A front that is refused refuses the whole list.
-pub front-refused : (xs : List Fraction) (i n : ℕ) → total_answer (take i xs) ≡ FractionAnswer.Refused n → total_answer xs ≡ FractionAnswer.Refused n
+-- One that is refused by itself refuses the sum.
+pub one-refused : (s x : Fraction) (r : Refusal) → fraction_answer x ≡ Err r → total_answer (s ∷ x ∷ []) ≡ Err r
 unfolding joined
-front-refused xs i n e =
-    ap total_answer (sym (take-append-drop i xs)) ∙ total-joined (take i xs) (drop i xs) ∙ ap (λ r. joined r (total_answer (drop i xs))) e
+one-refused s x r e = sym (add-one-more s x) ∙ ap (joined (Ok s)) e
+
+-- The discarded packets of two fractions that are not beyond have a sum that fits a word.
+pub discarded-fits : (x y : Fraction) → beyond x || beyond y ≡ false → x.discarded + y.discarded < 18446744073709551616
+discarded-fits x y h =
+    let both = or_split (beyond x) (beyond y) h in
+    omega (arith, within-is x both.0, within-is y both.1)
+
+-- So have those judged.
+pub judged-fits : (x y : Fraction) → beyond x || beyond y ≡ false → x.judged + y.judged < 18446744073709551616
+judged-fits x y h =
+    let both = or_split (beyond x) (beyond y) h in
+    omega (arith, within-is x both.0, within-is y both.1)
+
+-- Two fractions are tried before their sum.
+pub two-tried : (x y : Fraction)
+    → answered (test Refusal.Beyond (beyond x || beyond y) ∷ fraction_refusals (plus x y)) (plus x y) ≡ total_answer (x ∷ y ∷ [])
+unfolding fraction_refusals total_answer total_refusals some_beyond amiss
+two-tried x y = by (beyond x || beyond y) refl
+  where
+    either : Test
+    either = test Refusal.Beyond (beyond x || beyond y)
+
+    by : (b : Bool) → beyond x || beyond y ≡ b → answered (either ∷ fraction_refusals (plus x y)) (plus x y) ≡ total_answer (x ∷ y ∷ [])
+    by true h =
+        answered-here either (fraction_refusals (plus x y)) (plus x y) h
+        ∙ sym (total-refused (x ∷ y ∷ []) (or-first (some_beyond (x ∷ y ∷ [])) _ (ap (λ b. beyond x || b) (or-false (beyond y)) ∙ h)))
+    by false h =
+        let both = or_split (beyond x) (beyond y) h in
+        answered-later either (fraction_refusals (plus x y)) (plus x y) h
+        ∙ ap₂ (λ b s. answered (test Refusal.Beyond b ∷ []) s) (sym (amiss-two x y both.0 both.1)) (sym (sum-two x y))
+
+-- What a sum counts is not beyond.
+total-within : (xs : List Fraction) (s : Fraction) → total_answer xs ≡ Ok s → beyond s ≡ false
+unfolding amiss
+total-within xs s e = by (amiss xs) refl
+  where
+    by : (b : Bool) → amiss xs ≡ b → beyond s ≡ false
+    by true h = absurd (cc (total-refused xs h, e))
+    by false h = ap beyond (cc (total-counted xs h, e)) ∙ (or_split (some_beyond xs) (beyond (sum_of xs)) h).1
+
+-- ---- a loop that adds
+
+-- THE SUM SO FAR is not beyond, and in front of the fractions that are left it has the answer of them all.
+pub record SoFar (all left : List Fraction) (s : Fraction) : Type 0 where
+  pub within : beyond s ≡ false
+  pub answer : total_answer (s ∷ left) ≡ total_answer all
+
+-- It begins with 0 of 0.
+pub so-far-none : (all : List Fraction) (s : Fraction) → (s.discarded ≡ 0) × (s.judged ≡ 0) → SoFar all all s
+unfolding amiss some_beyond sum_of beyond
+so-far-none all s (d, j) =
+    rw (ap₂ fraction d j)
+    (record { within = refl; answer = total-alike (fraction 0 0 ∷ all) all (ap (λ x. some_beyond all || beyond x) alone) alone })
+  where
+    alone : plus (fraction 0 0) (sum_of all) ≡ sum_of all
+    alone = ap₂ fraction (omega arith) (omega arith)
+
+-- The next fraction x is added,
+pub so-far-next : (all left behind : List Fraction) (s x t : Fraction) (w : Result Fraction Refusal) → w ≡ Ok t
+    → w ≡ total_answer (s ∷ x ∷ []) → left ≡ x ∷ behind → SoFar all left s → SoFar all behind t
+so-far-next all left behind s x t w ok told e so = record { within = within; answer = answer }
+  where
+    within : beyond t ≡ false
+    within = total-within (s ∷ x ∷ []) t (sym told ∙ ok)
+
+    answer : total_answer (t ∷ behind) ≡ total_answer all
+    answer =
+        total-joined (t ∷ []) behind
+        ∙ ap (λ r. joined r (total_answer behind)) (total-one t ∙ fraction-counted t within ∙ sym ok ∙ told)
+        ∙ sym (total-joined (s ∷ x ∷ []) behind)
+        ∙ ap (λ xs. total_answer (s ∷ xs)) (sym e)
+        ∙ so.answer
+
+-- or makes the sum refused, and what is handed on is the answer of them all.
+pub so-far-refused : (all left behind : List Fraction) (s x : Fraction) (w v : Result Fraction Refusal) (r : Refusal) → w ≡ Err r → v ≡ Err r
+    → w ≡ total_answer (s ∷ x ∷ []) → left ≡ x ∷ behind → SoFar all left s → v ≡ total_answer all
+unfolding joined
+so-far-refused all left behind s x w v r err on told e so =
+    on
+    ∙ ap (λ b. joined b (total_answer behind)) (sym err ∙ told)
+    ∙ sym (total-joined (s ∷ x ∷ []) behind)
+    ∙ ap (λ xs. total_answer (s ∷ xs)) (sym e)
+    ∙ so.answer
+
+-- At the end it is the answer.
+pub so-far-all : (all left : List Fraction) (s : Fraction) → left ≡ [] → SoFar all left s → Ok s ≡ total_answer all
+so-far-all all left s e so = sym (fraction-counted s so.within) ∙ sym (total-one s) ∙ ap (λ xs. total_answer (s ∷ xs)) (sym e) ∙ so.answer
 
 -- ---- a log that was handed on
 
@@ -306,4 +363,15 @@ capped-answer l h = by (is_full l) refl
 pub capped-added : (s : Fraction) (l : Log) → l.discarded ≤ l.judged
     → total_answer (s ∷ counted (capped l) ∷ []) ≡ total_answer (s ∷ counted l ∷ [])
 capped-added s l h =
-    sym (add-one-more s (counted (capped l))) ∙ ap (joined (FractionAnswer.Counted s)) (capped-answer l h) ∙ add-one-more s (counted l)
+    sym (add-one-more s (counted (capped l))) ∙ ap (joined (Ok s)) (capped-answer l h) ∙ add-one-more s (counted l)
+
+-- So a log that is heard, handed on and counted is added as its fraction.
+pub log-added : (s : Fraction) (bs : List ℕ) {l : Log} {x : Fraction} {w : Result Fraction Refusal} → l ≡ capped (heard_all silent bs)
+    → x ≡ counted l → w ≡ total_answer (s ∷ x ∷ []) → w ≡ total_answer (s ∷ fraction_of bs ∷ [])
+log-added s bs e f g =
+    g ∙ ap (λ y. total_answer (s ∷ y ∷ [])) (f ∙ ap counted e) ∙ capped-added s (heard_all silent bs) (heard-within silent bs zero-le)
+
+-- ---- for the check's tactics
+
+-- Two fractions added.
+pub ruleset adding = (discarded-fits, judged-fits)

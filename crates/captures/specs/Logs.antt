@@ -1,6 +1,6 @@
 -- A log: which packets are discarded, how many are judged (RULES 14.1 to 14.5), and logs one behind the other (14.11).
 -- Rests on the integers of the library; i8 in code is its ℤ.
-use Rattle.std.specs.Prelude.{ℕ, suc, ◌+◌, ◌-◌, ◌%◌, Bool, true, false, ◌&&◌, ◌||◌, List, [], ◌∷◌, take, drop, ℤ, pos, ◌-ℤ◌, neg_ℤ, int_le, int_lt, nat_lt}
+use Rattle.std.specs.Prelude.{ℕ, suc, ◌+◌, ◌-◌, ◌%◌, Bool, true, false, ◌&&◌, ◌||◌, List, [], ◌∷◌, take, drop, ℤ, pos, ◌-ℤ◌, neg_ℤ, int_le, int_lt, nat_lt, Some, None}
 use Rattle.captures.specs.declared.Log.{Log}
 use Rattle.captures.specs.declared.Fraction.{Fraction}
 
@@ -22,21 +22,21 @@ discards last new = int_le (signed (difference last new)) (pos 0) && int_lt (neg
 
 -- A judged packet that is discarded: the last accepted number stays.
 abbrev pub after_discarded : Log → Log
-after_discarded l = record { heard = true; last = l.last; discarded = suc l.discarded; judged = suc l.judged }
+after_discarded l = record l { discarded = suc l.discarded; judged = suc l.judged }
 
 -- A judged packet that is accepted: its number becomes the last.
 abbrev pub after_accepted : Log → ℕ → Log
-after_accepted l new = record { heard = true; last = new; discarded = l.discarded; judged = suc l.judged }
+after_accepted l new = record l { last = Some new; judged = suc l.judged }
 
 -- The first packet: accepted and not judged.
 abbrev pub after_first : Log → ℕ → Log
-after_first l new = record { heard = true; last = new; discarded = l.discarded; judged = l.judged }
+after_first l new = record l { last = Some new }
 
 -- A log after one more packet.
 unfoldable pub hear : Log → ℕ → Log
 hear l new =
-    elim l.heard as (λ b. Log)
-    [ true ↦ elim (discards l.last new) as (λ b. Log) [ true ↦ after_discarded l | false ↦ after_accepted l new ] | false ↦ after_first l new ]
+    elim l.last as (λ o. Log)
+    [ None ↦ after_first l new | Some last ↦ elim (discards last new) as (λ b. Log) [ true ↦ after_discarded l | false ↦ after_accepted l new ] ]
 
 -- After the packets of a list.
 unfoldable pub heard_all : Log → List ℕ → Log
@@ -45,11 +45,11 @@ heard_all l (new ∷ bs) = heard_all (hear l new) bs
 
 -- Before the first packet.
 abbrev pub silent : Log
-silent = record { heard = false; last = 0; discarded = 0; judged = 0 }
+silent = record { last = None; discarded = 0; judged = 0 }
 
 -- The packets heard so far: those judged and the first.
 abbrev pub packets : Log → ℕ
-packets l = elim l.heard as (λ b. ℕ) [ true ↦ suc l.judged | false ↦ l.judged ]
+packets l = elim l.last as (λ o. ℕ) [ None ↦ l.judged | Some last ↦ suc l.judged ]
 
 -- The fraction counted so far.
 abbrev pub counted : Log → Fraction
@@ -67,7 +67,7 @@ is_full l = nat_lt limit l.judged || nat_lt limit l.discarded
 
 -- A log that is too long, however it goes on.
 abbrev pub full : Log
-full = record { heard = true; last = 0; discarded = 0; judged = limit + 1 }
+full = record { last = Some 0; discarded = 0; judged = limit + 1 }
 
 -- A log as it is handed on from piece to piece.
 unfoldable pub capped : Log → Log

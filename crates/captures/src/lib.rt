@@ -9,57 +9,17 @@ pub mod logs;
 /// The most packets judged in a fraction: any two numbers up to it have a product below 2^64.
 pub const LIMIT: u64 = 4000000000;
 
-/// A log while it is heard: whether a packet came, the last accepted number, and the packets discarded and judged so far.
-#[derive(Clone, Copy)]
+/// A log while it is heard: the last accepted number, if a packet came, and the packets discarded and judged so far.
+#[derive(Clone, Copy, PartialEq, Eq, Debug)]
 pub struct Log {
-    pub heard: bool,
-    pub last: u8,
+    pub last: Option<u8>,
     pub discarded: u64,
     pub judged: u64,
 }
 
-/// A fraction: discarded of judged packets.
-#[derive(Clone, Copy)]
+/// A fraction: discarded of judged packets. The default is 0 of 0, the sum of none.
+#[derive(Clone, Copy, Default, PartialEq, Eq, Debug)]
 pub struct Fraction {
     pub discarded: u64,
     pub judged: u64,
 }
-
-/// The answer of a log, of several, and of a sum of fractions.
-#[derive(Clone, Copy)]
-pub enum FractionAnswer {
-    Counted(Fraction),
-    Refused(u8),
-}
-
-/// The answer of making a weight of a fraction.
-#[derive(Clone, Copy)]
-pub enum WeightAnswer {
-    Weight(u32),
-    Refused(u8),
-}
-
-/// The answer of comparing a fraction with another.
-#[derive(Clone, Copy)]
-pub enum OrderAnswer {
-    Less,
-    Equal,
-    Greater,
-    Refused(u8),
-}
-
-/// Before the first packet of a log.
-pub const SILENT: Log = Log {
-    heard: false,
-    last: 0,
-    discarded: 0,
-    judged: 0,
-};
-
-/// A log that is too long, however it goes on.
-pub const FULL: Log = Log {
-    heard: true,
-    last: 0,
-    discarded: 0,
-    judged: 4000000001,
-};

@@ -1,144 +1,121 @@
 //! Logs: the packets that a node heard, judged one by one, in one piece or in several, of one log or of many.
 //! Rests on the definitions of specs/Logs.antt and the promises of specs/Promises.antt.
-ghost use Rattle.std.specs.Prelude.{◌≡◌, ◌+◌, ◌≤◌, min, false};
-ghost use Rattle.captures.specs.Logs.{signed, discards, hear, heard_all, counted, is_full, capped, logs_in};
+ghost use Rattle.std.specs.Prelude.{◌≡◌, false};
+ghost use Rattle.captures.specs.Logs.{discards, hear, heard_all, counted, is_full, capped, logs_in};
 ghost use Rattle.captures.specs.Promises.{LogCounted, LogsCounted};
 
-use super::fractions::{accept, add};
-use super::{FULL, Fraction, FractionAnswer, LIMIT, Log, SILENT};
-
-/// Eight bits read as signed.
-fn signed(d: u8) -> i8
-    ensures { result ≡ signed d }
-{
-    if d < 128 {
-        return d as i8;
-    }
-    let back = 255 - d;
-    -1 - (back as i8)
-}
+use super::{Fraction, LIMIT, Log};
+use rules::Refusal;
 
 /// The packet is discarded.
+#[tactic(auto, using(crate::proofs::Bits8::discards_bits))]
 fn is_discarded(last: u8, new: u8) -> bool
     ensures { result ≡ discards last new }
 {
-    let d = signed(std::num::wrapping_sub_u8(new, last));
-    d <= 0 && -20 < d
+    let ahead = new.wrapping_sub(last).cast_signed();
+    ahead <= 0 && -20 < ahead
 }
 
-/// A count is above the limit.
-pub fn is_full(log: Log) -> bool
-    ensures { result ≡ is_full log }
-{
-    if LIMIT < log.judged {
-        return true;
-    }
-    LIMIT < log.discarded
-}
+impl Log {
+    /// Before the first packet of a log.
+    pub const SILENT: Log = Log {
+        last: None,
+        discarded: 0,
+        judged: 0,
+    };
 
-/// A log after one more packet.
-fn hear(log: Log, new: u8) -> Log
-    requires { is_full log ≡ false }
-    ensures { result ≡ hear log new }
-{
-    let last = log.last;
-    let discarded = log.discarded;
-    let judged = log.judged;
-    if !log.heard {
-        return Log {
-            heard: true,
-            last: new,
-            discarded,
-            judged,
-        };
-    }
-    if is_discarded(last, new) {
-        return Log {
-            heard: true,
-            last,
-            discarded: discarded + 1,
-            judged: judged + 1,
-        };
-    }
-    Log {
-        heard: true,
-        last: new,
-        discarded,
-        judged: judged + 1,
-    }
-}
+    /// A log that is too long, however it goes on. A count above the limit says so: the definitions cap a log so, and a state of its own
+    /// would be matched in each call to the same.
+    pub const FULL: Log = Log {
+        last: Some(0),
+        discarded: 0,
+        judged: LIMIT + 1,
+    };
 
-/// A log after one more piece of it, and `FULL` as soon as a count is above the limit.
-pub fn hear_all(log: Log, piece: &[u8]) -> Log
-    ensures { result ≡ capped (heard_all log piece.now) }
-{
-    let mut so_far = log;
-    let mut i: usize = 0;
-    while i < piece.len() {
-        if is_full(so_far) {
-            return FULL;
+    /// A count is above the limit.
+    #[tactic(auto, unfolding(crate::specs::Logs::is_full))]
+    pub fn is_full(self) -> bool
+        ensures { result ≡ is_full self }
+    {
+        LIMIT < self.judged || LIMIT < self.discarded
+    }
+
+    /// The log after one more packet.
+    #[tactic(auto, using(crate::proofs::Counting::not_full), unfolding(crate::specs::Logs::hear))]
+    fn hear(self, new: u8) -> Log
+        requires { is_full self ≡ false }
+        ensures { result ≡ hear self new }
+    {
+        match self.last {
+            None => Log {
+                last: Some(new),
+                ..self
+            },
+            Some(last) if is_discarded(last, new) => Log {
+                discarded: self.discarded + 1,
+                judged: self.judged + 1,
+                ..self
+            },
+            Some(_) => Log {
+                last: Some(new),
+                judged: self.judged + 1,
+                ..self
+            },
         }
-        so_far = hear(so_far, piece[i]);
-        i += 1;
     }
-    if is_full(so_far) {
-        return FULL;
-    }
-    so_far
-}
 
-/// The fraction counted so far.
-pub fn counted(log: Log) -> Fraction
-    ensures { result ≡ counted log }
-{
-    Fraction {
-        discarded: log.discarded,
-        judged: log.judged,
+    /// The log as it is handed on from piece to piece: `FULL` if it is too long.
+    #[tactic(auto, unfolding(crate::specs::Logs::capped))]
+    fn capped(self) -> Log
+        ensures { result ≡ capped self }
+    {
+        if self.is_full() { Log::FULL } else { self }
+    }
+
+    /// The log after one more piece of it, and `FULL` as soon as a count is above the limit.
+    #[tactic(auto, using(crate::proofs::Counting::hearing))]
+    pub fn hear_all(self, piece: &[u8]) -> Log
+        ensures { result ≡ capped (heard_all self piece.now) }
+    {
+        let mut so_far = self;
+        for &new in piece {
+            if so_far.is_full() {
+                return Log::FULL;
+            }
+            so_far = so_far.hear(new);
+        }
+        so_far.capped()
+    }
+
+    /// The fraction counted so far. A method and no `From`: the counts of a log that goes on are a fraction only where they are asked for.
+    pub fn counted(self) -> Fraction
+        ensures { result ≡ counted self }
+    {
+        Fraction {
+            discarded: self.discarded,
+            judged: self.judged,
+        }
     }
 }
 
 /// The fraction of one log.
-pub fn log(bytes: &[u8]) -> FractionAnswer
+pub fn log(bytes: &[u8]) -> Result<Fraction, Refusal>
     ensures promise { LogCounted bytes.now result }
 {
-    accept(counted(hear_all(SILENT, bytes)))
+    Log::SILENT.hear_all(bytes).counted().accept()
 }
 
-/// Where a log of n bytes from `at` on ends, in `most` bytes.
-fn end_of(at: usize, n: u64, most: usize) -> usize
-    requires { at ≤ most }
-    ensures { result ≡ min (at + n) most }
-{
-    let left = most - at;
-    if n < left as u64 {
-        return at + n as usize;
-    }
-    most
-}
-
+// Summed as in `total`: one sum over any iterator would need an iterator of logs for this one call. In `cue_weight` a file may fail between two logs.
 /// The fraction of several logs, up to the first that is refused or makes the sum so.
-pub fn logs(bytes: &[u8], lengths: &[u64]) -> FractionAnswer
+pub fn logs(bytes: &[u8], lengths: &[u64]) -> Result<Fraction, Refusal>
     ensures promise { LogsCounted (logs_in lengths.now bytes.now) result }
 {
-    let mut sum = Fraction {
-        discarded: 0,
-        judged: 0,
-    };
-    let mut at: usize = 0;
-    let mut i: usize = 0;
-    while i < lengths.len() {
-        let end = end_of(at, lengths[i], bytes.len());
-        let heard = hear_all(SILENT, &bytes[at..end]);
-        match add(sum, counted(heard)) {
-            FractionAnswer::Counted(s) => {
-                sum = s;
-            }
-            FractionAnswer::Refused(k) => {
-                return FractionAnswer::Refused(k);
-            }
-        }
-        at = end;
-        i += 1;
+    let mut sum = Fraction::default();
+    let mut rest = bytes;
+    for &length in lengths {
+        let (front, behind) = rest.split_at(rest.len().min(length as usize));
+        sum = sum.add(Log::SILENT.hear_all(front).counted())?;
+        rest = behind;
     }
-    FractionAnswer::Counted(sum)
+    Ok(sum)
 }

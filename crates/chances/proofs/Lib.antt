@@ -1,4 +1,5 @@
 -- Laws on plain lists and numbers that the functions' proofs rest on.
 -- Those marked pub are for the proofs of callers too.
-pub mod Lowest
-pub mod Weights
+pub mod First
+pub mod Light
+pub mod Walk

@@ -1,3 +1,3 @@
--- How the code says a direction of rounding.
+-- Which bits of a word are set.
 -- Rests on the definitions of `rules`.
-pub mod Directions
+pub mod Bits

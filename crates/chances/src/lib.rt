@@ -2,5 +2,6 @@
 //! Each function returns what the definition of the crate `rules` that its contract names says.
 #![tactic(auto)]
 
-pub mod chance;
+pub mod bits;
 pub mod rounding;
+pub mod weights;

@@ -1,42 +1,80 @@
-//! Products and means of numbers up to a billion, divided by a billion and rounded down or up.
-//! Rests on the definitions of `rules`, Rounding, Leaf and Tree. `up` is the direction: true rounds up.
-ghost use Rattle.std.specs.Prelude.{◌≡◌, ◌+◌, ◌*◌, ◌≤◌};
+//! Chances in billionths, and their products and means, which are divided by a billion and rounded down or up.
+//! Rests on the definitions of `rules`, Rounding, Leaf and Tree.
+ghost use Rattle.std.specs.Prelude.{◌≡◌, ◌+◌, ◌-◌, ◌*◌, ◌≤◌};
 ghost use Rattle.rules.specs.Rounding;
 ghost use Rattle.rules.specs.Leaf;
 ghost use Rattle.rules.specs.Tree;
 ghost use Rattle.rules.specs.Rounding.{S};
-ghost use Rattle.chances.specs.Directions.{dir_of};
 
-use rules::S;
+use rules::{Direction, S};
+use std::marker::Model;
+
+/// A chance in billionths: never more than a billion of them. The field is public: records keep the number alone, and whoever knows its bound makes the chance.
+#[derive(Clone, Copy, PartialEq, Eq, PartialOrd, Ord, Debug)]
+pub struct Chance {
+    pub billionths: u64,
+}
+
+impl Model for Chance {
+    ghost use Rattle.std.specs.Prelude.{ℕ, ◌≤◌};
+    ghost use Rattle.rules.specs.Rounding.{S};
+
+    ghost Value = { ℕ };
+
+    ghost view = { λ c. c.billionths };
+
+    ghost invariant = { λ c. c.billionths ≤ S };
+
+    ghost inverse = { λ n. record { billionths = n } };
+}
 
 /// x / S, rounded.
-fn over(up: bool, x: u64) -> u64
+fn over(direction: Direction, x: u64) -> Chance
     requires { x ≤ S * S }
-    ensures { (result ≡ Rounding.over (dir_of up) x) × (result ≤ S) }
+    ensures { result ≡ Rounding.over direction x }
 {
-    if up { (x + (S - 1)) / S } else { x / S }
+    let billionths = match direction {
+        Direction::Down => x / S,
+        Direction::Up => (x + (S - 1)) / S,
+    };
+    Chance { billionths }
 }
 
-/// a * b / S, rounded.
-pub fn times(up: bool, a: u64, b: u64) -> u64
-    requires { (a ≤ S) × (b ≤ S) }
-    ensures { (result ≡ Rounding.over (dir_of up) (a * b)) × (result ≤ S) }
-{
-    over(up, a * b)
-}
+impl Chance {
+    /// What cannot happen.
+    pub const NONE: Chance = Chance { billionths: 0 };
 
-/// The chance of either of two independent events. What is left of S is rounded the other way.
-pub fn either(up: bool, a: u64, b: u64) -> u64
-    requires { (a ≤ S) × (b ≤ S) }
-    ensures { (result ≡ Leaf.either (dir_of up) a b) × (result ≤ S) }
-{
-    S - times(!up, S - a, S - b)
-}
+    /// What surely happens.
+    pub const CERTAIN: Chance = Chance { billionths: S };
 
-/// The mean of x and y with weights w and S - w, rounded once.
-pub fn mean(up: bool, w: u64, x: u64, y: u64) -> u64
-    requires { (w ≤ S) × (x ≤ S) × (y ≤ S) }
-    ensures { (result ≡ Tree.mean (dir_of up) w x y) × (result ≤ S) }
-{
-    over(up, w * x + (S - w) * y)
+    /// The chance that it does not happen: what is left of S.
+    pub fn rest(self) -> Chance
+        ensures { result ≡ S - self }
+    {
+        Chance {
+            billionths: S - self.billionths,
+        }
+    }
+
+    /// The chance of both of two independent events.
+    pub fn times(self, other: Chance, direction: Direction) -> Chance
+        ensures { result ≡ Rounding.over direction (self * other) }
+    {
+        over(direction, self.billionths * other.billionths)
+    }
+
+    /// The chance of either of two independent events. What is left of S is rounded the other way.
+    pub fn either(self, other: Chance, direction: Direction) -> Chance
+        ensures { result ≡ Leaf.either direction self other }
+    {
+        self.rest().times(other.rest(), direction.opposite()).rest()
+    }
+
+    /// The mean of x and y with this weight and the rest of S, rounded once.
+    pub fn mean(self, x: Chance, y: Chance, direction: Direction) -> Chance
+        ensures { result ≡ Tree.mean direction self x y }
+    {
+        let sum = self.billionths * x.billionths + self.rest().billionths * y.billionths;
+        over(direction, sum)
+    }
 }

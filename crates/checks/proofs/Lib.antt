@@ -1,4 +1,6 @@
 -- Laws on plain lists and numbers that the functions' proofs rest on.
--- Numbers.antt: which refusal is the first. Walk.antt: a search over one list, or over two in step.
-mod Numbers
-mod Walk
+-- Above.antt: some number of a list is above a limit. Rising.antt: each number is above the one before it.
+-- Rows.antt: a test of all rows of two lists.
+pub mod Above
+pub mod Rising
+pub mod Rows

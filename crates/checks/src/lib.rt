@@ -2,6 +2,7 @@
 //! Each function returns what the definition of the crate `rules` that its contract names says, for slices of any length.
 #![tactic(auto)]
 
+pub mod accepted;
 pub mod limits;
 pub mod lists;
 pub mod table;

@@ -1,11 +1,12 @@
 //! Tests on a run's limits. Rests on the definitions of `rules`, Refusals.
 //! The limits are words, judged as they are handed over.
 ghost use Rattle.std.specs.Prelude.{◌≡◌};
-ghost use Rattle.rules.specs.Refusals.{first, limit_refusals, allowance_above, budget_above};
+ghost use Rattle.rules.specs.Refusals.{answered, limit_refusals, allowance_above, budget_above};
 
-use rules::{Limits, S};
+use rules::{Limits, Refusal, S};
 
 /// 14: the allowance is above S.
+#[tactic(auto, unfolding(rules::specs::Refusals::allowance_above))]
 fn allowance_above(m: Limits) -> bool
     ensures { result ≡ allowance_above m }
 {
@@ -13,21 +14,18 @@ fn allowance_above(m: Limits) -> bool
 }
 
 /// 15: the budget is above 255.
+#[tactic(auto, unfolding(rules::specs::Refusals::budget_above))]
 fn budget_above(m: Limits) -> bool
     ensures { result ≡ budget_above m }
 {
     255 < m.budget
 }
 
-/// The number of the limits: 14, 15 or 0.
-pub fn limit_number(m: Limits) -> u8
-    ensures { result ≡ first (limit_refusals m) }
+/// The limits are refused by 14 or 15, or let pass.
+#[tactic(auto, unfolding(rules::specs::Refusals::answered, rules::specs::Refusals::limit_refusals))]
+pub fn check_limits(m: Limits) -> Result<(), Refusal>
+    ensures { result ≡ answered (limit_refusals m) tt }
 {
-    if allowance_above(m) {
-        return 14;
-    }
-    if budget_above(m) {
-        return 15;
-    }
-    0
+    Refusal::AllowanceAbove.test(allowance_above(m))?;
+    Refusal::BudgetAbove.test(budget_above(m))
 }

@@ -1,25 +1,39 @@
-//! The number of a table handed over directly. Rests on the definitions of `rules`, Table and Refusals.
-//! Of a table with number 0 `rules`, Accepted, says what holds: few faults, light weights, few ways, words in pairs.
+//! The tests on a table handed over directly, 9 to 13. Rests on the definitions of `rules`, Table and Refusals.
+//! A table that passes them is one value from then on (`accepted`): few faults, light weights, few ways, words in pairs.
 ghost use Rattle.std.specs.Prelude.{◌≡◌};
-ghost use Rattle.rules.specs.Refusals.{table_number};
+ghost use Rattle.rules.specs.Refusals.{answered, table_refusals};
 ghost use Rattle.rules.specs.Table.{table};
+ghost use Rattle.checks.specs.Tables.{Accepting};
 
+use super::accepted::Table;
 use super::lists::{faults_outside, overweight};
-use super::ways::{way_number, words_amiss};
+use super::ways::{check_ways, words_amiss};
+use rules::Refusal;
 
-/// 9 to 13, or 0, each test over the whole input before the next. The ways are judged only once 9 has let at most 64 faults through,
-/// and 11 at most 128 ways.
-pub fn table_number(weights: &[u32], present: &[u64], absent: &[u64]) -> u8
-    ensures { result ≡ table_number (table weights.now present.now absent.now) }
+/// 9 to 13, each test over the whole input before the next.
+fn check_table(weights: &[u32], present: &[u64], absent: &[u64]) -> Result<(), Refusal>
+    ensures { result ≡ answered (table_refusals (table weights.now present.now absent.now)) tt }
 {
-    if faults_outside(weights.len()) {
-        return 9;
+    Refusal::FaultsOutside.test(faults_outside(weights.len()))?;
+    Refusal::Overweight.test(overweight(weights))?;
+    Refusal::WordsAmiss.test(words_amiss(present, absent))?;
+    check_ways(weights.len(), present, absent)
+}
+
+impl<'a> Table<'a> {
+    /// The table that the lists give, or why it is refused.
+    pub fn accept(
+        weights: &'a [u32],
+        present: &'a [u64],
+        absent: &'a [u64],
+    ) -> Result<Table<'a>, Refusal>
+        ensures { Accepting weights.now present.now absent.now result }
+    {
+        check_table(weights, present, absent)?;
+        Ok(Table {
+            weights,
+            present,
+            absent,
+        })
     }
-    if overweight(weights) {
-        return 10;
-    }
-    if words_amiss(present, absent) {
-        return 11;
-    }
-    way_number(weights.len(), present, absent)
 }

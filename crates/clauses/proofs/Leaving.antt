@@ -1,135 +1,46 @@
 -- What stays of a leaf's ways with one fault fixed, as the code finds it: the ways that lost the fault stay, and each leaves out what it subsumes of the
--- others. Rests on Filter.antt and Loops.antt, on `rules`, Minimal, and on `rules`, FixedLean, for why so few tests are enough.
+-- others. Rests on Narrowed.antt and Parts.antt, on `rules`, Minimal, and on `rules`, FixedLean, for why so few tests are enough.
 use mathlib.Core.Path.{◌≡◌, refl, sym, ap, ap₂, ◌∙◌}
-use mathlib.Core.Bool.{Bool, true, false, not, ◌&&◌, ◌||◌, true≢false, beq}
+use mathlib.Core.Bool.{Bool, true, false, not, ◌&&◌, ◌||◌, true≢false}
 use mathlib.Core.List.Memᴰ
-use mathlib.Core.List.{List, [], ◌∷◌}
+use mathlib.Core.List.{List, [], ◌∷◌, map}
 use Prim.Native.Nat.{ℕ}
 use lib.Bits.{bit_or}
-use lib.Dec.{eqb}
-use borrow.Author.Tests.{eqb-true}
-use Rattle.rules.specs.Table.{bit}
+use Rattle.rules.specs.Members.{In}
 use Rattle.rules.specs.declared.Way.{Way}
-use Rattle.rules.specs.Leaf.{any, contradicted, dropped, remaining, sift, subsumes, redundant, minimal, Lean}
+use Rattle.rules.specs.Leaf.{any, has_number, contradicted, dropped, remaining, sift, subsumes, redundant, minimal, Lean}
 use Rattle.rules.specs.Group.{touches, part}
-use Rattle.rules.proofs.Booleans.{and_left, or-first, or-second, is_false}
-use Rattle.rules.proofs.Bits.{bit-or}
-use Rattle.rules.proofs.Members.{In}
-use Rattle.rules.proofs.Minimal.{subsumes-inside, inside-subsumes, subsumes-through}
+use Rattle.rules.proofs.Booleans.{or_cases, is_false}
+use Rattle.rules.proofs.Minimal.{subsumes-through}
 use Rattle.rules.proofs.FixedLean.{redundant-fixed, unnamed_free}
-use Rattle.records.specs.Records.{in_words}
-use Rattle.clauses.specs.declared.ByFault.{ByFault}
+use Rattle.clauses.specs.declared.staying.ByFault.{ByFault}
 use Rattle.clauses.specs.declared.Clauses.{Clauses}
-use Rattle.clauses.specs.declared.Gone.{Gone}
-use Rattle.clauses.specs.declared.Taken.{Taken}
-use Rattle.clauses.specs.Leaves.{OneFault, gone_word, fix_more, row, way_at, ways_of, none_left, InTable, Takes, Keeps, Covers, Divided}
-use Rattle.clauses.proofs.Pairs.{in-none, both_numbers}
-use Rattle.clauses.proofs.Selected.{passing}
-use Rattle.clauses.proofs.Filter.{kept_ways, fixed_more}
-use Rattle.clauses.proofs.Loops.{forward, ended}
+use Rattle.clauses.specs.declared.lost.Gone.{Gone}
+use Rattle.clauses.specs.declared.sets.Numbers.{Numbers}
+use Rattle.clauses.specs.Numbers.{is_in}
+use Rattle.clauses.specs.Leaves.{OneFault, gone_word, fix_more, ways_of, Becomes, Narrows, Divided}
+use Rattle.clauses.proofs.Leaf.{rising, numbers, number_in}
+use Rattle.clauses.proofs.Parts.{part-in, sift-same, sift-twice, part-number, remaining-is, touched-is, untouched-is, dropped-number}
+use Rattle.clauses.proofs.Narrowed.{narrowed, thinned, fixed_more}
 
--- Where the same faults are gone, the ways are the same.
-same_way : (ps qs : List ℕ) (a b : Clauses) → a.gone ≡ b.gone → (i : ℕ) → way_at ps qs a i ≡ way_at ps qs b i
-same_way ps qs a b e i = ap (λ (g : Gone). dropped (gone_word g) (row ps qs i)) e
+-- ---- one fault fixed in a lean list
 
--- ---- a way that each of the others subsumes
+-- The ways that pass a test, each changed by h.
+abbrev passing : (Way → Bool) → (Way → Way) → List Way → List Way
+passing f h [] = []
+passing f h (v ∷ vs) = elim (f v) as (λ b. List Way) [ true ↦ h v ∷ passing f h vs | false ↦ passing f h vs ]
 
--- What two ways name, together.
-abbrev joined : Way → Way → Way
-joined r v = record { number = r.number; present = bit_or r.present v.present; absent = bit_or r.absent v.absent }
-
--- What subsumes the first subsumes both together.
-joined-first : (u r v : Way) → subsumes u r ≡ true → subsumes u (joined r v) ≡ true
-joined-first u r v h =
-    let k = subsumes-inside u r h in
-    inside-subsumes u (joined r v)
-    (λ i b. bit-or i r.present v.present ∙ or-first _ _ (k.0 i b), λ i b. bit-or i r.absent v.absent ∙ or-first _ _ (k.1 i b))
-
--- So does the second.
-joined-second : (r v : Way) → subsumes v (joined r v) ≡ true
-joined-second r v =
-    inside-subsumes v (joined r v) (
-      λ i b. bit-or i r.present v.present ∙ or-second (bit i r.present) _ b,
-      λ i b. bit-or i r.absent v.absent ∙ or-second (bit i r.absent) _ b,
-    )
-
-module _ (ps qs : List ℕ) (c : Clauses) where
-  -- In the midst of the loop: each way is still left, or subsumes what was joined so far.
-  pub record Covering (r : Way) (left : Clauses) : Type 0 where
-    pub covers : (i : ℕ) → in_words c.waysa c.waysb i ≡ true → in_words left.waysa left.waysb i || subsumes (way_at ps qs c i) r ≡ true
-    pub left-gone : left.gone ≡ c.gone
-    pub within : InTable ps qs left
-
-  -- At first all are left.
-  pub none_joined : (r : Way) → InTable ps qs c → Covering r c
-  none_joined r w = record { covers = λ i h. or-first _ _ h; left-gone = refl; within = w }
-
-  module _ (r : Way) (left : Clauses) (s : Covering r left) where
-    -- One turn: the first way left is joined.
-    pub one-joined : (t : Taken) → Takes ps qs left t → Covering (joined r t.way) t.others
-    one-joined t h =
-        record {
-          covers = λ i k. by i (eqb i t.way.number) refl (in_words t.others.waysa t.others.waysb i) (subsumes (way_at ps qs c i) r) refl
-              (ap (λ (b : Bool). b || subsumes (way_at ps qs c i) r) (sym (h.numbers i)) ∙ s.covers i k);
-          left-gone = h.same_gone ∙ s.left-gone;
-          within = h.within;
-        }
-      where
-        it : way_at ps qs c t.way.number ≡ t.way
-        it = sym (h.way_is ∙ same_way ps qs left c s.left-gone t.way.number)
-
-        by : (i : ℕ) (e : Bool) → eqb i t.way.number ≡ e → (o b : Bool) → subsumes (way_at ps qs c i) r ≡ b → (e || o) || b ≡ true
-            → o || subsumes (way_at ps qs c i) (joined r t.way) ≡ true
-        by i e z true b q k = refl
-        by i true z false b q k = ap (λ (w : Way). subsumes w (joined r t.way)) (ap (way_at ps qs c) (eqb-true i t.way.number z) ∙ it)
-            ∙ joined-second r t.way
-        by i false z false true q k = joined-first (way_at ps qs c i) r t.way q
-        by i false z false false q k = absurd (true≢false (sym k))
-
-    -- At the end none is left.
-    pub all-joined : none_left left ≡ true → Covers ps qs c r
-    all-joined z i h = ap (λ (b : Bool). b || subsumes (way_at ps qs c i) r) (sym (in-none left.waysa left.waysb (eqb-true _ 0 z) i)) ∙ s.covers i h
-
--- ---- the ways by a fault
-
--- A number of the leaf that is not among those that pass.
-off : (x b : Bool) → x && not (x && b) ≡ x && not b
-off true b = refl
-off false b = refl
-
--- Fewer numbers are those of ways of the table too.
-pub less-within : (ps qs : List ℕ) (c n o : Clauses) → InTable ps qs c
-    → ((i : ℕ) → in_words o.waysa o.waysb i ≡ in_words c.waysa c.waysb i && not (in_words n.waysa n.waysb i)) → InTable ps qs o
-less-within ps qs c n o w h =
-    record { short = w.short; paired = w.paired; inside = λ i e. w.inside i (and_left (in_words c.waysa c.waysb i) _ (sym (h i) ∙ e)) }
-
--- The parts of a leaf, as the code makes them.
-pub divides : (ps qs : List ℕ) (c : Clauses) (m : ℕ) (n o : Clauses) (r : Way) → InTable ps qs c → InTable ps qs n
-    → ways_of ps qs n ≡ part true m (ways_of ps qs c) → n.gone ≡ c.gone → Keeps ps qs (λ v. beq true (touches m v)) c n
-    → ((i : ℕ) → in_words o.waysa o.waysb i ≡ in_words c.waysa c.waysb i && not (in_words n.waysa n.waysb i))
-    → o.gone ≡ c.gone → Covers ps qs o r → Divided ps qs c m (record { named = n; others = o; cover = r })
-divides ps qs c m n o r w u e x k l p v =
-    record {
-      whole = w;
-      named_within = u;
-      named_ways = e;
-      named_numbers = named;
-      named_gone = x;
-      others_within = less-within ps qs c n o w l;
-      others_numbers = λ i. l i ∙ ap (λ (b : Bool). in_words c.waysa c.waysb i && not b) (named i)
-          ∙ off (in_words c.waysa c.waysb i) (touches m (way_at ps qs c i));
-      others_gone = p;
-      covered = v;
-    }
+-- They are a part of the list, changed.
+passing-is : (f : Way → Bool) (h : Way → Way) (vs : List Way) → map h (sift f vs) ≡ passing f h vs
+unfolding sift
+passing-is f h [] = refl
+passing-is f h (v ∷ vs) = by (f v) (passing-is f h vs)
   where
-    itself : (b : Bool) → beq true b ≡ b
-    itself true = refl
-    itself false = refl
-
-    named : Keeps ps qs (λ v. touches m v) c n
-    named i = k i ∙ ap (λ (b : Bool). in_words c.waysa c.waysb i && b) (itself (touches m (way_at ps qs c i)))
-
--- ---- one fault fixed
+    by : (b : Bool) → map h (sift f vs) ≡ passing f h vs
+        → map h (elim b as (λ b. List Way) [ true ↦ v ∷ sift f vs | false ↦ sift f vs ])
+        ≡ elim b as (λ b. List Way) [ true ↦ h v ∷ passing f h vs | false ↦ passing f h vs ]
+    by true ih = ap (λ (us : List Way). h v ∷ us) ih
+    by false ih = ih
 
 -- A way that names the fault stays unless it is contradicted, another unless one of those that lost it subsumes it.
 abbrev stays : ℕ → ℕ → List Way → Way → Bool
@@ -170,129 +81,170 @@ staying-is p q one vs lean us is = over vs (λ v i. i)
         by false n false e false k ih =
             rw (ap not (says e ∙ ap (λ (x : Bool). not x && any (λ u. subsumes u v) us) n ∙ k), sift) (ap (λ (r : List Way). dropped m v ∷ r) ih)
 
--- ---- the loop over the ways that lost the fault
+-- ---- the ways by a fault
 
-module _ (ps qs : List ℕ) (others shorter : Clauses) where
-  -- One of some ways subsumes that of the others with a number.
-  abbrev some-subsume : Clauses → ℕ → Bool
-  some-subsume a i = any (λ u. subsumes u (way_at ps qs others i)) (ways_of ps qs a)
+-- The others are those that the word does not touch: their numbers are not among the touched ones.
+pub untouched : (c n o : Clauses) (m : ℕ) → ways_of n ≡ part true m (ways_of c) → Narrows c (sift (λ v. not (has_number (ways_of n) v.number)) (ways_of c)) o
+    → Narrows c (part false m (ways_of c)) o
+untouched c n o m e h =
+    record {
+      present_is = h.present_is;
+      absent_is = h.absent_is;
+      gone_is = h.gone_is;
+      ways_are = h.ways_are
+          ∙ sift-same _ _ (ways_of c)
+          (λ v p. ap not (ap (λ (vs : List Way). has_number vs v.number) (e ∙ touched-is m (ways_of c))
+          ∙ part-number 0 (ways_of c) (rising c) (touches m) v p))
+          ∙ sym (untouched-is m (ways_of c));
+    }
 
-  -- In the midst of it: of the kept numbers, those that no way left subsumes are those of the others that none at all does.
-  pub record Leaving (kept left : Clauses) : Type 0 where
-    pub numbers : (i : ℕ)
-        → in_words kept.waysa kept.waysb i && not (some-subsume left i) ≡ in_words others.waysa others.waysb i && not (some-subsume shorter i)
-    pub inside : (i : ℕ) → in_words kept.waysa kept.waysb i ≡ true → in_words others.waysa others.waysb i ≡ true
-    pub kept-gone : kept.gone ≡ others.gone
-    pub kept-within : InTable ps qs kept
-    pub left-within : InTable ps qs left
+-- ---- the others that stay
 
-  -- At first nothing is left out.
-  pub none_left_out : InTable ps qs others → InTable ps qs shorter → Leaving others shorter
-  none_left_out v w =
-      record { numbers = λ i. refl; inside = λ i h. h; kept-gone = refl; kept-within = v; left-within = w }
+module _ (o : Clauses) (s : List Way) where
+  -- Some of these ways subsumes that one.
+  abbrev some-subsumes : List Way → Way → Bool
+  some-subsumes ws v = any (λ u. subsumes u v) ws
 
-  module _ (kept left : Clauses) (s : Leaving kept left) (t : Taken) (h : Takes ps qs left t) where
-    -- Before a turn, with the first way left apart.
-    before : (i : ℕ) → in_words kept.waysa kept.waysb i && not (subsumes t.way (way_at ps qs others i) || some-subsume t.others i)
-        ≡ in_words others.waysa others.waysb i && not (some-subsume shorter i)
+  -- In the midst of the loop over the ways s: of the others those that are kept and that no way to come subsumes are those that none of s does.
+  pub record Beside (kept : Numbers) (ws : List Way) : Type 0 where
+    pub told : (v : Way) → In v (ways_of o) → (is_in kept v.number && not (some-subsumes ws v)) ≡ not (some-subsumes s v)
+
+  -- At first all are kept.
+  pub none_left_out : Beside o.numbers s
+  none_left_out = record { told = λ v p. ap (λ (b : Bool). b && not (some-subsumes s v)) (number_in o v p) }
+
+  module _ (kept : Numbers) (ws : List Way) (k : Beside kept ws) (u : Way) (us : List Way) (next : ws ≡ u ∷ us) where
+    -- What is told of a way, with the way that comes apart.
+    apart : (v : Way) → In v (ways_of o) → (is_in kept v.number && not (subsumes u v || some-subsumes us v)) ≡ not (some-subsumes s v)
     unfolding any
-    before i = forward ps qs left (λ us. in_words kept.waysa kept.waysb i && not (any (λ u. subsumes u (way_at ps qs others i)) us)) t h (s.numbers i)
+    apart v p = ap (λ (xs : List Way). is_in kept v.number && not (some-subsumes xs v)) (sym next) ∙ k.told v p
 
     -- It does not subsume what covers the others, so it leaves out none of them.
-    pub skips : (r : Way) → Covers ps qs others r → subsumes t.way r ≡ false → Leaving kept t.others
-    skips r covered z =
-        record {
-          numbers = λ i. by i (in_words kept.waysa kept.waysb i) refl (some-subsume t.others i) ∙ before i;
-          inside = s.inside;
-          kept-gone = s.kept-gone;
-          kept-within = s.kept-within;
-          left-within = h.within;
-        }
-      where
-        none : (i : ℕ) → in_words kept.waysa kept.waysb i ≡ true → subsumes t.way (way_at ps qs others i) ≡ false
-        none i e = is_false _ (λ k. true≢false (sym (subsumes-through t.way (way_at ps qs others i) r k (covered i (s.inside i e))) ∙ z))
-
-        by : (i : ℕ) (x : Bool) → in_words kept.waysa kept.waysb i ≡ x
-            → (b : Bool) → x && not b ≡ x && not (subsumes t.way (way_at ps qs others i) || b)
-        by i true e b = ap (λ (y : Bool). not (y || b)) (sym (none i e))
-        by i false e b = refl
+    pub skips : (r : Way) → ((v : Way) → In v (ways_of o) → subsumes v r ≡ true) → subsumes u r ≡ false → Beside kept us
+    skips r covered z = record {
+      told = λ v p. ap (λ (b : Bool). is_in kept v.number && not (b || some-subsumes us v))
+          (sym (is_false (subsumes u v) (λ e. true≢false (sym (subsumes-through u v r e (covered v p)) ∙ z)))) ∙ apart v p;
+    }
 
     -- It leaves out what it subsumes.
-    pub leaves : (out k : Clauses) → Keeps ps qs (λ v. subsumes t.way v) kept out
-        → ((i : ℕ) → in_words k.waysa k.waysb i ≡ in_words kept.waysa kept.waysb i && not (in_words out.waysa out.waysb i))
-        → k.gone ≡ kept.gone → Leaving k t.others
-    leaves out k o l x =
+    pub leaves : (w b : Clauses) → Narrows o (sift (λ v. is_in kept v.number) (ways_of o)) w → Narrows w (sift (λ v. not (subsumes u v)) (ways_of w)) b
+        → Beside b.numbers us
+    leaves w b n m =
         record {
-          numbers = λ i. ap (λ (b : Bool). b && not (some-subsume t.others i))
-              (l i ∙ ap (λ (b : Bool). in_words kept.waysa kept.waysb i && not b) (subsumed i))
-              ∙ by (in_words kept.waysa kept.waysb i) (subsumes t.way (way_at ps qs others i)) (some-subsume t.others i) ∙ before i;
-          inside = λ i e. s.inside i (and_left (in_words kept.waysa kept.waysb i) _ (sym (l i) ∙ e));
-          kept-gone = x ∙ s.kept-gone;
-          kept-within = less-within ps qs kept out k s.kept-within l;
-          left-within = h.within;
+          told = λ v p. ap (λ (x : Bool). x && not (some-subsumes us v)) (less v p)
+              ∙ by (is_in kept v.number) (subsumes u v) (some-subsumes us v) ∙ apart v p;
         }
       where
-        subsumed : (i : ℕ) → in_words out.waysa out.waysb i ≡ in_words kept.waysa kept.waysb i && subsumes t.way (way_at ps qs others i)
-        subsumed i =
-            o i ∙ ap (λ (w : Way). in_words kept.waysa kept.waysb i && subsumes t.way w)
-            (same_way ps qs kept others s.kept-gone i)
+        less : (v : Way) → In v (ways_of o) → is_in b.numbers v.number ≡ (is_in kept v.number && not (subsumes u v))
+        less v p =
+            sym (numbers b v.number)
+            ∙ ap (λ (vs : List Way). has_number vs v.number)
+            (m.ways_are ∙ ap (sift (λ x. not (subsumes u x))) n.ways_are ∙ sift-twice (λ x. is_in kept x.number) (λ x. not (subsumes u x)) (ways_of o))
+            ∙ part-number 0 (ways_of o) (rising o) (λ x. is_in kept x.number && not (subsumes u x)) v p
 
-        by : (x b a : Bool) → (x && not (x && b)) && not a ≡ x && not (b || a)
+        by : (k t a : Bool) → ((k && not t) && not a) ≡ (k && not (t || a))
         by true true a = refl
         by true false a = refl
-        by false b a = refl
+        by false t a = refl
 
-  -- At the end the kept numbers are those of the others that no way which lost the fault subsumes.
-  pub none_left_over : (kept left : Clauses) → Leaving kept left → none_left left ≡ true
-      → Keeps ps qs (λ v. not (any (λ u. subsumes u v) (ways_of ps qs shorter))) others kept
+  -- At the end those are kept that no way of s subsumes.
+  pub all_told : (kept : Numbers) (ws : List Way) → ws ≡ [] → Beside kept ws
+      → sift (λ v. is_in kept v.number) (ways_of o) ≡ sift (λ v. not (some-subsumes s v)) (ways_of o)
   unfolding any
-  none_left_over kept left s z i =
-      all (in_words kept.waysa kept.waysb i)
-      ∙ ended ps qs left (λ us. in_words kept.waysa kept.waysb i && not (any (λ u. subsumes u (way_at ps qs others i)) us)) z (s.numbers i)
+  all_told kept ws z k =
+      sift-same _ _ (ways_of o)
+      (λ v p. all (is_in kept v.number) ∙ ap (λ (xs : List Way). is_in kept v.number && not (some-subsumes xs v)) (sym z) ∙ k.told v p)
     where
-      all : (x : Bool) → x ≡ x && true
+      all : (x : Bool) → x ≡ (x && true)
       all true = refl
       all false = refl
 
--- ---- what stays
+-- ---- both together
 
 -- Those that lost the fault and those of the others that are kept: what stays of the leaf's ways with the fault fixed.
-module _ (ps qs : List ℕ) (c : Clauses) (p q : ℕ) (d : ByFault) (divided : Divided ps qs c (bit_or p q) d) (one : OneFault p q) (lean : Lean (ways_of ps qs c))
-    (shorter : Clauses) (ways_are : ways_of ps qs shorter ≡ remaining p q (ways_of ps qs d.named))
-    (gone_is : shorter.gone ≡ fix_more d.named.gone p q) (lost : Keeps ps qs (λ v. not (contradicted p q v)) d.named shorter)
-    (kept : Clauses) (rest : Keeps ps qs (λ v. not (any (λ u. subsumes u v) (ways_of ps qs shorter))) d.others kept) where
-  -- Both together.
-  abbrev both : Clauses
-  both = record {
-    waysa = bit_or shorter.waysa kept.waysa;
-    waysb = bit_or shorter.waysb kept.waysb;
-    gone = shorter.gone;
-  }
+module _ (c : Clauses) (p q : ℕ) (one : OneFault p q) (lean : Lean (ways_of c)) (d : ByFault) (divided : Divided c (bit_or p q) d)
+    (shorter : Clauses) (lost : Becomes d.named (fix_more d.named.gone p q) (remaining p q (ways_of d.named)) shorter)
+    (kept : Clauses) (rest : Narrows d.others (sift (λ v. not (any (λ u. subsumes u v) (ways_of shorter))) (ways_of d.others)) kept) where
+  m : ℕ
+  m = bit_or p q
 
-  pub left_out : (ways_of ps qs both ≡ minimal (remaining p q (ways_of ps qs c))) × InTable ps qs both × (shorter.gone ≡ fix_more c.gone p q)
-  left_out =
-      let e = kept_ways ps qs (stays p q (ways_of ps qs shorter)) c divided.whole both _ gone-c numbers
-      (dropped (bit_or p q)) (fixed_more c.gone p q) in
-      (e.0 ∙ staying-is p q one (ways_of ps qs c) lean (ways_of ps qs shorter) (ways_are ∙ ap (remaining p q) divided.named_ways), e.1, gone-c)
-    where
-      gone-c : shorter.gone ≡ fix_more c.gone p q
-      gone-c = gone_is ∙ ap (λ (g : Gone). fix_more g p q) divided.named_gone
+  -- Tests that tell which ways of the leaf these are.
+  abbrev loses : Way → Bool
+  loses v = touches m v && not (contradicted p q v)
 
-      by : (x t k a : Bool) → ((x && t) && k) || ((x && not t) && a) ≡ x && (elim t as (λ b. Bool) [ true ↦ k | false ↦ a ])
-      by true true true a = refl
-      by true true false a = refl
-      by true false k a = refl
-      by false t k a = refl
+  abbrev keeps : Way → Bool
+  keeps v = not (touches m v) && not (any (λ u. subsumes u v) (ways_of shorter))
 
-      numbers : Keeps ps qs (stays p q (ways_of ps qs shorter)) c both
-      numbers i =
-          both_numbers shorter.waysa shorter.waysb kept.waysa kept.waysb i
-          ∙ ap₂ (λ (x y : Bool). x || y)
-          (lost i
-          ∙ ap₂ (λ (x : Bool) (w : Way). x && not (contradicted p q w)) (divided.named_numbers i)
-          (same_way ps qs d.named c divided.named_gone i))
-          (rest i
-          ∙ ap₂ (λ (x : Bool) (w : Way). x && not (any (λ u. subsumes u w) (ways_of ps qs shorter))) (divided.others_numbers i)
-          (same_way ps qs d.others c divided.others_gone i))
-          ∙ by (in_words c.waysa c.waysb i) (touches (bit_or p q) (way_at ps qs c i)) (not (contradicted p q (way_at ps qs c i)))
-          (not (any (λ u. subsumes u (way_at ps qs c i)) (ways_of ps qs shorter)))
+  shorter-numbers : (i : ℕ) → is_in shorter.numbers i ≡ has_number (sift loses (ways_of c)) i
+  unfolding m
+  shorter-numbers i =
+      sym (numbers shorter i)
+      ∙ ap (λ (vs : List Way). has_number vs i)
+      (lost.ways_are ∙ ap (remaining p q) (divided.named.ways_are ∙ touched-is (bit_or p q) (ways_of c)) ∙ remaining-is p q _)
+      ∙ dropped-number (bit_or p q) _ i
+      ∙ ap (λ (vs : List Way). has_number vs i) (sift-twice (touches (bit_or p q)) (λ v. not (contradicted p q v)) (ways_of c))
+
+  kept-numbers : (i : ℕ) → is_in kept.numbers i ≡ has_number (sift keeps (ways_of c)) i
+  unfolding m
+  kept-numbers i =
+      sym (numbers kept i)
+      ∙ ap (λ (vs : List Way). has_number vs i)
+      (rest.ways_are ∙ ap (sift (λ v. not (any (λ u. subsumes u v) (ways_of shorter)))) (divided.others.ways_are ∙ untouched-is (bit_or p q) (ways_of c))
+      ∙ sift-twice (λ v. not (touches (bit_or p q) v)) (λ v. not (any (λ u. subsumes u v) (ways_of shorter))) (ways_of c))
+
+  module _ (r : Clauses) (x : r.rows.present.now ≡ c.rows.present.now) (y : r.rows.absent.now ≡ c.rows.absent.now) (g : r.gone ≡ shorter.gone)
+      (both : (i : ℕ) → is_in r.numbers i ≡ (is_in shorter.numbers i || is_in kept.numbers i)) where
+    -- A way stays by its number.
+    tells : (v : Way) → In v (ways_of c) → is_in r.numbers v.number ≡ stays p q (ways_of shorter) v
+    unfolding m
+    tells v i =
+        both v.number
+        ∙ ap₂ (λ (a b : Bool). a || b) (shorter-numbers v.number ∙ part-number 0 (ways_of c) (rising c) loses v i)
+        (kept-numbers v.number ∙ part-number 0 (ways_of c) (rising c) keeps v i)
+        ∙ by (touches (bit_or p q) v) (not (contradicted p q v)) (not (any (λ u. subsumes u v) (ways_of shorter)))
+      where
+        by : (t k a : Bool) → ((t && k) || (not t && a)) ≡ elim t as (λ b. Bool) [ true ↦ k | false ↦ a ]
+        by true true a = refl
+        by true false a = refl
+        by false k a = refl
+
+    -- Every number is one of the leaf's.
+    inside : (i : ℕ) → is_in r.numbers i ≡ true → is_in c.numbers i ≡ true
+    inside i e =
+        sym (numbers c i)
+        ∙ or_cases (is_in shorter.numbers i) (is_in kept.numbers i) (λ h. part-in loses (ways_of c) i (sym (shorter-numbers i) ∙ h))
+        (λ h. part-in keeps (ways_of c) i (sym (kept-numbers i) ∙ h)) (sym (both i) ∙ e)
+
+    -- The same ways, before the fault is gone.
+    before : Clauses
+    before = record {
+      rows = r.rows;
+      numbers = r.numbers;
+      gone = c.gone;
+      inside = r.inside;
+    }
+
+    gone-is : r.gone ≡ fix_more c.gone p q
+    gone-is = g ∙ lost.gone_is ∙ ap (λ (k : Gone). fix_more k p q) divided.named.gone_is
+
+    pub left_out : Becomes c (fix_more c.gone p q) (minimal (remaining p q (ways_of c))) r
+    unfolding before m
+    left_out =
+        record {
+          present_is = x;
+          absent_is = y;
+          gone_is = gone-is;
+          ways_are = thinned before r refl refl refl (bit_or p q) (λ v. fixed_more c.gone p q v ∙ ap (λ (k : Gone). dropped (gone_word k) v) (sym gone-is))
+              ∙ ap (map (dropped (bit_or p q)))
+              ((narrowed c before x y refl (is_in r.numbers) (λ i. by (is_in r.numbers i) (inside i))).ways_are ∙ sift-same _ _ (ways_of c) tells)
+              ∙ passing-is (stays p q (ways_of shorter)) (dropped (bit_or p q)) (ways_of c)
+              ∙ staying-is p q one (ways_of c) lean (ways_of shorter) (lost.ways_are ∙ ap (remaining p q) divided.named.ways_are);
+        }
+      where
+        by : (b : Bool) {k : Bool} → (b ≡ true → k ≡ true) → b ≡ (k && b)
+        by true h = sym (ap (λ (k : Bool). k && true) (h refl))
+        by false {k} h = none k
+          where
+            none : (k : Bool) → false ≡ (k && false)
+            none true = refl
+            none false = refl

@@ -1,12 +1,12 @@
 -- Laws on the ways of a leaf that the functions' proofs rest on.
 -- Those marked pub are for the proofs of callers too.
-mod Filter
-pub mod First
+mod Covered
+pub mod Kept
+pub mod Leaf
 mod Leaving
-pub mod LeftOut
-pub mod Loops
+pub mod Narrowed
 mod Pairs
-mod Rows
-mod Selected
-pub mod SomeWays
+pub mod Parts
+mod Passing
+mod Taken
 mod Words

@@ -1,3 +1,4 @@
--- What the ways of a leaf are, and what taking the first of them gives.
--- Rests on the definitions of `rules` and `records`.
+-- What the ways of a leaf are, and what becomes of them.
+-- Rests on the definitions of `rules`, `records` and `checks`.
+pub mod Numbers
 pub mod Leaves

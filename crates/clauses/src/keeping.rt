@@ -1,17 +1,18 @@
 //! The ways of a leaf that pass a test: what remains of them with more faults fixed, and those that a word of faults touches.
 //! Rests on `rules`, Leaf and Group. Only the numbers are kept, so no way is copied.
-ghost use Rattle.std.specs.Prelude.{◌≡◌, not, ◌≤◌, length};
-ghost use Rattle.std.specs.Bool.{beq};
-ghost use Rattle.rules.specs.Table.{rows};
+ghost use Rattle.std.specs.Prelude.{◌≡◌, Bool, true, not, ◌<◌, eqb};
 ghost use Rattle.rules.specs.Leaf;
-ghost use Rattle.rules.specs.Leaf.{remaining, drop_all};
+ghost use Rattle.rules.specs.Leaf.{sift, has_number, remaining, drop_all};
 ghost use Rattle.rules.specs.Group;
-ghost use Rattle.records.specs.Records.{in_words};
-ghost use Rattle.clauses.specs.Leaves.{fix_more, leave_out, ways_of, InTable, Keeps};
+ghost use Rattle.rules.specs.declared.Way.{Way};
+ghost use Rattle.clauses.specs.Numbers.{is_in};
+ghost use Rattle.clauses.specs.Leaves.{all_of, none_gone, fix_more, out_more, ways_of, Becomes, Narrows, Of};
 
-use super::sets::{select, with_number};
-use super::taking::{faults, none_left, taken};
-use super::{Clauses, Gone};
+use super::Clauses;
+use super::lost::Gone;
+use super::sets::Numbers;
+use super::taking::faults;
+use checks::accepted::Rows;
 use rules::Way;
 
 /// A fault fixed present that the way names absent, or fixed absent that it names present.
@@ -21,64 +22,6 @@ fn contradicted(present: u64, absent: u64, v: Way) -> bool
     (v.present & absent) | (v.absent & present) != 0
 }
 
-/// What remains of the ways with more faults fixed, present (p) and absent (q).
-pub fn restrict(present: &[u64], absent: &[u64], c: Clauses, p: u64, q: u64) -> Clauses
-    requires { InTable present.now absent.now c }
-    ensures { (ways_of present.now absent.now result ≡ remaining p q (ways_of present.now absent.now c))
-        × InTable present.now absent.now result × (result.gone ≡ fix_more c.gone p q)
-        × Keeps present.now absent.now (λ v. not (Leaf.contradicted p q v)) c result }
-{
-    let mut gone = c.gone;
-    gone.present = gone.present | p;
-    gone.absent = gone.absent | q;
-    let mut kept = Clauses {
-        waysa: 0,
-        waysb: 0,
-        gone,
-    };
-    let mut left = c;
-    while !none_left(left) {
-        let t = taken(present, absent, left);
-        let v = t.way;
-        left = t.others;
-        if !contradicted(p, q, v) {
-            kept = with_number(kept, v.number);
-        }
-    }
-    kept
-}
-
-/// The ways without the faults of a word, which are left out.
-pub fn leaving_out(c: Clauses, m: u64) -> Clauses
-    ensures { result ≡ leave_out c m }
-{
-    let mut gone = c.gone;
-    gone.out = gone.out | m;
-    Clauses {
-        waysa: c.waysa,
-        waysb: c.waysb,
-        gone,
-    }
-}
-
-/// What remains of the ways of a table whose numbers are in the set of two words, with the faults of g fixed and left out.
-pub fn remaining_of(present: &[u64], absent: &[u64], a: u64, b: u64, g: Gone) -> Clauses
-    requires present_len_bound { length present.now ≤ 128 }
-    requires absent_len { length absent.now ≡ length present.now }
-    ensures { (ways_of present.now absent.now result
-        ≡ drop_all g.out (remaining g.present g.absent (Leaf.select (in_words a b) (rows 0 present.now absent.now))))
-        × InTable present.now absent.now result × (result.gone ≡ g) }
-{
-    let c = restrict(
-        present,
-        absent,
-        select(present, absent, a, b),
-        g.present,
-        g.absent,
-    );
-    leaving_out(c, g.out)
-}
-
 /// The way names one of the faults of the word.
 pub fn touches(m: u64, v: Way) -> bool
     ensures { result ≡ Group.touches m v }
@@ -86,27 +29,89 @@ pub fn touches(m: u64, v: Way) -> bool
     m & faults(v) != 0
 }
 
-/// The ways that the word touches, or those that it does not.
-pub fn part(present: &[u64], absent: &[u64], c: Clauses, m: u64, touched: bool) -> Clauses
-    requires { InTable present.now absent.now c }
-    ensures { (ways_of present.now absent.now result ≡ Group.part touched m (ways_of present.now absent.now c))
-        × InTable present.now absent.now result × (result.gone ≡ c.gone)
-        × Keeps present.now absent.now (λ v. beq touched (Group.touches m v)) c result }
-{
-    let gone = c.gone;
-    let mut kept = Clauses {
-        waysa: 0,
-        waysb: 0,
-        gone,
-    };
-    let mut left = c;
-    while !none_left(left) {
-        let t = taken(present, absent, left);
-        let v = t.way;
-        left = t.others;
-        if touched == touches(m, v) {
-            kept = with_number(kept, v.number);
+impl<'a> Clauses<'a> {
+    /// All ways of a table.
+    pub fn whole(rows: Rows<'a>) -> Clauses<'a>
+        ensures { Of rows.entry none_gone (all_of rows.entry) result }
+    {
+        Clauses {
+            rows,
+            numbers: Numbers::below(rows.present.len()),
+            gone: Gone::NONE,
         }
     }
-    kept
+
+    /// What remains of the ways of a table whose numbers are in the set, with these faults fixed and left out.
+    pub fn of(rows: Rows<'a>, numbers: Numbers, gone: Gone) -> Clauses<'a>
+        ensures { Of rows.entry gone
+            (drop_all gone.out (remaining gone.present gone.absent (Leaf.select (is_in numbers) (all_of rows.entry)))) result }
+    {
+        Clauses::whole(rows)
+            .within(numbers)
+            .restrict(gone.present, gone.absent)
+            .leaving_out(gone.out)
+    }
+
+    /// The ways with a number of the set.
+    pub fn within(mut self, numbers: Numbers) -> Clauses<'a>
+        ensures { Narrows self.entry (sift (λ v. is_in numbers v.number) (ways_of self.entry)) result }
+    {
+        self.numbers = self.numbers.and(numbers);
+        self
+    }
+
+    /// The way with this number by itself.
+    pub fn alone(self, i: usize) -> Clauses<'a>
+        requires { i < 128 }
+        ensures { Narrows self.entry (sift (λ v. eqb v.number i) (ways_of self.entry)) result }
+    {
+        self.within(Numbers::one(i))
+    }
+
+    /// The ways whose numbers the other leaf does not have.
+    pub fn minus(self, other: Clauses) -> Clauses<'a>
+        ensures { Narrows self.entry
+            (sift (λ v. not (has_number (ways_of other.entry) v.number)) (ways_of self.entry)) result }
+    {
+        self.within(self.numbers.minus(other.numbers))
+    }
+
+    /// The ways that pass the test.
+    pub fn keep<F: Fn(Way) -> bool>(self, test: F) -> Clauses<'a>
+        requires { F.IsAlwaysCallable test }
+        ensures { (f : Way → Bool) → ((v : Way) (b : Bool) → F.post test v b → b ≡ f v)
+            → Narrows self.entry (sift f (ways_of self.entry)) result }
+    {
+        let mut kept = self.numbers;
+        for v in self.ways() {
+            if !test(v) {
+                kept = kept.without(v.number);
+            }
+        }
+        self.within(kept)
+    }
+
+    /// The ways that the word touches.
+    pub fn part(self, m: u64) -> Clauses<'a>
+        ensures { Narrows self.entry (Group.part true m (ways_of self.entry)) result }
+    {
+        self.keep(|v| touches(m, v))
+    }
+
+    /// What remains of the ways with more faults fixed, present (p) and absent (q).
+    pub fn restrict(self, p: u64, q: u64) -> Clauses<'a>
+        ensures { Becomes self.entry (fix_more self.entry.gone p q) (remaining p q (ways_of self.entry)) result }
+    {
+        let mut kept = self.keep(|v| !contradicted(p, q, v));
+        kept.gone = kept.gone.fixing(p, q);
+        kept
+    }
+
+    /// The ways without the faults of a word, which are left out.
+    pub fn leaving_out(mut self, m: u64) -> Clauses<'a>
+        ensures { Becomes self.entry (out_more self.entry.gone m) (drop_all m (ways_of self.entry)) result }
+    {
+        self.gone = self.gone.leaving_out(m);
+        self
+    }
 }

@@ -1,12 +1,16 @@
-//! Sets of ways by number, as two words of bits: the numbers 0 to 63 and those from 64 on. Rests on `records`, Records.
-//! Numbers beyond the last way of the table are left out.
-ghost use Rattle.std.specs.Prelude.{◌≡◌, not, ◌&&◌, ◌||◌, ℕ, ◌-◌, ◌<◌, ◌≤◌, ◌^◌, eqb, length};
-ghost use Rattle.rules.specs.Table.{rows};
-ghost use Rattle.rules.specs.Leaf;
-ghost use Rattle.records.specs.Records.{in_words};
-ghost use Rattle.clauses.specs.Leaves.{none_gone, ways_of, InTable, Alone};
+//! Sets of ways by number, as two words of bits. Rests on `records`, Records.
+//! The two words are those of a record, so that a leaf is read from one and written to one as it is.
+ghost use Rattle.std.specs.Int.Bits.{bit_or};
+ghost use Rattle.std.specs.Prelude.{◌≡◌, not, ◌&&◌, ◌||◌, ℕ, ◌-◌, ◌<◌, ◌≤◌, ◌^◌, eqb, ltb};
+ghost use Rattle.clauses.specs.Numbers.{is_in};
 
-use super::{Clauses, Gone};
+/// The numbers of some ways: a number below 64 is a bit of `low`, one from 64 on, less 64, a bit of `high`.
+/// Where one number is handed over it has to be below 128. A type of such numbers would be no plainer: they come from ways, which have any.
+#[derive(Clone, Copy)]
+pub struct Numbers {
+    pub low: u64,
+    pub high: u64,
+}
 
 /// The word with bit i alone.
 pub fn one_bit(i: usize) -> u64
@@ -24,82 +28,84 @@ fn bits_below(n: usize) -> u64
     if n < 64 { one_bit(n) - 1 } else { !0 }
 }
 
-/// No fault is gone.
-const NONE_GONE: Gone = Gone {
-    present: 0,
-    absent: 0,
-    out: 0,
-};
-
-/// The ways of a table whose numbers are in the set of two words, with no fault gone.
-pub fn select(present: &[u64], absent: &[u64], a: u64, b: u64) -> Clauses
-    requires present_len_bound { length present.now ≤ 128 }
-    requires absent_len { length absent.now ≡ length present.now }
-    ensures { (ways_of present.now absent.now result ≡ Leaf.select (in_words a b) (rows 0 present.now absent.now))
-        × InTable present.now absent.now result × (result.gone ≡ none_gone) }
-{
-    let n = present.len();
-    if n < 64 {
-        return Clauses {
-            waysa: a & bits_below(n),
-            waysb: 0,
-            gone: NONE_GONE,
-        };
+impl Numbers {
+    /// All numbers below n.
+    pub fn below(n: usize) -> Numbers
+        requires { n ≤ 128 }
+        ensures { (i : ℕ) → is_in result i ≡ ltb i n }
+    {
+        if n < 64 {
+            return Numbers {
+                low: bits_below(n),
+                high: 0,
+            };
+        }
+        Numbers {
+            low: !0,
+            high: bits_below(n - 64),
+        }
     }
-    Clauses {
-        waysa: a,
-        waysb: b & bits_below(n - 64),
-        gone: NONE_GONE,
+
+    /// One number alone.
+    pub fn one(i: usize) -> Numbers
+        requires { i < 128 }
+        ensures { (j : ℕ) → is_in result j ≡ eqb j i }
+    {
+        if i < 64 {
+            return Numbers {
+                low: one_bit(i),
+                high: 0,
+            };
+        }
+        Numbers {
+            low: 0,
+            high: one_bit(i - 64),
+        }
     }
-}
 
-/// All ways of a table.
-pub fn whole(present: &[u64], absent: &[u64]) -> Clauses
-    requires present_len_bound { length present.now ≤ 128 }
-    requires absent_len { length absent.now ≡ length present.now }
-    ensures { (ways_of present.now absent.now result ≡ rows 0 present.now absent.now)
-        × InTable present.now absent.now result × (result.gone ≡ none_gone) }
-{
-    select(present, absent, !0, !0)
-}
-
-/// The numbers with one more.
-pub fn with_number(c: Clauses, i: usize) -> Clauses
-    requires { i < 128 }
-    ensures { ((j : ℕ) → in_words result.waysa result.waysb j ≡ (eqb j i || in_words c.waysa c.waysb j)) × (result.gone ≡ c.gone) }
-{
-    let mut r = c;
-    if i < 64 {
-        r.waysa = c.waysa | one_bit(i);
-    } else {
-        r.waysb = c.waysb | one_bit(i - 64);
+    /// There is none.
+    pub fn is_empty(self) -> bool
+        ensures { result ≡ eqb (bit_or self.low self.high) 0 }
+    {
+        self.low | self.high == 0
     }
-    r
-}
 
-/// One number alone, where the same faults are gone.
-pub fn alone(c: Clauses, i: usize) -> Clauses
-    requires { i < 128 }
-    ensures { Alone c i result }
-{
-    let gone = c.gone;
-    let none = Clauses {
-        waysa: 0,
-        waysb: 0,
-        gone,
-    };
-    with_number(none, i)
-}
+    // The next three differ in one operator. Over a closure each would say the same in as many lines, and its contract less plainly.
+    /// The numbers of both sets.
+    pub fn and(self, other: Numbers) -> Numbers
+        ensures { (i : ℕ) → is_in result i ≡ (is_in self i && is_in other i) }
+    {
+        Numbers {
+            low: self.low & other.low,
+            high: self.high & other.high,
+        }
+    }
 
-/// The numbers of the first without those of the second.
-pub fn minus(c: Clauses, d: Clauses) -> Clauses
-    ensures { ((i : ℕ) → in_words result.waysa result.waysb i ≡ in_words c.waysa c.waysb i && not (in_words d.waysa d.waysb i))
-        × (result.gone ≡ c.gone) }
-{
-    let gone = c.gone;
-    Clauses {
-        waysa: c.waysa & !d.waysa,
-        waysb: c.waysb & !d.waysb,
-        gone,
+    /// The numbers of either set.
+    pub fn or(self, other: Numbers) -> Numbers
+        ensures { (i : ℕ) → is_in result i ≡ (is_in self i || is_in other i) }
+    {
+        Numbers {
+            low: self.low | other.low,
+            high: self.high | other.high,
+        }
+    }
+
+    /// The numbers of the first set that are not in the second.
+    pub fn minus(self, other: Numbers) -> Numbers
+        ensures { (i : ℕ) → is_in result i ≡ (is_in self i && not (is_in other i)) }
+    {
+        Numbers {
+            low: self.low & !other.low,
+            high: self.high & !other.high,
+        }
+    }
+
+    /// The numbers but this one.
+    pub fn without(self, i: usize) -> Numbers
+        requires { i < 128 }
+        ensures { (j : ℕ) → is_in result j ≡ (is_in self j && not (eqb j i)) }
+    {
+        self.minus(Numbers::one(i))
     }
 }

@@ -1,171 +1,124 @@
 //! What stays of ways: those that say nothing new are left out. Rests on `rules`, Leaf.
 //! A table's ways are tested each against each. With a fault fixed in a lean list, only a way that lost it can outdo another: see `rules`, FixedLean.
-ghost use Rattle.std.specs.Prelude.{◌≡◌, true, ◌≤◌, length};
+ghost use Rattle.std.specs.Prelude.{◌≡◌, true, not};
 ghost use Rattle.std.specs.Int.Bits.{bit_or};
-ghost use Rattle.rules.specs.Table.{rows};
 ghost use Rattle.rules.specs.Leaf;
 ghost use Rattle.rules.specs.Leaf.{remaining, minimal, Lean};
-ghost use Rattle.clauses.specs.Leaves.{OneFault, none_gone, fix_more, ways_of, InTable, Keeps, Covers, Divided};
+ghost use Rattle.rules.specs.Members.{In};
+ghost use Rattle.rules.specs.declared.Way.{Way};
+ghost use Rattle.clauses.specs.Leaves.{OneFault, all_of, none_gone, fix_more, ways_of, Becomes, Narrows, Of, Divided};
 
-use super::keeping::{part, restrict};
-use super::sets::{minus, whole, with_number};
-use super::taking::{none_left, taken};
-use super::{ByFault, Clauses};
+use super::Clauses;
+use super::taking::without;
+use checks::accepted::Rows;
 use rules::Way;
+
+/// The ways of a leaf by a fault: those that name it, the others, and a way that each of the others subsumes.
+#[derive(Clone, Copy)]
+pub struct ByFault<'a> {
+    pub named: Clauses<'a>,
+    pub others: Clauses<'a>,
+    pub cover: Way,
+}
 
 /// The first way says no more than the second: the second names every fault of the first, in the same sense.
 fn subsumes(u: Way, v: Way) -> bool
     ensures { result ≡ Leaf.subsumes u v }
 {
-    if u.present & !v.present != 0 {
-        return false;
-    }
-    u.absent & !v.absent == 0
+    without(v.present, u.present) == 0 && without(v.absent, u.absent) == 0
 }
 
 /// Beside the first way the second says nothing new.
 fn outdoes(u: Way, v: Way) -> bool
     ensures { result ≡ Leaf.outdoes u v }
 {
-    if !subsumes(u, v) {
-        return false;
-    }
-    if !subsumes(v, u) {
-        return true;
-    }
-    u.number < v.number
+    subsumes(u, v) && (!subsumes(v, u) || u.number < v.number)
 }
 
-/// Some way of the table outdoes this one.
-fn outdone(present: &[u64], absent: &[u64], v: Way) -> bool
-    requires { length absent.now ≡ length present.now }
-    ensures { result ≡ Leaf.redundant (rows 0 present.now absent.now) v }
-{
-    let n = present.len();
-    let mut j: usize = 0;
-    while j < n {
-        let u = Way {
-            number: j,
-            present: present[j],
-            absent: absent[j],
-        };
-        if outdoes(u, v) {
-            return true;
+impl<'a> Clauses<'a> {
+    /// What stays of a table's ways.
+    pub fn staying_rows(rows: Rows<'a>) -> Clauses<'a>
+        ensures { Of rows.entry none_gone (minimal (all_of rows.entry)) result }
+    {
+        Clauses::whole(rows).minimal()
+    }
+
+    /// What stays of the ways: none that another one outdoes.
+    pub fn minimal(self) -> Clauses<'a>
+        ensures { Narrows self.entry (minimal (ways_of self.entry)) result }
+    {
+        self.keep(|v| !self.outdone(v))
+    }
+
+    /// Some way outdoes this one.
+    fn outdone(self, v: Way) -> bool
+        ensures { result ≡ Leaf.redundant (ways_of self.entry) v }
+    {
+        self.ways().any(|u| outdoes(u, v))
+    }
+
+    /// A way that each of the ways subsumes: it names what any of them names. A way, as the rules' `subsumes` takes two; its number does not count.
+    fn cover(self) -> Way
+        ensures { (v : Way) → In v (ways_of self.entry) → Leaf.subsumes v result ≡ true }
+    {
+        let mut present = 0;
+        let mut absent = 0;
+        for v in self.ways() {
+            present |= v.present;
+            absent |= v.absent;
         }
-        j += 1;
-    }
-    false
-}
-
-/// What stays of a table's ways.
-pub fn staying_rows(present: &[u64], absent: &[u64]) -> Clauses
-    requires present_len_bound { length present.now ≤ 128 }
-    requires absent_len { length absent.now ≡ length present.now }
-    ensures { (ways_of present.now absent.now result ≡ minimal (rows 0 present.now absent.now))
-        × InTable present.now absent.now result × (result.gone ≡ none_gone) }
-{
-    let all = whole(present, absent);
-    let gone = all.gone;
-    let mut kept = Clauses {
-        waysa: 0,
-        waysb: 0,
-        gone,
-    };
-    let mut left = all;
-    while !none_left(left) {
-        let t = taken(present, absent, left);
-        let v = t.way;
-        left = t.others;
-        if !outdone(present, absent, v) {
-            kept = with_number(kept, v.number);
+        Way {
+            number: 0,
+            present,
+            absent,
         }
     }
-    kept
-}
 
-/// The ways that this one subsumes.
-fn subsumed(present: &[u64], absent: &[u64], c: Clauses, u: Way) -> Clauses
-    requires { InTable present.now absent.now c }
-    ensures { Keeps present.now absent.now (λ v. Leaf.subsumes u v) c result }
-{
-    let gone = c.gone;
-    let mut kept = Clauses {
-        waysa: 0,
-        waysb: 0,
-        gone,
-    };
-    let mut left = c;
-    while !none_left(left) {
-        let t = taken(present, absent, left);
-        let v = t.way;
-        left = t.others;
-        if subsumes(u, v) {
-            kept = with_number(kept, v.number);
+    /// The ways by a fault, whose word is m.
+    pub fn by_fault(self, m: u64) -> ByFault<'a>
+        ensures { Divided self.entry m result }
+    {
+        let named = self.part(m);
+        let others = self.minus(named);
+        ByFault {
+            named,
+            others,
+            cover: others.cover(),
         }
     }
-    kept
-}
 
-/// A way that each of the ways subsumes: it names what any of them names.
-fn cover(present: &[u64], absent: &[u64], c: Clauses) -> Way
-    requires { InTable present.now absent.now c }
-    ensures { Covers present.now absent.now c result }
-{
-    let mut r = Way {
-        number: 0,
-        present: 0,
-        absent: 0,
-    };
-    let mut left = c;
-    while !none_left(left) {
-        let t = taken(present, absent, left);
-        let v = t.way;
-        left = t.others;
-        r.present = r.present | v.present;
-        r.absent = r.absent | v.absent;
-    }
-    r
-}
-
-/// The ways of a leaf by a fault, whose word is m.
-pub fn by_fault(present: &[u64], absent: &[u64], c: Clauses, m: u64) -> ByFault
-    requires { InTable present.now absent.now c }
-    ensures { Divided present.now absent.now c m result }
-{
-    let named = part(present, absent, c, m, true);
-    let others = minus(c, named);
-    ByFault {
-        named,
-        others,
-        cover: cover(present, absent, others),
+    // The word that is not 0 tells the sense, as for `restrict` and in the rules' `remaining`: a flag beside one word would say the same.
+    // No type of lean ways: they are read back from records, and only the lent tree, which owns no fact, knows them lean.
+    /// What stays of the ways with one fault fixed besides, present (p) or absent (q). A way that lost the fault stays. Of
+    /// those that did not name it each is left out that such a way subsumes: none, where it does not even subsume their cover.
+    pub fn staying(self, d: ByFault<'a>, p: u64, q: u64) -> Clauses<'a>
+        requires lean { Lean (ways_of self) }
+        requires divided { Divided self (bit_or p q) d }
+        requires one_fault { OneFault p q }
+        ensures { Becomes self.entry (fix_more self.entry.gone p q) (minimal (remaining p q (ways_of self.entry))) result }
+    {
+        let mut shorter = d.named.restrict(p, q);
+        let kept = d.others_beside(shorter);
+        shorter.numbers = shorter.numbers.or(kept.numbers);
+        shorter
     }
 }
 
-/// What stays of a leaf's ways with one fault fixed besides, present (p) or absent (q). A way that lost the fault stays; it leaves out
-/// what it subsumes of those that did not name it, which is nothing if it does not even subsume their cover.
-pub fn staying(present: &[u64], absent: &[u64], c: Clauses, d: ByFault, p: u64, q: u64) -> Clauses
-    requires lean { Lean (ways_of present.now absent.now c) }
-    requires divided { Divided present.now absent.now c (bit_or p q) d }
-    requires one_fault { OneFault p q }
-    ensures { (ways_of present.now absent.now result ≡ minimal (remaining p q (ways_of present.now absent.now c)))
-        × InTable present.now absent.now result × (result.gone ≡ fix_more c.gone p q) }
-{
-    let shorter = restrict(present, absent, d.named, p, q);
-    let all = d.cover;
-    let mut kept = d.others;
-    let mut left = shorter;
-    while !none_left(left) {
-        let t = taken(present, absent, left);
-        let u = t.way;
-        left = t.others;
-        if subsumes(u, all) {
-            kept = minus(kept, subsumed(present, absent, kept, u));
+impl<'a> ByFault<'a> {
+    // A loop over the shorter ways: few of them reach the `keep`, which goes over all others.
+    /// The others that none of these ways subsumes. Mostly none of them subsumes even the cover of the others, and then all are kept.
+    fn others_beside(self, shorter: Clauses<'a>) -> Clauses<'a>
+        requires { (v : Way) → In v (ways_of self.others) → Leaf.subsumes v self.cover ≡ true }
+        ensures { Narrows self.entry.others
+            (Leaf.sift (λ v. not (Leaf.any (λ u. Leaf.subsumes u v) (ways_of shorter.entry))) (ways_of self.entry.others)) result }
+    {
+        let mut kept = self.others.numbers;
+        for u in shorter.ways() {
+            if subsumes(u, self.cover) {
+                let beside = self.others.within(kept).keep(|v| !subsumes(u, v));
+                kept = beside.numbers;
+            }
         }
-    }
-    let gone = shorter.gone;
-    Clauses {
-        waysa: shorter.waysa | kept.waysa,
-        waysb: shorter.waysb | kept.waysb,
-        gone,
+        self.others.within(kept)
     }
 }

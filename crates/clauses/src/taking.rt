@@ -1,11 +1,14 @@
-//! The first way of a leaf and the others: the loops over a leaf's ways take them off one by one, in number order.
+//! The ways of a leaf, one after the other in number order, and what a way names.
 //! Rests on `rules`, Leaf, and on trailing_zeros, so that a loop's cost follows the number of its ways.
-ghost use Rattle.std.specs.Prelude.{◌≡◌, false, ◌<◌, length};
+//! What is asked of one way are free functions: in clauses and in the bodies of closures they read as the rules' definitions do.
+ghost use Rattle.std.specs.Prelude.{◌≡◌, not, ◌<◌, length};
+ghost use Rattle.std.specs.Iterator.{YieldsFirst, item_count};
 ghost use Rattle.rules.specs.Table;
 ghost use Rattle.rules.specs.Leaf;
-ghost use Rattle.clauses.specs.Leaves.{gone_word, row, none_left, InTable, Takes};
+ghost use Rattle.rules.specs.Group.{nonempty};
+ghost use Rattle.clauses.specs.Leaves.{way_at, ways_of};
 
-use super::{Clauses, Gone, Taken};
+use super::Clauses;
 use rules::Way;
 
 /// The faults that a way names, as a word.
@@ -15,11 +18,18 @@ pub fn faults(v: Way) -> u64
     v.present | v.absent
 }
 
+/// The word w without the faults of m.
+pub fn without(m: u64, w: u64) -> u64
+    ensures { result ≡ Leaf.without m w }
+{
+    w & !m
+}
+
 /// The faults that a way names besides those of the word.
 pub fn faults_besides(v: Way, m: u64) -> u64
     ensures { result ≡ Leaf.without m (Table.faults v) }
 {
-    faults(v) & !m
+    without(m, faults(v))
 }
 
 /// The way without the faults of the word.
@@ -28,50 +38,65 @@ fn dropped(m: u64, v: Way) -> Way
 {
     Way {
         number: v.number,
-        present: v.present & !m,
-        absent: v.absent & !m,
+        present: without(m, v.present),
+        absent: without(m, v.absent),
     }
 }
 
-/// The way of the table with number i, without the faults that are gone.
-fn way_at(present: &[u64], absent: &[u64], g: Gone, i: usize) -> Way
-    requires { (i < length present.now) × (i < length absent.now) }
-    ensures { result ≡ Leaf.dropped (gone_word g) (row present.now absent.now i) }
-{
-    let v = Way {
-        number: i,
-        present: present[i],
-        absent: absent[i],
-    };
-    dropped(g.present | g.absent | g.out, v)
+/// The ways of a leaf that are still to come.
+#[derive(Clone, Copy)]
+pub struct Ways<'a> {
+    left: Clauses<'a>,
 }
 
-/// No way is left.
-pub fn none_left(c: Clauses) -> bool
-    ensures { result ≡ none_left c }
-{
-    c.waysa | c.waysb == 0
+impl<'a> Iterator for Ways<'a> {
+    type Item = Way;
+
+    ghost next_gives = { YieldsFirst (λ w. ways_of w.left) };
+
+    ghost remaining = { item_count (λ w. ways_of w.left) };
+
+    // The two words are taken alike. One function over both would be handed a word and an offset and hand back a number and a word: no plainer.
+    fn next(&mut self) -> Option<Way> {
+        let low = self.left.numbers.low;
+        if low != 0 {
+            self.left.numbers.low = low & (low - 1);
+            return Some(self.left.way_at(low.trailing_zeros() as usize));
+        }
+        let high = self.left.numbers.high;
+        if high != 0 {
+            self.left.numbers.high = high & (high - 1);
+            return Some(self.left.way_at(64 + high.trailing_zeros() as usize));
+        }
+        None
+    }
 }
 
-/// Takes the first way off.
-pub fn taken(present: &[u64], absent: &[u64], c: Clauses) -> Taken
-    requires in_table { InTable present.now absent.now c }
-    requires c_value { none_left c ≡ false }
-    ensures { Takes present.now absent.now c result }
-{
-    let mut others = c;
-    if c.waysa != 0 {
-        let i = u64::trailing_zeros(c.waysa) as usize;
-        others.waysa = c.waysa & (c.waysa - 1);
-        return Taken {
-            way: way_at(present, absent, c.gone, i),
-            others,
+impl<'a> Clauses<'a> {
+    /// The ways, the lowest number first.
+    pub fn ways(self) -> Ways<'a>
+        ensures { result.left ≡ self.entry }
+    {
+        Ways { left: self }
+    }
+
+    /// There is none.
+    pub fn none_left(self) -> bool
+        ensures { result ≡ not (nonempty (ways_of self.entry)) }
+    {
+        self.numbers.is_empty()
+    }
+
+    /// The way of the table with number i, without the faults that are gone.
+    fn way_at(self, i: usize) -> Way
+        requires { i < length self.rows.present.now }
+        ensures { result ≡ way_at self.entry i }
+    {
+        let way = Way {
+            number: i,
+            present: self.rows.present[i],
+            absent: self.rows.absent[i],
         };
-    }
-    let i = 64 + u64::trailing_zeros(c.waysb) as usize;
-    others.waysb = c.waysb & (c.waysb - 1);
-    Taken {
-        way: way_at(present, absent, c.gone, i),
-        others,
+        dropped(self.gone.word(), way)
     }
 }

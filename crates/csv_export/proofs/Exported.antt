@@ -1,89 +1,74 @@
--- What an export promises, where the code finds its number: 0, and the text is written; any other, and nothing is.
--- Rests on `writer`, Over, on `rules`, First, and on `csv`, Imports.
-use mathlib.Core.Path.{◌≡◌, refl, sym, ap, ◌∙◌}
-use mathlib.Core.List.{List, [], ◌∷◌, ◌++◌}
-use Prim.Native.Nat.{ℕ, zero, suc, ◌≤◌, ◌<◌}
-use native.Mathlib.Nat.{zero-add}
-use native.Mathlib.Omega.{arith}
-use borrow.Author.Tests.{lt-ltb, le-ltb, ltb-false}
-use lib.ListN.{length, drop}
-use lib.Dec.{ltb}
-use Rattle.rules.specs.declared.WriteAnswer.{WriteAnswer}
+-- What an export promises: where a test refuses, nothing is written; where none does, the text is.
+-- Rests on Words.antt, on `writer`, Calls, on `rules`, Answering, and on `csv_text`, Imports.
+use Rattle.std.proofs.Common.{◌≡◌, ℕ, List, [], ◌∷◌, length, ltb, Result, Ok, Err, sym, ap, ◌∙◌}
+use Rattle.rules.specs.Refusals.{Test, test, first, answered}
 use Rattle.rules.specs.Answers.{write_reply}
-use Rattle.rules.specs.Refusals.{Refusal, refusal, first, way_refusals, limit_refusals}
-use Rattle.rules.specs.Sheet.{decode, read_refusals, read_number, write_answer_by, written_by}
-use Rattle.rules.proofs.First.{none-applies, first-after, first-before, first-here, first-later, first-none}
-use Rattle.writer.specs.Pieces.{Room, Wrote}
-use Rattle.writer.proofs.Over.{over-front}
-use Rattle.writer.proofs.Writing.{refused-answer, refused-space}
+use Rattle.rules.specs.Sheet.{AllBelow, decode, read_refusals, read_number, written_by}
+use Rattle.rules.specs.declared.Refusal.{Refusal}
+use Rattle.rules.proofs.Answering.{answered-passed, answered-before, first-accepted, alone}
+use Rattle.sheet.specs.Reading.{Reading}
+use Rattle.sheet.specs.declared.accepted.Sheet.{Sheet}
+use Rattle.writer.specs.declared.output.Out.{Out}
+use Rattle.writer.specs.Pieces.{written, left, Room, Wrote}
+use Rattle.writer.proofs.Calls.{refused_call, accepted_call, room_found}
 use Rattle.csv_text.specs.Texts.{csv_of}
 use Rattle.csv_text.specs.Calls.{export_refusals, export_number, export_answer, exported}
 use Rattle.csv_text.specs.Promises.{Exporting}
 use Rattle.csv_text.proofs.Imports.{export-replies}
+use Rattle.csv_export.specs.Parts.{sheet_text}
+use Rattle.csv_export.proofs.Words.{text_parts}
 
--- ---- the number
+module _ (bs before : List ℕ) where
+  abbrev text : List ℕ
+  text = csv_of (decode bs)
 
--- 22, which an export tries last.
-abbrev of_space : List ℕ → ℕ → Refusal
-of_space bs n = refusal 22 (ltb n (length (csv_of (decode bs))))
+  abbrev tests : List Test
+  tests = export_refusals bs (length before)
 
--- A refused sheet keeps its number.
-pub sheet-refused : (bs : List ℕ) (n k : ℕ) → k ≡ read_number bs → (k ≡ 0 → ⊥) → k ≡ export_number bs n
-unfolding export_number export_refusals read_number
-sheet-refused bs n zero e h = absurd (h refl)
-sheet-refused bs n (suc k) e h = sym (first-before (read_refusals bs) (of_space bs n ∷ []) k (sym e))
+  -- 22, which is tried last.
+  abbrev of_space : List Test
+  of_space = test Refusal.NoRoom (ltb (length before) (length text)) ∷ []
 
--- An accepted one has 22 or none.
-sheet-kept : (bs : List ℕ) (n : ℕ) → read_number bs ≡ 0 → export_number bs n ≡ first (of_space bs n ∷ [])
-unfolding export_number export_refusals read_number read_refusals way_refusals limit_refusals
-sheet-kept bs n h = first-after (read_refusals bs) (of_space bs n ∷ []) (none-applies (read_refusals bs) refl h)
+  -- The answer settles the reply.
+  promised : (after : List ℕ) (r : Result ℕ Refusal) → (r ≡ answered tests (length text)) × (after ≡ written_by (first tests) text before)
+      → Exporting bs before after r
+  unfolding export_answer export_number exported
+  promised after r p = record { answer = p.0; reply = ap write_reply p.0 ∙ export-replies bs (length before); space = p.1 }
 
--- 22, if the text is longer than the space.
-pub space-short : (bs : List ℕ) (n : ℕ) → read_number bs ≡ 0 → n < length (csv_of (decode bs)) → 22 ≡ export_number bs n
-space-short bs n h l = sym (sheet-kept bs n h ∙ first-here (of_space bs n) [] (lt-ltb n _ l))
+  -- A test of reading refuses: nothing is written.
+  pub refused_sheet : (e : Refusal) → Reading bs (Err e) → (r : Result ℕ Refusal) → r ≡ Err e → Exporting bs before before r
+  unfolding export_refusals
+  refused_sheet e read r handed =
+      promised before r (refused_call tests text before e (answered-before (read_refusals bs) of_space tt tt e (sym read.answer)) handed)
 
--- None, if it is not.
-pub space-enough : (bs : List ℕ) (n : ℕ) → read_number bs ≡ 0 → length (csv_of (decode bs)) ≤ n → 0 ≡ export_number bs n
-space-enough bs n h l = sym (sheet-kept bs n h ∙ first-later (of_space bs n) [] (le-ltb n _ l) ∙ first-none)
+  module _ {s : Sheet} (read : Reading bs (Ok s)) (below : AllBelow 256 bs) {long : ℕ} (counted : long ≡ length (sheet_text s.bytes.now))
+      {w : Result (Unit {0}) Refusal} (tested : w ≡ answered (test Refusal.NoRoom (ltb (length before) long) ∷ []) tt) where
+    accepted : read_number bs ≡ 0
+    unfolding read_number
+    accepted = first-accepted (read_refusals bs) tt tt (sym read.answer)
 
--- ---- what is promised
+    -- What is written is the text.
+    whole : sheet_text s.bytes.now ≡ text
+    whole = ap sheet_text read.same ∙ sym (text_parts bs below accepted)
 
--- An answer and a space by the definitions are what is promised.
-promised : (bs before after : List ℕ) (r : WriteAnswer) → r ≡ export_answer bs (length before) → after ≡ exported bs before → Exporting bs before after r
-unfolding export_answer
-promised bs before after r e s =
-    record { answer = e; reply = ap write_reply e ∙ export-replies bs (length before); space = s }
+    found : answered {A = Unit {0}} tests tt ≡ w
+    unfolding export_refusals
+    found =
+        answered-passed (read_refusals bs) of_space tt tt tt (sym read.answer)
+        ∙ sym (alone (test Refusal.NoRoom (ltb (length before) (length text))) _ (ap (ltb (length before)) (counted ∙ ap length whole)) w tested)
 
-module _ (bs space : List ℕ) (kept : export_number bs (length space) ≡ 0) where
-  -- The sheet is accepted.
-  sheet_accepted : read_number bs ≡ 0
-  sheet_accepted = split (read_number bs) refl
-    where
-      split : (k : ℕ) → read_number bs ≡ k → read_number bs ≡ 0
-      split zero e = e
-      split (suc k) e = absurd (omega (arith, kept, sheet-refused bs (length space) (suc k) (sym e) (λ z. omega arith)))
+    -- That of the space refuses: nothing is written.
+    pub refused_space : (e : Refusal) → w ≡ Err e → (r : Result ℕ Refusal) → r ≡ Err e → Exporting bs before before r
+    refused_space e refused r handed = promised before r (refused_call tests text before e (found ∙ refused) handed)
 
-  -- What writing the text asks for.
-  pub may_write : (read_number bs ≡ 0) × Room space 0 (csv_of (decode bs))
-  may_write =
-      let none = none-applies (of_space bs (length space) ∷ []) refl (sym (sheet-kept bs (length space) sheet_accepted) ∙ kept) in
-      let fits : length (csv_of (decode bs)) ≤ length space = ltb-false (length space) _ none.0 in
-      (sheet_accepted, record { fits = rw zero-add fits })
+    module _ (passed : w ≡ Ok tt) {start : Out} (fresh : written start ≡ []) (all : left start ≡ before) where
+      -- None does: there is room for the text.
+      pub room : Room start (sheet_text s.bytes.now)
+      unfolding export_refusals
+      room = record { fits = rw (whole, all) (room_found (read_refusals bs) (length before) (length text) (found ∙ passed)).1 }
 
-  -- Once it is written, the promise is kept.
-  pub wrote_text : {new : List ℕ} {end : ℕ} → Wrote space 0 (csv_of (decode bs)) new end → Exporting bs space new (WriteAnswer.Written end)
-  unfolding export_answer write_answer_by exported written_by
-  wrote_text {new} {end} w =
-      let out : List ℕ = csv_of (decode bs) in
-      let counted : end ≡ length out = w.ends ∙ zero-add (length out) in
-      let front : new ≡ out ++ drop (length out) space = w.holds ∙ over-front space out in
-      promised bs space new (WriteAnswer.Written end) (rw kept (ap WriteAnswer.Written counted)) (rw kept front)
-
--- Where nothing is written, the promise is kept.
-pub wrote_nothing : (bs space : List ℕ) {n : ℕ} → n ≡ export_number bs (length space) → (n ≡ 0 → ⊥) → Exporting bs space space (WriteAnswer.Refused n)
-unfolding export_answer exported
-wrote_nothing bs space {n} e h =
-    let out : List ℕ = csv_of (decode bs) in
-    promised bs space space (WriteAnswer.Refused n)
-    (sym (refused-answer n (length out) h) ∙ ap (λ (k : ℕ). write_answer_by k (length out)) e)
-    (sym (refused-space n out space h) ∙ ap (λ (k : ℕ). written_by k out space) e)
+      -- Once it is written, the promise is kept.
+      pub wrote_text : {end : Out} → Wrote start (sheet_text s.bytes.now) end → (after : List ℕ) → after ≡ end.space.now
+          → (n : ℕ) → n ≡ length (written end) → Exporting bs before after (Ok n)
+      wrote_text {end} v after held n count =
+          promised after (Ok n) (accepted_call tests text before (found ∙ passed) {start = start} {end = end} fresh all (rw whole at v) after held n count)

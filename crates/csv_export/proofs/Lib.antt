@@ -1,11 +1,10 @@
 -- Laws on plain lists and numbers that the functions' proofs rest on.
--- Putting.antt: bytes and faults written one behind the other. Naming.antt: the faults of a way, by the set bits of its words.
--- Records.antt: the records of ways and cues. Words.antt: what a word names of 64 faults is all that it names. Measured.antt: how long the parts are.
--- Cues.antt: the cues of an accepted sheet, one by one. Exported.antt: what a call promises.
-mod Putting
+-- Faults.antt: one fault. Naming.antt: the faults that two words name. Records.antt: the records as they are written. Measured.antt: how long they are.
+-- Entries.antt: the entries of an accepted sheet. Words.antt: its text is that of its parts. Exported.antt: what an export promises.
+mod Faults
 mod Naming
 mod Records
-mod Words
 mod Measured
-mod Cues
+mod Entries
+mod Words
 mod Exported

@@ -1,69 +1,80 @@
--- The records of ways and of cues as the bytes that are written for them.
--- Rests on the definitions of Parts, and on `sheet`, Entries, for the words of an entry.
-use mathlib.Core.Path.{◌≡◌, refl, sym, ap, ◌∙◌}
-use mathlib.Core.List.{List, [], ◌∷◌, ◌++◌, append-nil, append_assoc, map}
-use Prim.Native.Nat.{ℕ, ◌+◌, ◌*◌, ◌<◌}
-use native.Mathlib.Numerals.{add-one}
-use native.Mathlib.Omega.{arith}
-use lib.ListN.{length, get_or, drop}
-use lib.Seq.{drop-cons}
-use Rattle.rules.specs.Sheet.{field, column}
-use Rattle.rules.specs.Text.{decimal}
-use Rattle.rules.proofs.Bytes.{length-column}
-use Rattle.sheet.proofs.Entries.{column_get_d}
-use Rattle.csv_text.specs.Texts.{way_record, way_records, or_alone, further_fields, record_text, rendered}
-use Rattle.csv_export.specs.Parts.{faults_text, way_text, ways_text, cue_text}
+-- The records of a text, piece by piece as they are written.
+-- Rests on the definitions of Parts.
+use Rattle.std.proofs.Common.{◌≡◌, ℕ, List, [], ◌∷◌, ◌++◌, map, length, drop, flat_map, refl, sym, ap, ◌∙◌, append_assoc, append-nil}
+use Rattle.rules.specs.declared.Limits.{Limits}
+use Rattle.rules.specs.Text.{bytes, decimal}
+use Rattle.rules.specs.declared.Entry.{Entry}
+use Rattle.sheet.specs.Parts.{parts, words}
+use Rattle.rules.specs.declared.Words.{Words}
+use Rattle.sheet.proofs.Stated.{length_parts}
+use Rattle.csv_text.specs.Texts.{run_record, weights_record, way_record, way_records, or_alone, record_text, rendered, further_fields}
+use Rattle.csv_export.specs.Parts.{ended, faults_text, way_text, ways_of, cue_text, entry_text}
 
--- What is left at i: the way at i comes first.
-next_way : (d ps qs : List ℕ) (i : ℕ) → i < length ps → length qs ≡ length ps
-    → ways_text d (drop i ps) (drop i qs) ≡ way_text d (get_or ps i 0) (get_or qs i 0) ++ ways_text d (drop (i + 1) ps) (drop (i + 1) qs)
-unfolding ways_text
-next_way d ps qs i h e = rw (add-one, drop-cons ps i 0 h, drop-cons qs i 0 (omega arith))
+-- ---- the records in front of the cues
 
--- The same where the words stand in the bytes of a sheet, present and absent each in a column.
-pub next_row : (d bs : List ℕ) (p q n i : ℕ) {x y : ℕ} → i < n → x ≡ field 8 (p + 16 * i) bs → y ≡ field 8 (q + 16 * i) bs
-    → ways_text d (drop i (column 8 16 p n bs)) (drop i (column 8 16 q n bs))
-    ≡ way_text d x y ++ ways_text d (drop (i + 1) (column 8 16 p n bs)) (drop (i + 1) (column 8 16 q n bs))
-next_row d bs p q n i h x y =
-    let long : (at : ℕ) → length (column 8 16 at n bs) ≡ n = λ at. length-column 8 16 at n bs in
-    next_way d (column 8 16 p n bs) (column 8 16 q n bs) i (omega (arith, long p)) (long q ∙ sym (long p))
-    ∙ rw (column_get_d 8 16 bs p n i h, column_get_d 8 16 bs q n i h, x, y) refl
+-- The limits.
+pub limits_bytes : (m : Limits) → ended (run_record m) ≡ (114 ∷ 117 ∷ 110 ∷ []) ++ (44 ∷ decimal m.allowance) ++ (44 ∷ decimal m.budget) ++ 13 ∷ 10 ∷ []
+unfolding ended run_record record_text further_fields bytes
+limits_bytes m = rw append-nil (ap (λ (t : List ℕ). t ++ 13 ∷ 10 ∷ []) (sym (append_assoc (bytes "run") (44 ∷ decimal m.allowance) (44 ∷ decimal m.budget))))
 
--- Likewise the weight at i.
-pub next-weight : (ws : List ℕ) (i : ℕ) → i < length ws
-    → further_fields (map decimal (drop i ws)) ≡ (44 ∷ decimal (get_or ws i 0)) ++ further_fields (map decimal (drop (i + 1) ws))
+-- The fields of weights, and the end of their record.
+abbrev pub fields_ended : List ℕ → List ℕ
+fields_ended ws = further_fields (map decimal ws) ++ 13 ∷ 10 ∷ []
+
+-- The weights.
+pub weights_bytes : (ws : List ℕ) → ended (weights_record ws) ≡ bytes "weights" ++ fields_ended ws
+unfolding ended weights_record record_text
+weights_bytes ws = append_assoc (bytes "weights") (further_fields (map decimal ws)) (13 ∷ 10 ∷ [])
+
+-- The field of the first weight.
+pub first_field : {ws rest : List ℕ} {w : ℕ} → ws ≡ w ∷ rest → fields_ended ws ≡ (44 ∷ decimal w) ++ fields_ended rest
 unfolding further_fields
-next-weight ws i h = rw (add-one, drop-cons ws i 0 h)
+first_field {rest = rest} {w = w} e = rw e (append_assoc (44 ∷ decimal w) (further_fields (map decimal rest)) (13 ∷ 10 ∷ []))
 
--- Without weights there are no fields.
-pub no-weights : {ws : List ℕ} → ws ≡ [] → further_fields (map decimal ws) ≡ []
+-- No weights are left.
+pub no_fields : {ws : List ℕ} → ws ≡ [] → fields_ended ws ≡ 13 ∷ 10 ∷ []
 unfolding further_fields
-no-weights e = rw e refl
+no_fields e = rw e refl
 
--- Without words there are no ways.
-pub no-ways : (d qs : List ℕ) {ps : List ℕ} → ps ≡ [] → ways_text d ps qs ≡ []
-unfolding ways_text
-no-ways d qs e = rw e refl
+-- ---- the records of cues
+
+-- Records behind others.
+pub rendered-both : (rs ts : List (List (List ℕ))) → rendered (rs ++ ts) ≡ rendered rs ++ rendered ts
+unfolding rendered
+rendered-both [] ts = refl
+rendered-both (r ∷ rs) ts =
+    ap (λ (x : List ℕ). record_text r ++ 13 ∷ 10 ∷ x) (rendered-both rs ts) ∙ sym (append_assoc (record_text r) (13 ∷ 10 ∷ rendered rs) (rendered ts))
 
 module _ (c : ℕ) where
   -- The ways of a cue.
-  ways-text : (ps qs : List ℕ) → rendered (way_records 64 c ps qs) ≡ ways_text (decimal c) ps qs
-  unfolding way_records way_record rendered record_text ways_text way_text faults_text
-  ways-text [] qs = refl
-  ways-text (p ∷ ps) [] = refl
-  ways-text (p ∷ ps) (q ∷ qs) =
-      let record_of : List ℕ = decimal c ++ faults_text p q in
-      ap (λ (t : List ℕ). record_of ++ 13 ∷ 10 ∷ t) (ways-text ps qs) ∙ sym (append_assoc record_of (13 ∷ 10 ∷ []) (ways_text (decimal c) ps qs))
+  ways-text : (ws : List Words) → rendered (way_records 64 c (map (λ w. w.present) ws) (map (λ w. w.absent) ws)) ≡ flat_map (way_text (decimal c)) ws
+  unfolding way_records way_record rendered record_text way_text faults_text
+  ways-text [] = refl
+  ways-text (w ∷ ws) =
+      let record_of : List ℕ = decimal c ++ faults_text w in
+      ap (λ (t : List ℕ). record_of ++ 13 ∷ 10 ∷ t) (ways-text ws)
+      ∙ sym (append_assoc record_of (13 ∷ 10 ∷ []) (flat_map (way_text (decimal c)) ws))
 
-  -- A cue without ways: its number alone.
-  pub cue_alone : (ps qs : List ℕ) → length ps ≡ 0 → cue_text c ps qs ≡ decimal c ++ 13 ∷ 10 ∷ []
-  unfolding cue_text or_alone way_records rendered record_text further_fields
-  cue_alone [] qs h = ap (λ (t : List ℕ). t ++ 13 ∷ 10 ∷ []) (append-nil (decimal c))
-  cue_alone (p ∷ ps) qs h = absurd (omega arith)
-
-  -- A cue with ways: their records.
-  pub cue_ways : (ps qs : List ℕ) → (length ps ≡ 0 → ⊥) → length qs ≡ length ps → cue_text c ps qs ≡ ways_text (decimal c) ps qs
+  -- Of a cue with ways.
+  cue_ways : (ws : List Words) → (length ws ≡ 0 → ⊥) → cue_text c ws ≡ flat_map (way_text (decimal c)) ws
   unfolding cue_text or_alone way_records
-  cue_ways [] qs h e = absurd (h refl)
-  cue_ways (p ∷ ps) [] h e = absurd (omega arith)
-  cue_ways (p ∷ ps) (q ∷ qs) h e = ways-text (p ∷ ps) (q ∷ qs)
+  cue_ways [] h = absurd (h refl)
+  cue_ways (w ∷ ws) h = ways-text (w ∷ ws)
+
+module _ (bs : List ℕ) (e : Entry) where
+  -- An entry without ways: its number alone.
+  pub entry_alone : e.ways ≡ 0 → entry_text bs e ≡ decimal e.cue ++ 13 ∷ 10 ∷ []
+  unfolding cue_text or_alone way_records rendered record_text further_fields parts
+  entry_alone z = rw z (ap (λ (t : List ℕ). t ++ 13 ∷ 10 ∷ []) (append-nil (decimal e.cue)))
+
+  -- An entry with ways: their records.
+  pub entry_ways : (e.ways ≡ 0 → ⊥) → entry_text bs e ≡ flat_map (way_text (decimal e.cue)) (ways_of bs e)
+  entry_ways some = cue_ways e.cue (ways_of bs e) (λ z. some (sym (length_parts words 16 e.ways (drop e.start bs)) ∙ z))
+
+-- The first of pieces, and the others.
+pub first_piece : {A : Type 0} (f : A → List ℕ) {xs rest : List A} {x : A} → xs ≡ x ∷ rest → flat_map f xs ≡ f x ++ flat_map f rest
+first_piece f e = rw e refl
+
+-- No pieces are left.
+pub no_pieces : {A : Type 0} (f : A → List ℕ) {xs : List A} → xs ≡ [] → flat_map f xs ≡ []
+no_pieces f e = rw e refl

@@ -1,31 +1,30 @@
 -- In an accepted sheet every word names faults of the sheet alone, so that the faults which it names of 64 are those which it names of the sheet's:
--- the text of the sheet is the text of the parts that are written.
--- Rests on `rules`, Accepted and CueTables, and on Naming.antt.
-use mathlib.Core.Path.{◌≡◌, refl, sym, ap, ap₂, ◌∙◌}
-use mathlib.Core.Bool.{true, false, ◌||◌}
+-- the text of the sheet is that of its parts.
+-- Rests on `rules`, Accepted and CueTables, and on Entries.antt, Naming.antt and Records.antt.
 use mathlib.Core.List.Memᴰ
-use mathlib.Core.List.{List, [], ◌∷◌, ◌++◌, append-nil, append_assoc, map}
-use Prim.Native.Nat.{ℕ, zero, suc, ◌/◌, ◌^◌, ◌<◌, ◌≤◌}
-use native.Mathlib.Nat.{pow-suc}
-use native.Mathlib.Omega.{arith}
-use lib.ListN.{length}
-use lib.Dec.{leb}
-use borrow.Author.Tests.{leb-false}
+use Rattle.std.proofs.Common.{◌≡◌, ℕ, zero, suc, ◌/◌, ◌^◌, ◌<◌, ◌≤◌, true, false, ◌||◌, leb, refl, sym, ap, ap₂, ◌∙◌, arith}
+use Rattle.std.proofs.Common.{List, [], ◌∷◌, ◌++◌, map, length, flat_map, append_assoc}
+use Rattle.std.proofs.lemmas.Bool.{leb-false}
+use Rattle.std.proofs.Math.Nat.{pow-suc}
 use Rattle.rules.specs.Members.{In}
 use Rattle.rules.specs.Table.{odd, rows, ways}
 use Rattle.rules.specs.Leaf.{any}
 use Rattle.rules.specs.Refusals.{names_beyond, Accepted}
-use Rattle.rules.specs.Sheet.{AllBelow, Cue, Sheet, table_of, read_number, decode}
-use Rattle.rules.specs.Text.{bytes, decimal}
+use Rattle.rules.specs.Sheet.{AllBelow, Cue, table_of, lists_in, sheet_of, read_number, decode}
+use Rattle.rules.specs.Text.{decimal}
+use Rattle.rules.specs.declared.Entry.{Entry}
 use Rattle.rules.proofs.Accepted.{paired_words, inside}
 use Rattle.rules.proofs.Booleans.{or_split}
 use Rattle.rules.proofs.CueTables.{read-cue-accepted}
 use Rattle.rules.proofs.Sheets.{within_decoded}
+use Rattle.sheet.specs.Reading.{entries_in}
 use Rattle.csv_text.specs.declared.Fault.{Fault}
 use Rattle.csv_text.specs.Texts.{mark, fault_text, faults_from, or_zero, way_record, way_records, or_alone, cue_records}
-use Rattle.csv_text.specs.Texts.{run_record, weights_record, sheet_records, further_fields, record_text, rendered, csv_of}
-use Rattle.csv_export.specs.Parts.{front_text, cues_text, whole_text}
+use Rattle.csv_text.specs.Texts.{run_record, weights_record, sheet_records, record_text, rendered, csv_of}
+use Rattle.csv_export.specs.Parts.{ended, cue_text, entry_text, entries_text, sheet_text}
+use Rattle.csv_export.proofs.Entries.{cue_of, entry_cues}
 use Rattle.csv_export.proofs.Naming.{none_named}
+use Rattle.csv_export.proofs.Records.{rendered-both}
 
 -- Words below 2 ^ n name no fault beyond the first n.
 beyond-none : (i n m p q : ℕ) → n ≤ m → p < 2 ^ n → q < 2 ^ n → faults_from i n p q ≡ faults_from i m p q
@@ -61,7 +60,8 @@ words-below n i (p ∷ ps) (q ∷ qs) e h =
     ((leb-false (2 ^ n) p both.0, rest.0), (leb-false (2 ^ n) q both.1, rest.1))
 
 -- The records of cues whose tables are accepted.
-cues-same : (ws : List ℕ) → length ws ≤ 64 → (cs : List Cue) → ((c : Cue) → In c cs → Accepted (table_of ws c)) → cue_records (length ws) cs ≡ cue_records 64 cs
+cues-same : (ws : List ℕ) → length ws ≤ 64 → (cs : List Cue) → ((c : Cue) → In c cs → Accepted (table_of ws c))
+    → cue_records (length ws) cs ≡ cue_records 64 cs
 unfolding cue_records ways
 cues-same ws h [] ok = refl
 cues-same ws h (c ∷ cs) ok =
@@ -71,20 +71,30 @@ cues-same ws h (c ∷ cs) ok =
     (ways-same (length ws) c.number h c.present c.absent below.0 below.1)
     (cues-same ws h cs (λ d m. ok d (Memᴰ.tail m)))
 
--- The two records in front, and the others.
-whole_parts : (s : Sheet) → rendered (run_record s.limits ∷ weights_record s.weights ∷ cue_records 64 s.cues) ≡ whole_text s
-unfolding whole_text front_text cues_text rendered record_text run_record weights_record further_fields
-whole_parts s =
-    let a : List ℕ = decimal s.limits.allowance in
-    let b : List ℕ = 44 ∷ decimal s.limits.budget in
-    let rest : List ℕ = 13 ∷ 10 ∷ (bytes "weights" ++ (further_fields (map decimal s.weights) ++ 13 ∷ 10 ∷ rendered (cue_records 64 s.cues))) in
-    simp (append_assoc, append-nil) (ap (λ (t : List ℕ). bytes "run" ++ 44 ∷ t) (append_assoc a b rest))
+-- ---- the text
 
--- THE TEXT of an accepted sheet is the whole of the parts.
-pub text-whole : (bs : List ℕ) → AllBelow 256 bs → read_number bs ≡ 0 → csv_of (decode bs) ≡ whole_text (decode bs)
-unfolding csv_of sheet_records
-text-whole bs h accepted =
+-- A record in front of others.
+rendered-ended : (r : List (List ℕ)) (rs : List (List (List ℕ))) → rendered (r ∷ rs) ≡ ended r ++ rendered rs
+unfolding rendered ended
+rendered-ended r rs = sym (append_assoc (record_text r) (13 ∷ 10 ∷ []) (rendered rs))
+
+-- The records of cues, one cue after the other.
+cues_each : (bs : List ℕ) (es : List Entry) → rendered (cue_records 64 (map (cue_of bs) es)) ≡ flat_map (entry_text bs) es
+unfolding cue_text cue_records rendered
+cues_each bs [] = refl
+cues_each bs (e ∷ es) =
+    let c = cue_of bs e in
+    rendered-both (or_alone c.number (way_records 64 c.number c.present c.absent)) (cue_records 64 (map (cue_of bs) es))
+    ∙ ap (λ t. entry_text bs e ++ t) (cues_each bs es)
+
+-- THE TEXT of an accepted sheet is that of its parts.
+pub text_parts : (bs : List ℕ) → AllBelow 256 bs → read_number bs ≡ 0 → csv_of (decode bs) ≡ sheet_text bs
+unfolding csv_of sheet_records decode sheet_of lists_in
+text_parts bs h accepted =
     let s = decode bs in
-    ap (λ (r : List (List (List ℕ))). rendered (run_record s.limits ∷ weights_record s.weights ∷ r))
-    (cues-same s.weights (within_decoded bs h accepted).few_faults s.cues (read-cue-accepted bs h accepted))
-    ∙ whole_parts s
+    let cues = cues-same s.weights (within_decoded bs h accepted).few_faults s.cues (read-cue-accepted bs h accepted) in
+    ap (λ r. rendered (run_record s.limits ∷ weights_record s.weights ∷ r)) (cues ∙ ap (cue_records 64) (entry_cues bs accepted))
+    ∙ rendered-ended (run_record s.limits) (weights_record s.weights ∷ cue_records 64 (map (cue_of bs) (entries_in bs)))
+    ∙ ap (λ t. ended (run_record s.limits) ++ t) (rendered-ended (weights_record s.weights) (cue_records 64 (map (cue_of bs) (entries_in bs))))
+    ∙ ap (λ t. ended (run_record s.limits) ++ (ended (weights_record s.weights) ++ t)) (cues_each bs (entries_in bs))
+    ∙ sym (append_assoc (ended (run_record s.limits)) (ended (weights_record s.weights)) (entries_text bs))

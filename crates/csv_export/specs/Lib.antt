@@ -1,3 +1,3 @@
--- What the contracts of this crate cite besides the definitions of `csv`.
+-- What the contracts of this crate cite besides the definitions of `csv_text`.
 -- Rests on those.
 pub mod Parts

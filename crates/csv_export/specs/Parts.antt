@@ -1,64 +1,52 @@
 -- The text of a sheet in the parts that are written one behind the other.
 -- A word has 64 bits, so what it names of 64 faults is all that it names: in an accepted sheet, the faults of the sheet (proofs/Words.antt).
--- Rests on `csv`, Texts, and on `rules`, Sheet, for where a word stands.
-use Rattle.std.specs.Prelude.{Bool, true, false, List, [], ◌∷◌, ◌++◌, map, ℕ, ◌+◌}
-use Rattle.rules.specs.Table.{bit}
-use Rattle.rules.specs.Sheet.{Cue, Sheet, column}
+-- Rests on `csv_text`, Texts, and on `sheet`, Parts, for the ways of an entry.
+use Rattle.std.specs.Prelude.{◌≡◌, bit_and, Bool, true, false, List, [], ◌∷◌, ◌++◌, map, ℕ}
+use Rattle.std.specs.List.{flat_map}
+use Rattle.rules.specs.Sheet.{limits_in, weights_in}
 use Rattle.rules.specs.declared.Entry.{Entry}
-use Rattle.rules.specs.declared.Limits.{Limits}
-use Rattle.rules.specs.Text.{bytes, decimal}
-use Rattle.csv_text.specs.declared.Fault.{Fault}
-use Rattle.csv_text.specs.Texts.{fault_text, mark, faults_from, or_zero, way_records, or_alone, cue_records, further_fields, rendered}
+use Rattle.sheet.specs.Parts.{words_in}
+use Rattle.sheet.specs.Reading.{entries_in}
+use Rattle.rules.specs.declared.Words.{Words}
+use Rattle.csv_text.specs.Texts.{fault_text, faults_from, or_zero, way_records, or_alone, further_fields, run_record, weights_record, record_text, rendered}
 
--- A comma and a fault, if a test says so.
-unfoldable pub named_text : Bool → Fault → List ℕ
-named_text b f = further_fields (map fault_text (mark b f []))
+-- A way names no fault in both senses.
+abbrev pub Apart : Words → Type 0
+Apart w = bit_and w.present w.absent ≡ 0
 
--- What two words name at place i.
-unfoldable pub place_text : ℕ → ℕ → ℕ → List ℕ
-place_text i p q = named_text (bit i p) (record { place = i; absent = false }) ++ named_text (bit i q) (record { place = i; absent = true })
+-- What stands before the digits of a fault.
+abbrev pub before : Bool → List ℕ
+before true = 44 ∷ 45 ∷ []
+before false = 44 ∷ []
 
 -- What stands behind the cue in the record of a way.
-unfoldable pub faults_text : ℕ → ℕ → List ℕ
-faults_text p q = further_fields (or_zero (map fault_text (faults_from 0 64 p q)))
+unfoldable pub faults_text : Words → List ℕ
+faults_text w = further_fields (or_zero (map fault_text (faults_from 0 64 w.present w.absent)))
 
 -- The record of a way behind the digits of its cue, with its end.
-unfoldable pub way_text : List ℕ → ℕ → ℕ → List ℕ
-way_text d p q = d ++ faults_text p q ++ 13 ∷ 10 ∷ []
+unfoldable pub way_text : List ℕ → Words → List ℕ
+way_text d w = d ++ faults_text w ++ 13 ∷ 10 ∷ []
 
--- Those of the ways of a cue, one behind the other.
-unfoldable pub ways_text : List ℕ → List ℕ → List ℕ → List ℕ
-ways_text d [] qs = []
-ways_text d (p ∷ ps) [] = []
-ways_text d (p ∷ ps) (q ∷ qs) = way_text d p q ++ ways_text d ps qs
+-- The ways of an entry, as they stand in the bytes of a sheet.
+abbrev pub ways_of : List ℕ → Entry → List Words
+ways_of bs e = words_in e.start e.ways bs
 
 -- The records of a cue.
-unfoldable pub cue_text : ℕ → List ℕ → List ℕ → List ℕ
-cue_text c ps qs = rendered (or_alone c (way_records 64 c ps qs))
+unfoldable pub cue_text : ℕ → List Words → List ℕ
+cue_text c ws = rendered (or_alone c (way_records 64 c (map (λ w. w.present) ws) (map (λ w. w.absent) ws)))
 
--- The present words of an entry, which stand in the bytes of a sheet.
-abbrev pub present_at : List ℕ → Entry → List ℕ
-present_at bs e = column 8 16 e.start e.ways bs
-
--- Its absent words.
-abbrev pub absent_at : List ℕ → Entry → List ℕ
-absent_at bs e = column 8 16 (e.start + 8) e.ways bs
-
--- Its records.
+-- Those of an entry.
 abbrev pub entry_text : List ℕ → Entry → List ℕ
-entry_text bs e = cue_text e.cue (present_at bs e) (absent_at bs e)
+entry_text bs e = cue_text e.cue (ways_of bs e)
 
--- The records of all cues.
-unfoldable pub cues_text : List Cue → List ℕ
-cues_text cs = rendered (cue_records 64 cs)
+-- Those of all entries.
+abbrev pub entries_text : List ℕ → List ℕ
+entries_text bs = flat_map (entry_text bs) (entries_in bs)
 
--- The two records in front of them, field by field.
-unfoldable pub front_text : Limits → List ℕ → List ℕ
-front_text m ws =
-    bytes "run"
-    ++ ((44 ∷ decimal m.allowance)
-    ++ ((44 ∷ decimal m.budget) ++ ((13 ∷ 10 ∷ bytes "weights") ++ (further_fields (map decimal ws) ++ (13 ∷ 10 ∷ [])))))
+-- A record with its end.
+unfoldable pub ended : List (List ℕ) → List ℕ
+ended r = record_text r ++ 13 ∷ 10 ∷ []
 
 -- The whole.
-unfoldable pub whole_text : Sheet → List ℕ
-whole_text s = front_text s.limits s.weights ++ cues_text s.cues
+abbrev pub sheet_text : List ℕ → List ℕ
+sheet_text bs = ended (run_record (limits_in bs)) ++ ended (weights_record (weights_in bs)) ++ entries_text bs

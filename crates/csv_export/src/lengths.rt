@@ -1,108 +1,94 @@
 //! How long the text of a sheet is, measured before anything is written. Each length comes with a bound, so that no sum can wrap.
-//! Rests on the definitions of Parts and on `csv`, Texts.
-ghost use Rattle.std.specs.Prelude.{◌≡◌, ◌∷◌, map, ◌≤◌, length};
-ghost use Rattle.rules.specs.Sheet.{read_number, decode};
+//! What measures a piece stands apart from what writes it, and no trait has both: a way is measured by counting the bits of its words and written
+//! fault by fault, and a trait would want a struct for each piece, to hold what writing it asks for. It would be no plainer.
+//! The sums are loops. Tried as `map` and `sum` for the weights: the proof does not close, for what `sum` tells does not hand on the pieces' bounds.
+//! Rests on the definitions of Parts and on `csv_text`, Texts.
+ghost use Rattle.std.specs.Prelude.{◌≡◌, ◌∷◌, ◌+◌, ◌*◌, ◌≤◌, length};
 ghost use Rattle.rules.specs.Text.{decimal};
-ghost use Rattle.csv_text.specs.Texts.{further_fields, csv_of};
-ghost use Rattle.csv_export.specs.Parts.{faults_text, entry_text, cues_text, front_text};
+ghost use Rattle.csv_text.specs.Texts.{run_record, weights_record};
+ghost use Rattle.csv_export.specs.Parts.{faults_text, entry_text, ended, entries_text, sheet_text};
 
-use super::entries::stated_entry;
 use decimal::digits_of;
-use rules::{Entry, Limits};
-use sheet::arrays::{at_most, weights};
-use sheet::fields::u64_at;
-use sheet::head::{cues_in, faults_in, limits_in};
+use rules::{Entry, Limits, Words};
+use sheet::accepted::Sheet;
+use sheet::parts::Parts;
 
 /// A comma and a number.
-fn field_length(n: u64) -> usize
-    ensures { (result ≡ length (44 ∷ decimal n)) × (result ≤ 21) }
+fn field_length(number: u64) -> usize
+    ensures value { result ≡ length (44 ∷ decimal number) }
+    ensures most { result ≤ 21 }
 {
-    let d = digits_of(n);
-    21 - d.from
+    1 + digits_of(number).len()
 }
 
 /// What stands behind the cue: a comma before each fault, a minus before one that is absent,
 /// and one digit for each of the first nine faults, two for any other.
-fn faults_length(present: u64, absent: u64) -> usize
-    ensures { (result ≡ length (faults_text present absent)) × (result ≤ 448) }
+fn faults_length(way: Words) -> usize
+    ensures value { result ≡ length (faults_text way) }
+    ensures most { result ≤ 448 }
 {
-    if (present | absent) == 0 {
+    if (way.present | way.absent) == 0 {
         return 2;
     }
-    let p = 2 * u64::count_ones(present) + u64::count_ones(present / 512);
-    let q = 3 * u64::count_ones(absent) + u64::count_ones(absent / 512);
-    (p + q) as usize
+    let present = 2 * way.present.count_ones() + (way.present >> 9).count_ones();
+    let absent = 3 * way.absent.count_ones() + (way.absent >> 9).count_ones();
+    (present + absent) as usize
 }
 
-/// The records of an entry, each word read where it stands.
-fn cue_length(s: &[u8], e: Entry) -> usize
-    requires { e.ways ≤ 128 }
-    ensures { (result ≡ length (entry_text s.now e)) × (result ≤ 60160) }
+/// The records of an entry.
+fn entry_length(sheet: Sheet<'_>, entry: Entry) -> usize
+    ensures value { result ≡ length (entry_text sheet.entry.bytes.now entry) }
+    ensures most { result ≤ 470 * 65535 }
 {
-    let d = digits_of(e.cue as u64);
-    let ends = 22 - d.from;
-    if e.ways == 0 {
+    let ends = digits_of(u64::from(entry.cue)).len() + 2;
+    if entry.ways == 0 {
         return ends;
     }
-    let present = e.start as usize;
-    let absent = present + 8;
-    let ways = e.ways as usize;
-    let mut sum: usize = 0;
-    let mut i: usize = 0;
-    while i < ways {
-        let p = u64_at(s, present + 16 * i);
-        let q = u64_at(s, absent + 16 * i);
-        sum += ends + faults_length(p, q);
-        i += 1;
+    let mut sum = 0;
+    for way in sheet.raw().ways(entry) {
+        sum += ends + faults_length(way);
     }
     sum
 }
 
-/// The records of all cues of an accepted sheet.
-fn cues_length(s: &[u8]) -> usize
-    requires { read_number s.now ≡ 0 }
-    ensures { (result ≡ length (cues_text (decode s.now).cues)) × (result ≤ 1443840) }
+/// The records of all entries.
+fn entries_length(sheet: Sheet<'_>) -> usize
+    ensures value { result ≡ length (entries_text sheet.entry.bytes.now) }
+    ensures most { result ≤ 24 * (470 * 65535) }
 {
-    let cues = cues_in(s);
-    let mut sum: usize = 0;
-    let mut i: usize = 0;
-    while i < cues {
-        sum += cue_length(s, stated_entry(s, i));
-        i += 1;
+    let mut sum = 0;
+    for entry in sheet.entries() {
+        sum += entry_length(sheet, entry);
     }
     sum
 }
 
-/// The weights, a comma before each.
-fn weights_length(weights: &[u32]) -> usize
-    requires { length weights.now ≤ 64 }
-    ensures { (result ≡ length (further_fields (map decimal weights.now))) × (result ≤ 1344) }
+/// The limits, with the end of their record.
+fn limits_length(limits: Limits) -> usize
+    ensures value { result ≡ length (ended (run_record limits)) }
+    ensures most { result ≤ 47 }
 {
-    let mut sum: usize = 0;
-    let mut i: usize = 0;
-    while i < weights.len() {
-        sum += field_length(weights[i] as u64);
-        i += 1;
+    5 + field_length(limits.allowance) + field_length(limits.budget)
+}
+
+/// The weights, with the end of their record.
+fn weights_length(weights: Parts<'_, u32>) -> usize
+    requires { length weights ≤ 64 }
+    ensures value { result ≡ length (ended (weights_record weights.entry)) }
+    ensures most { result ≤ 9 + 21 * 64 }
+{
+    let mut sum = 9;
+    for weight in weights {
+        sum += field_length(u64::from(weight));
     }
     sum
 }
 
-/// The two records in front of the cues.
-fn front_length(limits: Limits, weights: &[u32]) -> usize
-    requires { length weights.now ≤ 64 }
-    ensures { (result ≡ length (front_text limits weights.now)) × (result ≤ 1400) }
+/// The text.
+pub fn text_length(sheet: Sheet<'_>) -> usize
+    ensures { result ≡ length (sheet_text sheet.entry.bytes.now) }
 {
-    let limits_length = field_length(limits.allowance) + field_length(limits.budget);
-    14 + limits_length + weights_length(weights)
-}
-
-/// The text of an accepted sheet.
-pub fn text_length(s: &[u8]) -> usize
-    requires { read_number s.now ≡ 0 }
-    ensures { result ≡ length (csv_of (decode s.now)) }
-{
-    let w = weights(s);
-    let n = at_most(faults_in(s), 64);
-    let front = front_length(limits_in(s), &w[..n]);
-    front + cues_length(s)
+    let limits = limits_length(sheet.raw().limits());
+    let weights = weights_length(sheet.raw().weights());
+    limits + weights + entries_length(sheet)
 }

@@ -1,82 +1,66 @@
 //! The whole text of an accepted sheet: the limits, the weights, the records of the cues, one behind the other.
-//! Rests on the definitions of Parts and on `csv`, Texts.
-ghost use Rattle.std.specs.Prelude.{◌≡◌, ◌∷◌, map, ◌≤◌};
-ghost use Rattle.rules.specs.Sheet.{read_number, decode};
+//! Rests on the definitions of Parts and on `csv_text`, Texts.
+ghost use Rattle.std.specs.Prelude.{◌≡◌, ◌∷◌};
 ghost use Rattle.rules.specs.Text.{decimal};
 ghost use Rattle.writer.specs.Pieces.{Room, Wrote};
-ghost use Rattle.csv_text.specs.Texts.{further_fields, csv_of};
-ghost use Rattle.csv_export.specs.Parts.{front_text, cues_text};
+ghost use Rattle.csv_text.specs.Texts.{run_record, weights_record};
+ghost use Rattle.csv_export.specs.Parts.{ended, entries_text, sheet_text};
 
-use super::entries::stated_entry;
-use super::pieces::{put_bytes, put_end, put_entry};
+use super::pieces::{END, put_entry};
 use decimal::digits_of;
 use rules::Limits;
-use sheet::arrays::{at_most, weights};
-use sheet::head::{cues_in, faults_in, limits_in};
+use sheet::accepted::Sheet;
+use sheet::parts::Parts;
+use writer::output::Out;
 
 /// A comma and a number.
-fn put_field(space: &mut [u8], at: usize, n: u64) -> usize
-    requires { Room space.old at (44 ∷ decimal n) }
-    ensures { Wrote space.old at (44 ∷ decimal n) space.new result }
+fn put_field(out: &mut Out, number: u64)
+    requires { Room out.old (44 ∷ decimal number) }
+    ensures { Wrote out.old (44 ∷ decimal number) out.new }
 {
-    let d = digits_of(n);
-    let digits = d.bytes;
-    let from = d.from;
-    space[at] = 44;
-    put_bytes(space, at + 1, &digits[from..])
+    out.push(b',');
+    out.extend_from_slice(digits_of(number).as_slice());
 }
 
-/// The weights, a comma before each.
-fn put_weights(space: &mut [u8], at: usize, weights: &[u32]) -> usize
-    requires { Room space.old at (further_fields (map decimal weights.now)) }
-    ensures { Wrote space.old at (further_fields (map decimal weights.now)) space.new result }
+/// The limits, with the end of their record.
+fn put_limits(out: &mut Out, limits: Limits)
+    requires { Room out.old (ended (run_record limits)) }
+    ensures { Wrote out.old (ended (run_record limits)) out.new }
 {
-    let mut next = at;
-    let mut i: usize = 0;
-    while i < weights.len() {
-        next = put_field(space, next, weights[i] as u64);
-        i += 1;
+    out.extend_from_slice(b"run");
+    put_field(out, limits.allowance);
+    put_field(out, limits.budget);
+    out.extend_from_slice(END);
+}
+
+/// The weights, with the end of their record.
+fn put_weights(out: &mut Out, weights: Parts<'_, u32>)
+    requires { Room out.old (ended (weights_record weights)) }
+    ensures { Wrote out.old (ended (weights_record weights.entry)) out.new }
+{
+    out.extend_from_slice(b"weights");
+    for weight in weights {
+        put_field(out, u64::from(weight));
     }
-    next
+    out.extend_from_slice(END);
 }
 
-/// The two records in front of the cues.
-fn put_front(space: &mut [u8], at: usize, limits: Limits, weights: &[u32]) -> usize
-    requires { Room space.old at (front_text limits weights.now) }
-    ensures { Wrote space.old at (front_text limits weights.now) space.new result }
+/// The records of all entries.
+fn put_entries(out: &mut Out, sheet: Sheet<'_>)
+    requires { Room out.old (entries_text sheet.bytes.now) }
+    ensures { Wrote out.old (entries_text sheet.entry.bytes.now) out.new }
 {
-    let next = put_bytes(space, at, b"run");
-    let next = put_field(space, next, limits.allowance);
-    let next = put_field(space, next, limits.budget);
-    let next = put_bytes(space, next, b"\r\nweights");
-    let next = put_weights(space, next, weights);
-    put_end(space, next)
-}
-
-/// The records of all cues of an accepted sheet.
-fn put_cues(space: &mut [u8], at: usize, s: &[u8]) -> usize
-    requires s_value { read_number s.now ≡ 0 }
-    requires room { Room space.old at (cues_text (decode s.now).cues) }
-    ensures { Wrote space.old at (cues_text (decode s.now).cues) space.new result }
-{
-    let cues = cues_in(s);
-    let mut next = at;
-    let mut i: usize = 0;
-    while i < cues {
-        next = put_entry(space, next, s, stated_entry(s, i));
-        i += 1;
+    for entry in sheet.entries() {
+        put_entry(out, sheet, entry);
     }
-    next
 }
 
-/// The text of an accepted sheet, at the front of the space.
-pub fn put_text(space: &mut [u8], s: &[u8]) -> usize
-    requires s_value { read_number s.now ≡ 0 }
-    requires room { Room space.old 0 (csv_of (decode s.now)) }
-    ensures { Wrote space.old 0 (csv_of (decode s.now)) space.new result }
+/// The text.
+pub fn put_text(out: &mut Out, sheet: Sheet<'_>)
+    requires { Room out.old (sheet_text sheet.bytes.now) }
+    ensures { Wrote out.old (sheet_text sheet.entry.bytes.now) out.new }
 {
-    let w = weights(s);
-    let n = at_most(faults_in(s), 64);
-    let next = put_front(space, 0, limits_in(s), &w[..n]);
-    put_cues(space, next, s)
+    put_limits(out, sheet.raw().limits());
+    put_weights(out, sheet.raw().weights());
+    put_entries(out, sheet);
 }

@@ -1,75 +1,106 @@
--- What a call of the import promises, test by test, once its text is read.
--- Rests on `csv`, Imports, on `rules`, First and WriterLists, on `writer`, Numbers, and on `csv_rows`, Fronts.
-use mathlib.Core.Path.{◌≡◌, refl, sym, ap, ap₂, ◌∙◌, subst}
-use mathlib.Core.Bool.{Bool, true, false, ◌||◌, true≢false}
-use mathlib.Core.List.{List, [], ◌∷◌}
-use Prim.Native.Nat.{ℕ, zero, suc, ◌*◌, ◌^◌, ◌<◌, ◌≤◌}
-use native.Mathlib.Nat.{pow-le-pow_right, zero-lt-suc}
-use native.Mathlib.Omega.{arith}
-use lib.ListN.{length, take}
-use lib.Dec.{eqb, ltb}
-use borrow.Author.Tests.{lt-ltb, le-ltb, ltb-false}
-use Rattle.rules.specs.declared.WriteAnswer.{WriteAnswer}
+-- What a call of the import promises once its text is read: the lists that were kept are refused as those of the text are, or are the same.
+-- Rests on `csv_text`, Imports, on `rules`, Answering and WriterLists, on `writer`, Accepted, and on `csv_rows`, Fronts.
+use Rattle.std.proofs.Common.{◌≡◌, ◌≢◌, refl, sym, ap, ◌∙◌, subst, ℕ, zero, suc, ◌*◌, ◌^◌, ◌<◌, ◌≤◌, min, Bool, true, false, ◌||◌, true≢false, eqb, ltb, lt-ltb, le-ltb, List, [], ◌∷◌, length, take, length-take, zero-lt-suc, Some, None, Result, Ok, Err, arith}
+use Rattle.std.proofs.lemmas.List.{length-map, take_all}
+use native.Mathlib.Decide.{dec_le}
+use native.Mathlib.Nat.{pow-le-pow_right}
 use Rattle.rules.specs.Rounding.{S}
+use Rattle.rules.specs.declared.Refusal.{Refusal}
 use Rattle.rules.specs.Table.{rows}
-use Rattle.rules.specs.Refusals.{Refusal, refusal, first, faults_outside, cues_outside, some_above, crowded, overweight, names_beyond, way_refusals}
+use Rattle.rules.specs.Refusals.{Test, test, number, first, answered, faults_outside, cues_outside, some_above, not_rising, crowded, overweight, names_beyond, way_refusals}
 use Rattle.rules.specs.Sheet.{AllBelow, Lists, total, lists_of, sheet_of, numbers_of, counts_of, present_of, absent_of, encode}
-use Rattle.rules.specs.Sheet.{lists_refusals, write_refusals, write_number, write_answer_by, write_answer, written_by, written}
-use Rattle.rules.proofs.Booleans.{or_split, or-neither, or-first, or-second, or_cases, is_true}
-use Rattle.rules.proofs.First.{none-applies, first-here, first-later}
-use Rattle.rules.proofs.Laid.{Agree, length-numbers, length-counts}
+use Rattle.rules.specs.Sheet.{lists_refusals, write_refusals, write_number, write_answer, written_by, written}
+use Rattle.rules.proofs.Booleans.{or_split, or-neither, or-second, is_true}
+use Rattle.rules.proofs.First.{none-applies, number-above}
+use Rattle.rules.proofs.Answering.{answered-here, answered-later, answered-alike, answered-before, answered-passed, first-accepted, first-refused, Comes, comes, accepts, refuses}
+use Rattle.rules.proofs.Laid.{Agree}
+use Rattle.rules.proofs.RoundTrip.{written-refused}
 use Rattle.rules.proofs.WriterLists.{faults-most, cues-most, none_above, total-most, words-below, disagree-agree}
-use Rattle.writer.specs.Given.{given, front_refusals}
+use Rattle.writer.specs.Given.{front_refusals}
 use Rattle.writer.specs.Promises.{Writing}
-use Rattle.writer.proofs.Numbers.{group_refuses, group_passes, in_groups, front_numbered, of-front, from-ways, of_space}
-use Rattle.csv_text.specs.declared.ImportAnswer.{ImportAnswer}
+use Rattle.writer.proofs.Accepted.{of-front, from-ways, of_space, in_groups}
+use Rattle.csv_text.specs.declared.ImportError.{ImportError}
 use Rattle.csv_text.specs.Shapes.{misread, sheet_in}
 use Rattle.csv_text.specs.Calls.{text_lists, import_number, taken_over, import_answer_by, import_answer, import_reply, imported}
 use Rattle.csv_text.specs.Promises.{Importing}
 use Rattle.csv_text.proofs.Imports.{never-21, number_misread, number_read, import_sheet, import-refused, import-replies}
-use Rattle.csv_rows.specs.Begins.{cut_all}
-use Rattle.csv_rows.proofs.Fronts.{begins-all, cut-same, cut-none, cut-length}
-use Rattle.csv_import.specs.declared.read.TextRead.{TextRead}
-use Rattle.csv_import.specs.Gather.{wide_words, Gathered, ToldText}
+use Rattle.csv_rows.specs.Told.{cut_all}
+use Rattle.csv_rows.proofs.Fronts.{cut-same, cut-none}
+use Rattle.csv_import.specs.declared.read.Gathered.{Gathered}
+use Rattle.csv_import.specs.declared.ways.Ways.{Ways}
+use Rattle.csv_import.specs.Gather.{wide_words, Worded, lists_kept, Misreads, Said}
 
 -- ---- the promise, by what decides
 
 -- The answer settles the reply.
-promised : {t before after : List ℕ} {r : ImportAnswer} → r ≡ import_answer t (length before) → after ≡ imported t before → Importing t before after r
+promised : {t before after : List ℕ} {r : Result ℕ ImportError} → r ≡ import_answer t (length before) → after ≡ imported t before → Importing t before after r
 promised {t} {before} e s = record { answer = e; reply = ap import_reply e ∙ import-replies t (length before); space = s }
 
 -- A record is misread.
-pub promise-misread : (t before : List ℕ) (k : ℕ) → k ≡ misread t → (k ≡ 0 → ⊥) → Importing t before before (ImportAnswer.Misread k)
+pub promise-misread : (t before : List ℕ) (e : ImportError) → Misreads (misread t) e → Importing t before before (Err e)
 unfolding import_answer import_answer_by
-promise-misread t before zero e h = absurd (h refl)
-promise-misread t before (suc k) e h = promised (rw (sym e)) (sym (import-refused t before 22 (number_misread t (length before) k (sym e))))
+promise-misread t before e h = split (misread t) refl h.0 h.1
+  where
+    split : (k : ℕ) → misread t ≡ k → k ≢ 0 → e ≡ ImportError.Misread k → Importing t before before (Err e)
+    split zero m n f = absurd (n refl)
+    split (suc k) m n f = promised (ap Err f ∙ rw m) (sym (import-refused t before 22 (number_misread t (length before) k m)))
+
+-- Tests refuse by one of them, or let pass.
+abbrev pub Refuses : List Test → Refusal → Type 0
+Refuses xs r = ◌≡◌ {A = Result (Unit {0}) Refusal} (answered xs tt) (Err r)
+
+abbrev pub Passes : List Test → Type 0
+Passes xs = ◌≡◌ {A = Result (Unit {0}) Refusal} (answered xs tt) (Ok tt)
+
+-- A test of the writer refuses its call.
+module _ (x : Lists) (n : ℕ) {r : Refusal} (h : Refuses (write_refusals x n) r) where
+  -- So it answers,
+  answer_is : write_answer x n ≡ Err r
+  unfolding write_answer
+  answer_is = answered-alike (write_refusals x n) tt (length (encode (sheet_of x))) r h
+
+  -- with a number above 0.
+  number_is : (k : ℕ) × (write_number x n ≡ suc k)
+  unfolding write_number
+  number_is = split (number r) (number-above r) (first-refused (write_refusals x n) tt r h)
+    where
+      split : (m : ℕ) → 0 < m → first (write_refusals x n) ≡ m → (k : ℕ) × (first (write_refusals x n) ≡ suc k)
+      split zero l e = absurd (omega arith)
+      split (suc k) l e = (k, e)
+
+-- What the first tests refuse, the call refuses.
+front-stops : (x : Lists) (n : ℕ) {r : Refusal} → Refuses (of-front x) r → Refuses (write_refusals x n) r
+unfolding write_refusals
+front-stops x n {r} h =
+    let lists : Refuses (lists_refusals x) r =
+    ap (λ (l : List Test). answered l tt) (in_groups x) ∙ answered-before (of-front x) (from-ways x) tt tt r h in
+    answered-before (lists_refusals x) (of_space x n) tt tt r lists
 
 module _ (t before : List ℕ) (read : misread t ≡ 0) where
   -- The lists of the text are refused.
-  pub promise_refused : (k : ℕ) → k ≡ write_number (text_lists t) (length before) → (k ≡ 0 → ⊥) → Importing t before before (ImportAnswer.Refused k)
-  unfolding import_answer import_answer_by write_answer write_answer_by taken_over
-  promise_refused zero e h = absurd (h refl)
-  promise_refused (suc k) e h = promised (rw (read, sym e)) (sym (import-refused t before k (number_read t (length before) read ∙ sym e)))
+  promise_refused : {r : Refusal} → Refuses (write_refusals (text_lists t) (length before)) r → Importing t before before (Err (ImportError.Refused r))
+  unfolding import_answer import_answer_by taken_over
+  promise_refused h =
+      let numbered = number_is (text_lists t) (length before) h in
+      promised (rw (read, answer_is (text_lists t) (length before) h))
+      (sym (import-refused t before numbered.0 (number_read t (length before) read ∙ numbered.1)))
 
   -- What the writer leaves is what the import promises: where it writes, the lists give the sheet that the text says.
   space_written : written (text_lists t) before ≡ imported t before
   unfolding written imported written_by
   space_written = split (import_number t (length before)) refl
     where
-      x : Lists
-      x = text_lists t
-
-      number : write_number (text_lists t) (length before) ≡ import_number t (length before)
-      number = sym (number_read t (length before) read)
+      same : write_number (text_lists t) (length before) ≡ import_number t (length before)
+      same = sym (number_read t (length before) read)
 
       split : (k : ℕ) → import_number t (length before) ≡ k
           → written_by (write_number (text_lists t) (length before)) (encode (sheet_of (text_lists t))) before
           ≡ written_by (import_number t (length before)) (encode (sheet_in t)) before
-      split zero e = rw (number, e, import_sheet t (length before) e)
-      split (suc k) e = rw (number, e)
+      split zero e = rw (same, e, import_sheet t (length before) e)
+      split (suc k) e = rw (same, e)
 
-  -- The writer was called.
-  pub promise_written : {after : List ℕ} (a : WriteAnswer) → Writing (text_lists t) before after a → Importing t before after (taken_over a)
+  -- The writer was called with the lists of the text.
+  promise_written : {after : List ℕ} (a : Result ℕ Refusal) → Writing (text_lists t) before after a → Importing t before after (taken_over a)
   unfolding import_answer import_answer_by
   promise_written a w = promised (ap taken_over w.answer ∙ rw read) (w.space ∙ space_written)
 
@@ -94,46 +125,84 @@ wide-beyond n ps qs few same wide =
 
 -- ---- 2, 5, 6 and 10
 
--- Cutting weights and counts changes none of these tests.
-front_cut : (ws ns ks : List ℕ) → front_refusals (cut_all (suc S) ws) ns (cut_all 129 ks) ≡ front_refusals ws ns ks
-unfolding front_refusals crowded overweight
-front_cut ws ns ks = rw (cut-length (suc S) ws, cut-length 129 ks, cut-same S ws, cut-same 128 ks)
+-- One more than the limit is enough to see that there are too many.
+outside-kept : (m n : ℕ) → eqb (min (suc m) n) 0 || ltb m (min (suc m) n) ≡ eqb n 0 || ltb m n
+outside-kept m n = split (dec_le n (suc m))
+  where
+    over : (k : ℕ) → m < k → eqb k 0 || ltb m k ≡ true
+    over k h = or-second (eqb k 0) (ltb m k) (lt-ltb m k h)
 
--- The code asks for the sizes first.
-module _ (faults cues : ℕ) (xs : List Refusal) where
-  pub many_faults : 64 < faults → 2 ≡ first (refusal 2 (ltb 64 faults || ltb 24 cues) ∷ xs)
-  many_faults h = sym (first-here _ xs (or-first (ltb 64 faults) (ltb 24 cues) (lt-ltb 64 faults h)))
+    split : Dec (n ≤ suc m) → eqb (min (suc m) n) 0 || ltb m (min (suc m) n) ≡ eqb n 0 || ltb m n
+    split (yes h) = let all : min (suc m) n ≡ n = omega arith in ap (λ (k : ℕ). eqb k 0 || ltb m k) all
+    split (no h) = over (min (suc m) n) (omega arith) ∙ sym (over n (omega arith))
 
-  pub many_cues : 24 < cues → 2 ≡ first (refusal 2 (ltb 64 faults || ltb 24 cues) ∷ xs)
-  many_cues h = sym (first-here _ xs (or-second (ltb 64 faults) (ltb 24 cues) (lt-ltb 24 cues h)))
+-- Cutting changes no length.
+cut-length : (m : ℕ) (xs : List ℕ) → length (cut_all m xs) ≡ length xs
+unfolding cut_all
+cut-length m xs = length-map xs (λ x. min x m)
 
-  pub few_both : faults ≤ 64 → cues ≤ 24 → first xs ≡ first (refusal 2 (ltb 64 faults || ltb 24 cues) ∷ xs)
-  few_both h k = sym (first-later _ xs (or-neither (ltb 64 faults) (ltb 24 cues) (le-ltb 64 faults h) (le-ltb 24 cues k)))
+-- Lists with the same first test, and others that are the same where it does not apply.
+answered-same : (x : Test) (xs ys : List Test) → (x.applies ≡ false → xs ≡ ys)
+    → ◌≡◌ {A = Result (Unit {0}) Refusal} (answered (x ∷ xs) tt) (answered (x ∷ ys) tt)
+answered-same x xs ys h = split x.applies refl
+  where
+    split : (b : Bool) → x.applies ≡ b → ◌≡◌ {A = Result (Unit {0}) Refusal} (answered (x ∷ xs) tt) (answered (x ∷ ys) tt)
+    split true e = answered-here x xs tt e ∙ sym (answered-here x ys tt e)
+    split false e = answered-later x xs tt e ∙ ap (λ (l : List Test). answered l tt) (h e) ∙ sym (answered-later x ys tt e)
 
--- More faults or more cues than a sheet may have.
-front-outside : (ws ns ks : List ℕ) → ltb 64 (length ws) || ltb 24 (length ns) ≡ true → first (front_refusals ws ns ks) ≡ 2
-unfolding front_refusals faults_outside cues_outside
-front-outside ws ns ks h =
-    first-here _ _
-    (or_cases (ltb 64 (length ws)) (ltb 24 (length ns))
-    (λ e. or-first (faults_outside (length ws)) _ (or-second (eqb (length ws) 0) _ e))
-    (λ e. or-second (faults_outside (length ws)) _ (or-first (cues_outside (length ns)) _ (or-second (eqb (length ns) 0) _ e)))
-    h)
+-- Numbers kept as far as there is room, cut to what the type holds.
+abbrev kept : ℕ → ℕ → List ℕ → List ℕ
+kept n m xs = take n (cut_all m xs)
 
--- ---- a text that is read, with its lists in room for the largest sheet
+module _ (ws ns ks : List ℕ) where
+  -- The sizes are outside the limits.
+  abbrev outside : List ℕ → List ℕ → List ℕ → Bool
+  outside ws ns ks = faults_outside (length ws) || (cues_outside (length ns) || cues_outside (length ks))
 
--- No record of it is misread, and this is what the lists hold.
-pub record Listed (t ws ns ks ps qs : List ℕ) (r : TextRead) : Type 0 where
-  pub told : ToldText t r ws ns ks ps qs
-  pub read : r.misread ≡ 0
-  pub of_weights : length ws ≡ 64
-  pub of_numbers : length ns ≡ 24
-  pub of_counts : length ks ≡ 24
-  pub of_present : length ps ≡ 3072
-  pub of_absent : length qs ≡ 3072
+  -- They are so as they were kept.
+  outside-same : outside (kept 65 4294967295 ws) (take 25 ns) (kept 25 65535 ks) ≡ outside ws ns ks
+  unfolding faults_outside cues_outside
+  outside-same =
+      rw (length-take 65 (cut_all 4294967295 ws), length-take 25 ns, length-take 25 (cut_all 65535 ks), cut-length 4294967295 ws, cut-length 65535 ks)
+      (rw (outside-kept 64 (length ws), outside-kept 24 (length ns), outside-kept 24 (length ks)))
 
-module _ {t ws ns ks ps qs : List ℕ} {r : TextRead} (f : Listed t ws ns ks ps qs r) where
-  -- The lists that the text says.
+  -- Lists that are not too long are kept whole.
+  module _ (sizes : outside ws ns ks ≡ false) where
+    faults-few : length ws ≤ 64
+    faults-few = faults-most (length ws) (or_split (faults_outside (length ws)) _ sizes).0
+
+    cues-few : (length ns ≤ 24) × (length ks ≤ 24)
+    cues-few =
+        let both = or_split (cues_outside (length ns)) _ (or_split (faults_outside (length ws)) _ sizes).1 in
+        (cues-most (length ns) both.0, cues-most (length ks) both.1)
+
+    weights-whole : kept 65 4294967295 ws ≡ cut_all 4294967295 ws
+    weights-whole = take_all 65 (cut_all 4294967295 ws) (omega (arith, cut-length 4294967295 ws, faults-few))
+
+    numbers-whole : take 25 ns ≡ ns
+    numbers-whole = take_all 25 ns (omega (arith, cues-few.0))
+
+    counts-whole : kept 25 65535 ks ≡ cut_all 65535 ks
+    counts-whole = take_all 25 (cut_all 65535 ks) (omega (arith, cut-length 65535 ks, cues-few.1))
+
+  -- So the first tests answer as they do for the whole lists.
+  front-kept : ◌≡◌ {A = Result (Unit {0}) Refusal}
+      (answered (front_refusals (kept 65 4294967295 ws) (take 25 ns) (kept 25 65535 ks)) tt)
+      (answered (front_refusals ws ns ks) tt)
+  unfolding front_refusals crowded overweight
+  front-kept =
+      ap (λ (b : Bool). answered (test Refusal.CountsOutside b ∷ behind (kept 65 4294967295 ws) (take 25 ns) (kept 25 65535 ks)) tt) outside-same
+      ∙ answered-same _ _ _ (λ e.
+      rw (weights-whole e, numbers-whole e, counts-whole e, cut-same S 4294967295 ws (omega arith), cut-same 128 65535 ks (omega arith)) refl)
+    where
+      behind : List ℕ → List ℕ → List ℕ → List Test
+      behind ws ns ks =
+          test Refusal.NotRising (not_rising ns) ∷ test Refusal.Crowded (crowded ks) ∷ test Refusal.Overweight (overweight ws) ∷ []
+
+-- ---- a text that is read
+
+module _ {t : List ℕ} {g : Gathered} (s : Said t g) where
+  -- The lists of the text.
   abbrev W : List ℕ
   W = (sheet_in t).weights
 
@@ -149,121 +218,83 @@ module _ {t ws ns ks ps qs : List ℕ} {r : TextRead} (f : Listed t ws ns ks ps 
   abbrev Q : List ℕ
   Q = absent_of (sheet_in t).cues
 
-  -- What was gathered of its cues.
-  g : Gathered (sheet_in t).cues r.cues r.ways r.far ns ks ps qs
-  g = f.told.says f.read
+  -- The first tests of what was kept, and that they answer as for the text.
+  abbrev front : List Test
+  front = front_refusals g.weights.items g.rows.cues.numbers.items g.rows.cues.counts.items
+
+  front-same : ◌≡◌ {A = Result (Unit {0}) Refusal} (answered front tt) (answered (of-front (text_lists t)) tt)
+  unfolding text_lists lists_of
+  front-same = rw (s.weights, s.holds.cues.numbers, s.holds.cues.counts) (front-kept W N K)
 
   -- They agree in length.
   agrees : Agree (text_lists t)
   agrees = disagree-agree (text_lists t) (never-21 t)
 
-  -- As many numbers and counts as cues.
-  numbers_long : length N ≡ r.cues
-  numbers_long = length-numbers (sheet_in t).cues ∙ sym g.cued
+  module _ (passes : Passes (of-front (text_lists t))) where
+    -- Sizes, counts and weights are within the limits.
+    within : (outside W N K W N K ≡ false) × (crowded K ≡ false) × (overweight W ≡ false)
+    unfolding front_refusals text_lists lists_of
+    within =
+        let n = none-applies (front_refusals W N K) (first-accepted (front_refusals W N K) tt tt passes) in
+        (n.0, n.1.1.0, n.1.1.1.0)
 
-  counts_long : length K ≡ r.cues
-  counts_long = length-counts (sheet_in t).cues ∙ sym g.cued
-
-  -- The number that the code finds for the front of its lists.
-  abbrev pub front_found : ℕ
-  front_found = first (refusal 2 (ltb 64 r.faults || ltb 24 r.cues) ∷ front_refusals (take r.faults ws) (take r.cues ns) (take r.cues ks))
-
-  -- Where there is room, the front of the weights, numbers and counts is what the text says, but for the cut.
-  module _ (few_faults : r.faults ≤ 64) (few_cues : r.cues ≤ 24) where
-    weights-kept : take r.faults ws ≡ cut_all (suc S) W
-    weights-kept =
-        let long : r.faults ≡ length (cut_all (suc S) W) = f.told.faults f.read ∙ sym (cut-length (suc S) W) in
-        ap (λ (n : ℕ). take n ws) long ∙ begins-all (f.told.weighed f.read) (omega (arith, long, f.of_weights))
-
-    numbers-kept : take r.cues ns ≡ N
-    numbers-kept = ap (λ (n : ℕ). take n ns) (sym numbers_long) ∙ begins-all g.numbered (omega (arith, numbers_long, f.of_numbers))
-
-    counts-kept : take r.cues ks ≡ cut_all 129 K
-    counts-kept =
-        let long : r.cues ≡ length (cut_all 129 K) = sym (cut-length 129 K ∙ counts_long) in
-        ap (λ (n : ℕ). take n ks) long ∙ begins-all g.counted (omega (arith, long, f.of_counts))
-
-  -- It is that of the text's lists.
-  front_same : front_found ≡ first (front_refusals W N K)
-  front_same = split (ltb 64 r.faults || ltb 24 r.cues) refl
-    where
-      split : (b : Bool) → ltb 64 r.faults || ltb 24 r.cues ≡ b
-          → front_found ≡ first (front_refusals W N K)
-      split true e =
-          first-here _ _ e
-          ∙ sym
-          (front-outside W N K
-          (ap₂ (λ (m n : ℕ). ltb 64 m || ltb 24 n) (sym (f.told.faults f.read)) numbers_long ∙ e))
-      split false e =
-          let both = or_split (ltb 64 r.faults) _ e in
-          let ff : r.faults ≤ 64 = ltb-false 64 r.faults both.0 in
-          let fc : r.cues ≤ 24 = ltb-false 24 r.cues both.1 in
-          first-later _ _ e
-          ∙ ap first
-          (rw (weights-kept ff fc, numbers-kept ff fc, counts-kept ff fc)
-          (front_cut W N K))
-
-  -- Where the front refuses, its number is that of the call.
-  pub front_refuses : (n number : ℕ) → number ≡ front_found → (number ≡ 0 → ⊥) → number ≡ write_number (text_lists t) n
-  unfolding write_number write_refusals text_lists lists_of
-  front_refuses n number e h =
-      let x : Lists = text_lists t in
-      let lists : number ≡ first (lists_refusals x) = group_refuses (of-front x) (from-ways x) (e ∙ front_same) h ∙ sym (in_groups x) in
-      group_refuses (lists_refusals x) (of_space x n) lists h
-
-  module _ (kept : front_found ≡ 0) where
-    -- So for the text's lists.
-    front_kept : first (front_refusals W N K) ≡ 0
-    front_kept = sym front_same ∙ kept
-
-    -- Their sizes, counts and weights are within the limits.
-    sizes : (r.faults ≤ 64) × (r.cues ≤ 24) × (crowded K ≡ false) × (overweight W ≡ false)
-    unfolding front_refusals
-    sizes =
-        let n = none-applies (front_refusals W N K) refl front_kept in
-        let two = or_split (faults_outside (length W)) _ n.0 in (
-          subst (λ (m : ℕ). m ≤ 64) (sym (f.told.faults f.read)) (faults-most (length W) two.0),
-          subst (λ (m : ℕ). m ≤ 24) numbers_long (cues-most (length N) (or_split (cues_outside (length N)) _ two.1).0),
-          n.1.1.0,
-          n.1.1.1.0,
-        )
-
-    -- So there is room for all.
-    pub few_faults : r.faults ≤ 64
-    few_faults = sizes.0
-
-    pub few_cues : r.cues ≤ 24
-    few_cues = sizes.1
-
-    pub few_ways : r.ways ≤ 3072
+    -- So there is room for all words.
+    ways-few : length P ≤ 3072
     unfolding crowded text_lists lists_of
-    few_ways =
-        let most : total K ≤ 128 * length K = total-most 128 K (none_above 128 K sizes.2) in
+    ways-few =
+        let most : total K ≤ 128 * length K = total-most 128 K (none_above 128 K within.1) in
         let said : length P ≡ total K = agrees.dealt in
-        omega (arith, most, said, g.dealt, counts_long, few_cues)
+        omega (arith, most, said, (cues-few W N K within.0).1)
 
     -- A word that is too wide: 12.
-    pub wide-refuses : r.far ≡ true → (n : ℕ) → 12 ≡ write_number (text_lists t) n
-    unfolding write_number write_refusals text_lists lists_of way_refusals
+    wide-refuses : g.rows.ways ≡ None → (n : ℕ) → Refuses (write_refusals (text_lists t) n) Refusal.NamesBeyond
+    unfolding write_refusals way_refusals text_lists lists_of
     wide-refuses far n =
-        let x : Lists = text_lists t in
+        let y : Lists = text_lists t in
         let beyond : names_beyond (length W) (rows 0 P Q) ≡ true =
-        wide-beyond (length W) P Q (subst (λ (m : ℕ). m ≤ 64) (f.told.faults f.read) few_faults) agrees.paired (sym g.wide ∙ far) in
-        let twelve : 12 ≡ first (from-ways x) = sym (first-here _ _ beyond) in
-        let lists : 12 ≡ first (lists_refusals x) =
-        twelve ∙ sym (group_passes (of-front x) (from-ways x) (sym front_kept) (front_numbered x) refl) ∙ sym (in_groups x) in
-        group_refuses (lists_refusals x) (of_space x n) lists (λ z. absurd (omega (arith, z)))
+        wide-beyond (length W) P Q (faults-few W N K within.0) agrees.paired (rw far at s.holds.ways) in
+        let lists : Refuses (lists_refusals y) Refusal.NamesBeyond =
+        ap (λ (l : List Test). answered l tt) (in_groups y)
+        ∙ answered-passed (of-front y) (from-ways y) tt tt tt passes
+        ∙ answered-here _ _ tt beyond in
+        answered-before (lists_refusals y) (of_space y n) tt tt Refusal.NamesBeyond lists
 
-    -- No word is: the lists are those of the text.
-    pub lists-said : r.far ≡ false
-        → given (take r.faults ws) (take r.cues ns) (take r.cues ks) (take r.ways ps) (take r.ways qs) r.limits ≡ text_lists t
-    unfolding text_lists lists_of crowded overweight
-    lists-said far =
-        let absents-long : length Q ≡ r.ways = agrees.paired ∙ sym g.dealt in
-        let presents : take r.ways ps ≡ P =
-        ap (λ (n : ℕ). take n ps) g.dealt ∙ begins-all (g.presents far) (omega (arith, g.dealt, few_ways, f.of_present)) in
-        let absents : take r.ways qs ≡ Q =
-        ap (λ (n : ℕ). take n qs) (sym absents-long) ∙ begins-all (g.absents far) (omega (arith, absents-long, few_ways, f.of_absent)) in
-        let weights : take r.faults ws ≡ W = weights-kept few_faults few_cues ∙ cut-none S W sizes.3 in
-        let counts : take r.cues ks ≡ K = counts-kept few_faults few_cues ∙ cut-none 128 K sizes.2 in
-        rw (weights, numbers-kept few_faults few_cues, counts, presents, absents, f.told.limits f.read)
+    -- No word is: the lists that are kept are those of the text.
+    lists-same : (w : Ways) → g.rows.ways ≡ Some w → lists_kept g w ≡ text_lists t
+    unfolding crowded overweight text_lists lists_of
+    lists-same w near =
+        let words : Worded P Q (Some w) = rw near at s.holds.ways in
+        let weights : g.weights.items ≡ W = s.weights ∙ weights-whole W N K within.0 ∙ cut-none S 4294967295 W (omega arith) within.2 in
+        let numbers : g.rows.cues.numbers.items ≡ N = s.holds.cues.numbers ∙ numbers-whole W N K within.0 in
+        let counts : g.rows.cues.counts.items ≡ K =
+        s.holds.cues.counts ∙ counts-whole W N K within.0 ∙ cut-none 128 65535 K (omega arith) within.1 in
+        let presents : w.present.items ≡ P = words.1 ∙ take_all 3072 P ways-few in
+        let absents : w.absent.items ≡ Q = words.2 ∙ take_all 3072 Q (omega (arith, ways-few, agrees.paired)) in
+        rw (s.limits, weights, numbers, counts, presents, absents)
+
+  module _ (before : List ℕ) where
+    -- The first tests refuse.
+    pub front-refuses : {r : Refusal} → Refuses front r → Importing t before before (Err (ImportError.Refused r))
+    front-refuses h = promise_refused t before s.read (front-stops (text_lists t) (length before) (sym front-same ∙ h))
+
+    -- They let pass, but a word is too wide.
+    pub far-refuses : Passes front → g.rows.ways ≡ None → Importing t before before (Err (ImportError.Refused Refusal.NamesBeyond))
+    far-refuses h far = promise_refused t before s.read (wide-refuses (sym front-same ∙ h) far (length before))
+
+    -- No word is: the writer is called with what was kept.
+    pub writes : (w : Ways) → g.rows.ways ≡ Some w → (y : Lists) → y ≡ lists_kept g w → {after : List ℕ} (a : Result ℕ Refusal) → Writing y before after a
+        → Importing t before after (taken_over a)
+    unfolding taken_over
+    writes w near y given {after} a wrote = split (comes {A = Unit {0}} (of-front (text_lists t)) tt)
+      where
+        same : ◌≡◌ {A = Result (Unit {0}) Refusal} (answered (of-front y) tt) (answered (of-front (text_lists t)) tt)
+        same = rw given front-same
+
+        split : Comes {A = Unit {0}} (of-front (text_lists t)) tt → Importing t before after (taken_over a)
+        split (accepts n e) = promise_written t before s.read a (subst (λ (l : Lists). Writing l before after a) (given ∙ lists-same e w near) wrote)
+        split (refuses r n e) =
+            let stops : Refuses (write_refusals y (length before)) r = front-stops y (length before) (same ∙ e) in
+            let answer : a ≡ Err r = wrote.answer ∙ answer_is y (length before) stops in
+            let numbered = number_is y (length before) stops in
+            let space : after ≡ before = wrote.space ∙ written-refused y before numbered.0 numbered.1 in
+            rw (answer, space) (promise_refused t before s.read (front-stops (text_lists t) (length before) e))

@@ -1,16 +1,12 @@
--- Cues joined to groups, one more at the end: it joins the last one, or begins another. What that makes of their lists.
--- Rests on `csv`, Shapes.
-use mathlib.Core.Path.{◌≡◌, refl, sym, ap, ◌∙◌}
-use mathlib.Core.Bool.{Bool, true, false, ◌||◌}
-use mathlib.Core.List.{List, [], ◌∷◌, ◌++◌, append_assoc, append-nil}
-use Prim.Native.Nat.{ℕ, ◌<◌}
-use native.Mathlib.Omega.{arith}
-use lib.ListN.{length, get_or}
-use lib.Dec.{eqb, ltb}
-use borrow.Author.Tests.{ne_eqb, eq-eqb, eqb-true, eqb-false}
-use Rattle.rules.specs.Refusals.{some_above}
+-- Cues joined to groups, one more at the end: it joins the last one, or begins another. What that makes of their lists, and what may follow.
+-- Rests on specs, Gather, and on `csv_text`, Shapes.
+use Rattle.std.proofs.Common.{◌≡◌, refl, sym, ap, ap₂, ◌∙◌, ℕ, ◌<◌, Bool, true, false, ◌&&◌, eqb, ltb, lt-ltb, ne_eqb, eq-eqb, eqb-true, ltb-true, List, [], ◌∷◌, ◌++◌, length, length-append, get_or, append_assoc, append-nil, arith}
+use Rattle.std.proofs.lemmas.Bool.{eqb-false}
+use Rattle.std.proofs.Math.Option.{some}
 use Rattle.rules.specs.Sheet.{Cue, numbers_of, counts_of, present_of, absent_of}
-use Rattle.csv_text.specs.Shapes.{attach, grouped}
+use Rattle.rules.proofs.Booleans.{and_right}
+use Rattle.csv_text.specs.Shapes.{follows, attach, grouped}
+use Rattle.csv_import.specs.Gather.{last_of, joined}
 
 -- Two cues of one number as one.
 abbrev pub both : Cue → Cue → Cue
@@ -70,65 +66,88 @@ attach-other c d cs h = attach-first c (attach d cs) (attach-some d cs) (λ e. h
 
 -- ---- a cue at the end
 
--- One cue more behind others: joined to the last of them if that has the same number.
-unfoldable join_last : List Cue → Cue → List Cue
-join_last [] c = c ∷ []
-join_last (d ∷ []) c = attach d (c ∷ [])
-join_last (d ∷ e ∷ ds) c = d ∷ join_last (e ∷ ds) c
-
 -- It makes no difference whether the one in front or the one at the end comes first.
-attach-joined : (r : Cue) (gs : List Cue) (c : Cue) → attach r (join_last gs c) ≡ join_last (attach r gs) c
-unfolding join_last attach
+attach-joined : (r : Cue) (gs : List Cue) (c : Cue) → attach r (joined gs c) ≡ joined (attach r gs) c
+unfolding joined attach
 attach-joined r [] c = refl
 attach-joined r (d ∷ []) c = split (eqb r.number d.number) refl
   where
-    split : (y : Bool) → eqb r.number d.number ≡ y → attach r (attach d (c ∷ [])) ≡ join_last (attach r (d ∷ [])) c
+    split : (y : Bool) → eqb r.number d.number ≡ y → attach r (attach d (c ∷ [])) ≡ joined (attach r (d ∷ [])) c
     split true q = attach-both r d (c ∷ []) (eqb-true r.number d.number q) ∙ rw (q, attach)
     split false q = attach-other r d (c ∷ []) (eqb-false r.number d.number q) ∙ rw (q, attach)
 attach-joined r (d ∷ e ∷ ds) c = split (eqb r.number d.number) refl
   where
-    split : (y : Bool) → eqb r.number d.number ≡ y → attach r (d ∷ join_last (e ∷ ds) c) ≡ join_last (attach r (d ∷ e ∷ ds)) c
+    split : (y : Bool) → eqb r.number d.number ≡ y → attach r (d ∷ joined (e ∷ ds) c) ≡ joined (attach r (d ∷ e ∷ ds)) c
     split true q = rw (q, attach)
     split false q = rw (q, attach)
 
 -- So one record more is one cue more at the end of the groups.
-grouped-joined : (rs : List Cue) (c : Cue) → grouped (rs ++ c ∷ []) ≡ join_last (grouped rs) c
-unfolding grouped join_last attach
+pub grouped-joined : (rs : List Cue) (c : Cue) → grouped (rs ++ c ∷ []) ≡ joined (grouped rs) c
+unfolding grouped joined attach
 grouped-joined [] c = refl
 grouped-joined (r ∷ rs) c = ap (attach r) (grouped-joined rs c) ∙ attach-joined r (grouped rs) c
 
 -- Only the last cue is looked at.
-join-last : (front : List Cue) (d c : Cue) → join_last (front ++ d ∷ []) c ≡ front ++ attach d (c ∷ [])
-unfolding join_last
-join-last [] d c = refl
-join-last (f ∷ []) d c = refl
-join-last (f ∷ g ∷ fs) d c = ap (λ (l : List Cue). f ∷ l) (join-last (g ∷ fs) d c)
+joined-last : (front : List Cue) (d c : Cue) → joined (front ++ d ∷ []) c ≡ front ++ attach d (c ∷ [])
+unfolding joined
+joined-last [] d c = refl
+joined-last (f ∷ []) d c = refl
+joined-last (f ∷ g ∷ fs) d c = ap (λ (l : List Cue). f ∷ l) (joined-last (g ∷ fs) d c)
 
--- The first record begins the first cue.
-pub grouped-first : (rs : List Cue) (c : Cue) → grouped rs ≡ [] → grouped (rs ++ c ∷ []) ≡ c ∷ []
-unfolding join_last
-grouped-first rs c e = grouped-joined rs c ∙ ap (λ (l : List Cue). join_last l c) e
+-- The last of cues is the one that stands behind the others.
+pub last-is : (front : List Cue) (d : Cue) → last_of (front ++ d ∷ []) ≡ some d
+unfolding last_of
+last-is [] d = refl
+last-is (f ∷ []) d = refl
+last-is (f ∷ g ∷ fs) d = last-is (g ∷ fs) d
 
-module _ (rs front : List Cue) (d c : Cue) (whole : grouped rs ≡ front ++ d ∷ []) where
+-- Cues are none, or one behind others.
+data Ends : List Cue → Type 0 where
+  none-yet : Ends []
+  ends-in : (front : List Cue) (d : Cue) → Ends (front ++ d ∷ [])
+
+ends : (cs : List Cue) → Ends cs
+ends [] = none-yet
+ends (c ∷ cs) = behind (ends cs)
+  where
+    behind : {ds : List Cue} → Ends ds → Ends (c ∷ ds)
+    behind none-yet = ends-in [] c
+    behind (ends-in front d) = ends-in (c ∷ front) d
+
+module _ (front : List Cue) (d c : Cue) where
   -- A record of the last cue's number joins that cue.
-  pub grouped_joins : d.number ≡ c.number → grouped (rs ++ c ∷ []) ≡ front ++ both d c ∷ []
+  pub joined-same : d.number ≡ c.number → joined (front ++ d ∷ []) c ≡ front ++ both d c ∷ []
   unfolding attach
-  grouped_joins e =
-      grouped-joined rs c
-      ∙ ap (λ (l : List Cue). join_last l c) whole
-      ∙ join-last front d c
-      ∙ ap (λ (l : List Cue). front ++ l) (rw (eq-eqb d.number c.number e, attach))
+  joined-same e = joined-last front d c ∙ ap (λ (l : List Cue). front ++ l) (rw (eq-eqb d.number c.number e, attach))
 
   -- Any other begins a cue.
-  pub grouped_begins : (d.number ≡ c.number → ⊥) → grouped (rs ++ c ∷ []) ≡ grouped rs ++ c ∷ []
+  pub joined-other : (d.number ≡ c.number → ⊥) → joined (front ++ d ∷ []) c ≡ (front ++ d ∷ []) ++ c ∷ []
   unfolding attach
-  grouped_begins h =
-      grouped-joined rs c
-      ∙ ap (λ (l : List Cue). join_last l c) whole
-      ∙ join-last front d c
+  joined-other h =
+      joined-last front d c
       ∙ ap (λ (l : List Cue). front ++ l) (rw (ne_eqb d.number c.number h, attach))
       ∙ sym (append_assoc front (d ∷ []) (c ∷ []))
-      ∙ ap (λ (l : List Cue). l ++ c ∷ []) (sym whole)
+
+-- What may follow the last cue, once a record is joined, is what may follow that record.
+pub follows-alike : (cs : List Cue) (c : Cue) → follows (last_of cs) c ≡ true → (e : Cue) → follows (last_of (joined cs c)) e ≡ follows (some c) e
+unfolding follows last_of joined
+follows-alike cs c h e = split (ends cs) h
+  where
+    last : (front : List Cue) (d : Cue) → follows (some d) c ≡ true → (x : Bool) → eqb d.number c.number ≡ x
+        → follows (last_of (joined (front ++ d ∷ []) c)) e ≡ follows (some c) e
+    last front d h true q =
+        let same : d.number ≡ c.number = eqb-true d.number c.number q in
+        let ways : ltb 0 (length d.present) && ltb 0 (length c.present) ≡ true = rw q at h in
+        let some-way : ltb 0 (length c.present) ≡ true = and_right (ltb 0 (length d.present)) _ ways in
+        let more : ltb 0 (length (d.present ++ c.present)) ≡ true =
+        lt-ltb 0 _ (omega (arith, length-append d.present c.present, ltb-true 0 (length c.present) some-way)) in
+        rw (joined-same front d c same, last-is front (both d c), same, more, some-way)
+    last front d h false q =
+        rw (joined-other front d c (eqb-false d.number c.number q), last-is (front ++ d ∷ []) c)
+
+    split : {cs : List Cue} → Ends cs → follows (last_of cs) c ≡ true → follows (last_of (joined cs c)) e ≡ follows (some c) e
+    split none-yet h = refl
+    split (ends-in front d) h = last front d (ap (λ o. follows o c) (sym (last-is front d)) ∙ h) (eqb d.number c.number) refl
 
 -- ---- the lists of cues with one more at the end
 
@@ -144,71 +163,28 @@ unfolding counts_of
 counts-more [] c = refl
 counts-more (d ∷ cs) c = ap (λ (l : List ℕ). length d.present ∷ l) (counts-more cs c)
 
--- Its present words behind the others.
-present-more : (cs : List Cue) (c : Cue) → present_of (cs ++ c ∷ []) ≡ present_of cs ++ c.present
-unfolding present_of
-present-more [] c = append-nil c.present
-present-more (d ∷ cs) c = ap (λ (l : List ℕ). d.present ++ l) (present-more cs c) ∙ sym (append_assoc d.present (present_of cs) c.present)
-
--- Its absent words behind the others.
-absent_more : (cs : List Cue) (c : Cue) → absent_of (cs ++ c ∷ []) ≡ absent_of cs ++ c.absent
-unfolding absent_of
-absent_more [] c = append-nil c.absent
-absent_more (d ∷ cs) c = ap (λ (l : List ℕ). d.absent ++ l) (absent_more cs c) ∙ sym (append_assoc d.absent (absent_of cs) c.absent)
-
 -- ---- joining moves no word
 
--- A cue in front: its words come first.
-present-attach : (c : Cue) (cs : List Cue) → present_of (attach c cs) ≡ c.present ++ present_of cs
-unfolding attach present_of
-present-attach c [] = refl
-present-attach c (d ∷ ds) = split (eqb c.number d.number) refl
+-- The present words of a record stand behind those of the cues.
+pub present-joined : (cs : List Cue) (c : Cue) → present_of (joined cs c) ≡ present_of cs ++ c.present
+unfolding joined attach present_of
+present-joined [] c = append-nil c.present
+present-joined (d ∷ []) c = split (eqb d.number c.number) refl
   where
-    split : (x : Bool) → eqb c.number d.number ≡ x → present_of (attach c (d ∷ ds)) ≡ c.present ++ present_of (d ∷ ds)
-    split true e = rw (e, attach) (append_assoc c.present d.present (present_of ds))
-    split false e = rw (e, attach)
+    split : (x : Bool) → eqb d.number c.number ≡ x → present_of (attach d (c ∷ [])) ≡ (d.present ++ []) ++ c.present
+    split true e = rw (e, attach) (append-nil (d.present ++ c.present) ∙ ap (λ (l : List ℕ). l ++ c.present) (sym (append-nil d.present)))
+    split false e = rw (e, attach) (ap₂ (λ (k l : List ℕ). k ++ l) (sym (append-nil d.present)) (append-nil c.present))
+present-joined (d ∷ e ∷ ds) c =
+    ap (λ (l : List ℕ). d.present ++ l) (present-joined (e ∷ ds) c) ∙ sym (append_assoc d.present (present_of (e ∷ ds)) c.present)
 
 -- So with absent words.
-absent-attach : (c : Cue) (cs : List Cue) → absent_of (attach c cs) ≡ c.absent ++ absent_of cs
-unfolding attach absent_of
-absent-attach c [] = refl
-absent-attach c (d ∷ ds) = split (eqb c.number d.number) refl
+pub absent-joined : (cs : List Cue) (c : Cue) → absent_of (joined cs c) ≡ absent_of cs ++ c.absent
+unfolding joined attach absent_of
+absent-joined [] c = append-nil c.absent
+absent-joined (d ∷ []) c = split (eqb d.number c.number) refl
   where
-    split : (x : Bool) → eqb c.number d.number ≡ x → absent_of (attach c (d ∷ ds)) ≡ c.absent ++ absent_of (d ∷ ds)
-    split true e = rw (e, attach) (append_assoc c.absent d.absent (absent_of ds))
-    split false e = rw (e, attach)
-
--- All cues: the present words as they stand in the records.
-present-grouped : (cs : List Cue) → present_of (grouped cs) ≡ present_of cs
-unfolding grouped present_of
-present-grouped [] = refl
-present-grouped (c ∷ cs) = present-attach c (grouped cs) ∙ ap (λ (l : List ℕ). c.present ++ l) (present-grouped cs)
-
--- The absent words likewise.
-absent-grouped : (cs : List Cue) → absent_of (grouped cs) ≡ absent_of cs
-unfolding grouped absent_of
-absent-grouped [] = refl
-absent-grouped (c ∷ cs) = absent-attach c (grouped cs) ∙ ap (λ (l : List ℕ). c.absent ++ l) (absent-grouped cs)
-
--- So the words of one record more stand behind the others.
-module _ (rs : List Cue) (c : Cue) where
-  pub present_last : present_of (grouped (rs ++ c ∷ [])) ≡ present_of (grouped rs) ++ c.present
-  present_last =
-      present-grouped (rs ++ c ∷ []) ∙ present-more rs c ∙ ap (λ (l : List ℕ). l ++ c.present) (sym (present-grouped rs))
-
-  pub absent_last : absent_of (grouped (rs ++ c ∷ [])) ≡ absent_of (grouped rs) ++ c.absent
-  absent_last =
-      absent-grouped (rs ++ c ∷ []) ∙ absent_more rs c ∙ ap (λ (l : List ℕ). l ++ c.absent) (sym (absent-grouped rs))
-
--- ---- words that are too wide
-
--- Tests joined by `or` in any grouping.
-or_assoc : (x y z : Bool) → x || (y || z) ≡ (x || y) || z
-or_assoc true y z = refl
-or_assoc false y z = refl
-
--- A number above a limit stands in the one list or in the other.
-pub above-append : (m : ℕ) (xs ys : List ℕ) → some_above m (xs ++ ys) ≡ some_above m xs || some_above m ys
-unfolding some_above
-above-append m [] ys = refl
-above-append m (x ∷ xs) ys = ap (λ (b : Bool). ltb m x || b) (above-append m xs ys) ∙ or_assoc (ltb m x) (some_above m xs) (some_above m ys)
+    split : (x : Bool) → eqb d.number c.number ≡ x → absent_of (attach d (c ∷ [])) ≡ (d.absent ++ []) ++ c.absent
+    split true e = rw (e, attach) (append-nil (d.absent ++ c.absent) ∙ ap (λ (l : List ℕ). l ++ c.absent) (sym (append-nil d.absent)))
+    split false e = rw (e, attach) (ap₂ (λ (k l : List ℕ). k ++ l) (sym (append-nil d.absent)) (append-nil c.absent))
+absent-joined (d ∷ e ∷ ds) c =
+    ap (λ (l : List ℕ). d.absent ++ l) (absent-joined (e ∷ ds) c) ∙ sym (append_assoc d.absent (absent_of (e ∷ ds)) c.absent)

@@ -1,3 +1,3 @@
--- What the contracts of this crate cite besides the definitions of `csv` and `csv_rows`.
+-- What the contracts of this crate cite besides the definitions of `csv_text` and `csv_rows`.
 -- Rests on those.
 pub mod Gather

@@ -1,269 +1,374 @@
--- A number read at a position of a text, digit by digit, and one behind a minus: laws on plain lists.
--- Rests on specs, Cursor, and on `decimal`.
-use mathlib.Core.Path.{◌≡◌, refl, sym, ap, ap₂, ◌∙◌, subst}
-use mathlib.Core.Bool.{Bool, true, false}
-use mathlib.Core.List.{List, [], ◌∷◌, ◌++◌}
-use Prim.Native.Nat.{ℕ, suc, ◌+◌, ◌-◌, ◌*◌, ◌^◌, ◌<◌, ◌≤◌}
-use native.Mathlib.Nat.{pow-le-pow_right, zero-lt-suc}
-use native.Mathlib.Decide.{dec_le, dec_lt}
-use native.Mathlib.Omega.{arith}
-use native.Mathlib.Numerals.{add-one}
-use lib.ListN.{length, get_or, take, drop, length-append, length-drop}
-use lib.Seq.{drop-cons, get_or-drop, get_or-append_seam, length-take-le}
-use lib.Dec.{eqb, ltb}
-use borrow.Author.Tests.{lt-ltb, le-ltb, ltb-true, eqb-true, eqb-false, ne_eqb}
-use Rattle.rules.specs.Table.{indicator}
-use Rattle.rules.specs.Text.{digits, decimal, decimal_value}
-use Rattle.rules.proofs.Booleans.{and_split, and_second}
+-- What stands at the front of a text: a number, digit by digit, a fault, or a word.
+-- Rests on specs, Fields, and on `decimal`.
+use Rattle.std.proofs.Common.{◌≡◌, refl, sym, ap, ◌∙◌, subst, ℕ, ◌+◌, ◌-◌, ◌*◌, ◌^◌, ◌<◌, ◌≤◌, Bool, true, false, true≢false, ◌&&◌, eqb, ltb, ne_eqb, eqb-true, lt-ltb, List, [], ◌∷◌, ◌++◌, length, get_or, take, drop, length-append, append_assoc, Option, Some, None, zero-lt-suc, arith}
+use native.Mathlib.Nat.{pow-le-pow_right}
+use native.Mathlib.Decide.{dec_le}
+use Rattle.std.proofs.Math.Seq.{take-length}
+use Rattle.std.specs.Bool.{then_some}
+use Rattle.rules.specs.Text.{decimal, digits, value_after, decimal_value}
+use Rattle.rules.specs.Sheet.{same_numbers}
+use Rattle.rules.proofs.Booleans.{and_left, and-false, is_false}
+use Rattle.rules.proofs.Sheets.{same-equal, equal-same}
 use Rattle.rules.proofs.Decimal.{AllDigits, decimal-value, decimal-digits}
 use Rattle.decimal.specs.Numerals.{is_numeral}
-use Rattle.decimal.proofs.Numerals.{decimal-numeral, numeral-decimal, none-not, letter-not, long-not, nought-not, Read, read_none, read_more}
-use Rattle.csv_text.specs.Shapes.{signed, unsigned}
-use Rattle.csv_rows.specs.declared.NumberAt.{NumberAt}
-use Rattle.csv_rows.specs.Scan.{breaks_at}
-use Rattle.csv_rows.specs.Cursor.{stands_at, ends_at, part, Plain, is_signed, NumberRead, SignedRead}
+use Rattle.decimal.proofs.Numerals.{decimal-numeral, numeral-decimal, none-not, letter-not, long-not, nought-not, Read, read-none, read-more}
+use Rattle.csv_text.specs.Shapes.{signed, unsigned, is_fault, fault_in}
+use Rattle.csv_rows.specs.declared.fields.Signed.{Signed}
+use Rattle.csv_rows.specs.Fields.{numeral_said, signed_said, fault_said, word_said, Plain, SaysPlain, Longest}
+use Rattle.csv_rows.proofs.Pieces.{first-byte}
 
--- ---- a byte at a position
+-- ---- what is said of bytes
 
--- Inside the text, as it is.
-pub stands-in : (t : List ℕ) (i b : ℕ) → i < length t → eqb (get_or t i 0) b ≡ stands_at t i b
-unfolding stands_at
-stands-in t i b h = rw (lt-ltb i (length t) h)
+-- Nothing is said where a test fails.
+pub said-not : {A : Type 0} (b : Bool) (x : A) → b ≡ false → then_some b x ≡ None
+said-not b x e = rw e
 
--- None behind the end.
-pub stands-out : (t : List ℕ) (i b : ℕ) → length t ≤ i → false ≡ stands_at t i b
-unfolding stands_at
-stands-out t i b h = rw (le-ltb i (length t) h)
+-- Where something is said, the test holds.
+pub said-true : {A : Type 0} (b : Bool) (x y : A) → then_some b x ≡ Some y → (b ≡ true) × (x ≡ y)
+said-true true x y e = (refl, cc)
+said-true false x y e = absurd cc
 
--- It stands inside.
-pub stands-yes : (t : List ℕ) (i b : ℕ) → stands_at t i b ≡ true → (i < length t) × (get_or t i 0 ≡ b)
-unfolding stands_at
-stands-yes t i b h = let both = and_split (ltb i (length t)) _ h in (ltb-true i (length t) both.0, eqb-true (get_or t i 0) b both.1)
+-- Where nothing is said, it fails.
+pub said-false : {A : Type 0} (b : Bool) (x : A) → then_some b x ≡ None → b ≡ false
+said-false true x e = absurd cc
+said-false false x e = refl
 
--- Another stands there.
-pub stands-no : (t : List ℕ) (i b : ℕ) → stands_at t i b ≡ false → i < length t → get_or t i 0 ≡ b → ⊥
-unfolding stands_at
-stands-no t i b h l = eqb-false (get_or t i 0) b (and_second (ltb i (length t)) _ (lt-ltb i (length t) l) h)
+-- ---- a number
 
--- A record ends at CR LF.
-pub ends-in : (t : List ℕ) (i : ℕ) → i < length t → breaks_at t i ≡ ends_at t i
-unfolding ends_at
-ends-in t i h = rw (lt-ltb i (length t) h, ends_at)
-
--- And where the text ends.
-pub ends-out : (t : List ℕ) (i : ℕ) → length t ≤ i → true ≡ ends_at t i
-unfolding ends_at
-ends-out t i h = rw (le-ltb i (length t) h, ends_at)
-
--- ---- what is no numeral
-
--- One with a byte that is no digit.
-pub letter : (p : List ℕ) (b : ℕ) (s : List ℕ) → (48 ≤ b → b ≤ 57 → ⊥) → is_numeral (p ++ b ∷ s) ≡ false
-letter p b s h =
-    let there : get_or (p ++ b ∷ s) (length p) 0 ≡ b = get_or-append_seam p b s 0 in
-    letter-not (p ++ b ∷ s) (length p) (simp length-append (omega arith)) (rw there h)
-
--- One of eleven digits.
-long : (p : List ℕ) (b : ℕ) (s : List ℕ) → 10 ≤ length p → is_numeral (p ++ b ∷ s) ≡ false
-long p b s h = long-not (p ++ b ∷ s) (simp length-append (omega arith))
-
--- ---- the digits read so far
-
--- From `at` up to i they are a number of at most ten digits, n.
-pub record Reading (t : List ℕ) (at i n : ℕ) : Type 0 where
-  pub from : at ≤ i
-  pub inside : i ≤ length t
-  pub small : n < 10 ^ 10
-  pub read : Read (drop at t) (i - at) n
-
--- The length of what stands between two positions.
-pub part_length : (t : List ℕ) (i j : ℕ) → i ≤ j → j ≤ length t → length (part t i j) ≡ j - i
-part_length t i j h k = length-take-le (j - i) (drop i t) (omega (arith, length-drop i t))
-
--- Nothing stands between a position and itself.
-pub part_none : (t : List ℕ) (i : ℕ) → part t i i ≡ []
-part_none t i = let e : i - i ≡ 0 = omega arith in ap (λ (k : ℕ). take k (drop i t)) e
-
--- The first byte, and those behind it.
-pub part-cons : (t : List ℕ) (i j : ℕ) → i < j → i < length t → part t i j ≡ get_or t i 0 ∷ part t (i + 1) j
-part-cons t i j h k =
-    let e : j - i ≡ suc (j - (i + 1)) = omega arith in
-    ap₂ (λ (n : ℕ) (l : List ℕ). take n l) e (drop-cons t i 0 k ∙ ap (λ (n : ℕ). get_or t i 0 ∷ drop n t) (sym (add-one i)))
-
--- No digit is read yet.
-pub reading-none : (t : List ℕ) (at : ℕ) → at ≤ length t → Reading t at at 0
-reading-none t at h =
-    let e : at - at ≡ 0 = omega arith in
-    record { from = omega arith; inside = h; small = omega arith; read = subst (λ (k : ℕ). Read (drop at t) k 0) (sym e) (read_none (drop at t)) }
-
-module _ (t : List ℕ) (at i n : ℕ) (r : Reading t at i n) where
-  here : get_or (drop at t) (i - at) 0 ≡ get_or t i 0
-  here = let e : at + (i - at) ≡ i = omega (arith, r.from) in get_or-drop at t (i - at) 0 ∙ ap (λ (k : ℕ). get_or t k 0) e
-
-  -- One digit more.
-  pub reading_more : i < length t → stands_at t at 48 ≡ false → 48 ≤ get_or t i 0 → get_or t i 0 ≤ 57 → n ≤ 999999999
-      → Reading t at (i + 1) (10 * n + (get_or t i 0 - 48))
-  reading_more h z low high few =
-      let e : i + 1 - at ≡ i - at + 1 = omega (arith, r.from) in
-      let start : at + 0 ≡ at = omega arith in
-      let front : get_or (drop at t) 0 0 ≡ get_or t at 0 = get_or-drop at t 0 0 ∙ ap (λ (k : ℕ). get_or t k 0) start in
-      let first : get_or (drop at t) 0 0 ≡ 48 → ⊥ = λ q. stands-no t at 48 z (omega (arith, r.from)) (sym front ∙ q) in
-      let more : Read (drop at t) (i - at + 1) (10 * n + (get_or (drop at t) (i - at) 0 - 48))
-      = read_more (drop at t) (i - at) n r.read (omega (arith, length-drop at t, r.from)) first (rw here low) (rw here high) in
-      record {
-        from = omega (arith, r.from);
-        inside = omega arith;
-        small = omega arith;
-        read = rw e (subst (λ (b : ℕ). Read (drop at t) (i - at + 1) (10 * n + (b - 48))) here more);
-      }
-
-  -- No digit follows, or ten were read.
-  pub reading_end : (i < length t → 48 ≤ get_or t i 0 → get_or t i 0 ≤ 57 → n ≤ 999999999 → ⊥) → NumberRead t at (record { value = n; end = i })
-  reading_end stop =
-      record {
-        from = r.from;
-        inside = r.inside;
-        small = r.small;
-        number = λ h. r.read.front (omega (arith, h));
-        longest = λ h s. split h s (dec_le 10 (i - at));
-      }
-    where
-      split : i < length t → (s : List ℕ) → Dec (10 ≤ i - at) → is_numeral (part t at i ++ get_or t i 0 ∷ s) ≡ false
-      split h s (yes ten) = long (part t at i) (get_or t i 0) s (omega (arith, part_length t at i r.from r.inside))
-      split h s (no few) =
-          let nine : i - at ≤ 9 = omega arith in
-          let wide : 10 ^ (i - at) ≤ 10 ^ 9 = pow-le-pow_right (zero-lt-suc 9) nine in
-          letter (part t at i) (get_or t i 0) s (λ low high. stop h low high (omega (arith, r.read.small)))
-
--- 0 alone.
-pub reading-nought : (t : List ℕ) (at : ℕ) → stands_at t at 48 ≡ true → NumberRead t at (record { value = 0; end = at + 1 })
-unfolding decimal digits
-reading-nought t at z =
-    let s = stands-yes t at 48 z in
-    let p : part t at (at + 1) ≡ 48 ∷ [] = part-cons t at (at + 1) (omega arith) s.0 ∙ ap₂ (λ (b : ℕ) (l : List ℕ). b ∷ l) s.1 (part_none t (at + 1)) in
-    record {
-      from = omega arith;
-      inside = omega (arith, s.0);
-      small = omega arith;
-      number = λ h. sym p;
-      longest = λ h r. rw p (nought-not (get_or t (at + 1) 0) r);
-    }
-
--- ---- a minus in front
+-- Bytes of which a number is said are its digits.
+pub said-decimal : (f : List ℕ) (n : ℕ) → numeral_said f ≡ Some n → decimal n ≡ f
+said-decimal f n e = let both = said-true (is_numeral f) (decimal_value f) n e in ap decimal (sym both.1) ∙ numeral-decimal f both.0
 
 -- Digits are plain.
-digits-plain : (p : List ℕ) → AllDigits p → Plain p
+pub digits-plain : (p : List ℕ) → AllDigits p → Plain p
 digits-plain [] h = tt
 digits-plain (b ∷ p) h = (λ e. omega (arith, h.0), λ e. omega (arith, h.0), λ e. omega (arith, h.0), digits-plain p h.2)
 
--- A minus in front of them is the byte that stands there.
-digits-bare : (p : List ℕ) (b : ℕ) (s : List ℕ) → AllDigits p → (length p ≡ 0 → b ≡ 45 → ⊥) → signed (p ++ b ∷ s) ≡ false
-unfolding signed
-digits-bare [] b s h k = ne_eqb b 45 (k refl)
-digits-bare (c ∷ p) b s h k = ne_eqb c 45 (λ e. omega (arith, h.0))
+-- So is a numeral.
+pub numeral-plain : (f : List ℕ) → is_numeral f ≡ true → Plain f
+numeral-plain f h = digits-plain f (subst AllDigits (numeral-decimal f h) (decimal-digits (decimal_value f)))
 
--- Digits have no minus in front.
-digits-unsigned : (p : List ℕ) → AllDigits p → signed p ≡ false
-unfolding signed
-digits-unsigned [] h = refl
-digits-unsigned (c ∷ p) h = ne_eqb c 45 (λ e. omega (arith, h.0))
+pub numerals-plain : SaysPlain numeral_said
+numerals-plain f x e = numeral-plain f (said-true (is_numeral f) (decimal_value f) x e).0
 
--- Without a minus, all bytes.
-pub unsigned-bare : (f : List ℕ) → signed f ≡ false → unsigned f ≡ f
-unfolding unsigned
-unsigned-bare f h = rw (h, unsigned)
+-- A number of ten digits at most is said by its digits.
+decimal-said : (f : List ℕ) (n : ℕ) → n < 10 ^ 10 → decimal n ≡ f → numeral_said f ≡ Some n
+decimal-said f n h e = subst (λ (g : List ℕ). numeral_said g ≡ Some n) e (rw (decimal-numeral n h, decimal-value n))
 
-module _ (t : List ℕ) (at : ℕ) (n : NumberAt) (r : NumberRead t at n) where
-  -- What was read: digits.
-  read_digits : AllDigits (part t at n.end)
-  read_digits = split (dec_lt at n.end)
+-- The digits up to `rest` are the number n, of ten digits at most.
+pub record Reading (t rest : List ℕ) (n : ℕ) : Type 0 where
+  pub done : List ℕ
+  pub whole : t ≡ done ++ rest
+  pub read : Read done n
+  pub small : n < 10 ^ 10
+
+-- At first there are none.
+pub reading-none : (t : List ℕ) → Reading t t 0
+reading-none t = record { done = []; whole = refl; read = read-none; small = omega arith }
+
+module _ {t rest : List ℕ} {n : ℕ} (r : Reading t rest n) where
+  -- One digit more.
+  pub reading-more : (v : ℕ) (behind : List ℕ) → 0 < length rest → behind ≡ take (length rest - 1) (drop 1 rest) → v ≡ get_or rest 0 0 - 48
+      → 48 ≤ get_or rest 0 0 → get_or rest 0 0 ≤ 57 → (0 < length t → get_or t 0 0 ≡ 48 → ⊥) → n ≤ 999999999 → Reading t behind (10 * n + v)
+  reading-more v behind h f q low high other few =
+      let d : ℕ = get_or rest 0 0 in
+      let e : rest ≡ d ∷ behind = first-byte rest d h refl ∙ ap (λ (s : List ℕ). d ∷ s) (sym f) in
+      rw q
+      (record {
+        done = r.done ++ d ∷ [];
+        whole = r.whole ∙ ap (λ (s : List ℕ). r.done ++ s) e ∙ sym (append_assoc r.done (d ∷ []) behind);
+        read = read-more r.done n d r.read (first d e r.done r.whole) low high;
+        small = omega arith;
+      })
     where
-      split : Dec (at < n.end) → AllDigits (part t at n.end)
-      split (yes h) = subst AllDigits (r.number h) (decimal-digits n.value)
-      split (no h) = let e : n.end ≡ at = omega (arith, r.from) in rw (e, part_none t at) tt
+      first : (d : ℕ) → rest ≡ d ∷ behind → (p : List ℕ) → t ≡ p ++ rest → length p ≡ 0 → d ≡ 48 → ⊥
+      first d e [] w l z = other (omega (arith, ap length (w ∙ e))) (ap (λ (s : List ℕ). get_or s 0 0) (w ∙ e) ∙ z)
+      first d e (b ∷ p) w l z = omega arith
 
-  -- It is a numeral if there are any.
-  read_good : ltb at n.end ≡ is_numeral (part t at n.end)
-  read_good = split (dec_lt at n.end)
+  module _ (stop : 0 < length rest → 48 ≤ get_or rest 0 0 → get_or rest 0 0 ≤ 57 → 999999999 < n) where
+    -- No numeral goes on as the text does, where no digit follows or ten were read.
+    no-longer : (b : ℕ) (p s : List ℕ) → rest ≡ b ∷ p ++ s → is_numeral (r.done ++ b ∷ p) ≡ false
+    no-longer b p s e = split (dec_le 10 (length r.done))
+      where
+        there : get_or rest 0 0 ≡ b
+        there = ap (λ (l : List ℕ). get_or l 0 0) e
+
+        split : Dec (10 ≤ length r.done) → is_numeral (r.done ++ b ∷ p) ≡ false
+        split (yes ten) = long-not (r.done ++ b ∷ p) (omega (arith, length-append r.done (b ∷ p)))
+        split (no few) =
+            let short : length r.done ≤ 9 = omega arith in
+            let nine : 10 ^ length r.done ≤ 10 ^ 9 = pow-le-pow_right (zero-lt-suc 9) short in
+            letter-not r.done b p (λ low high.
+            let many : 999999999 < n = stop (omega (arith, ap length e)) (omega (arith, there)) (omega (arith, there)) in
+            omega (arith, r.read.small))
+
+    -- There is a number.
+    pub reading-some : 0 < n → Longest numeral_said t n rest
+    reading-some h =
+        record {
+          front = r.done;
+          whole = r.whole;
+          said = decimal-said r.done n r.small (r.read.whole (some r.done r.read));
+          longest = λ b p s e. said-not (is_numeral (r.done ++ b ∷ p)) _ (no-longer b p s e);
+        }
+      where
+        some : (p : List ℕ) → Read p n → 0 < length p
+        some [] q = absurd (omega (arith, q.none refl))
+        some (b ∷ p) q = omega arith
+
+    -- There is none.
+    pub reading-nothing : n ≡ 0 → (p s : List ℕ) → t ≡ p ++ s → numeral_said p ≡ None
+    reading-nothing z p s e = said-not (is_numeral p) (decimal_value p) (go r.done r.read r.whole no-longer p e)
+      where
+        go : (done : List ℕ) → Read done n → t ≡ done ++ rest → ((b : ℕ) (p s : List ℕ) → rest ≡ b ∷ p ++ s → is_numeral (done ++ b ∷ p) ≡ false)
+            → (p : List ℕ) → t ≡ p ++ s → is_numeral p ≡ false
+        go [] q w longer [] f = none-not
+        go [] q w longer (b ∷ p) f = longer b p s (sym w ∙ f)
+        go (c ∷ done) q w longer p f = absurd (omega (arith, q.some (omega arith)))
+
+-- 0 alone.
+pub reading-zero : (t rest : List ℕ) → t ≡ 48 ∷ rest → Longest numeral_said t 0 rest
+unfolding decimal digits
+reading-zero t rest e =
+    record { front = 48 ∷ []; whole = e; said = decimal-said (48 ∷ []) 0 (omega arith) refl; longest = λ b p s f. said-not (is_numeral (48 ∷ b ∷ p)) _ (nought-not b p) }
+
+-- ---- a number behind a minus, and a fault
+
+-- Behind a minus, if a test says so.
+abbrev pub sign : Bool → List ℕ → List ℕ
+sign true f = 45 ∷ f
+sign false f = f
+
+-- Where a minus stands in front, the bytes behind it are left.
+pub first-signed : (t : List ℕ) → 0 < length t → get_or t 0 0 ≡ 45 → (true ≡ signed t) × (take (length t - 1) (drop 1 t) ≡ unsigned t)
+unfolding signed unsigned
+first-signed [] h e = absurd (omega arith)
+first-signed (b ∷ t) h e =
+    let n : length (b ∷ t) - 1 ≡ length t = omega arith in
+    rw (e, n, take-length t) (refl, refl)
+
+-- Where no minus stands in front, all bytes are left.
+pub first-unsigned : (t : List ℕ) → (0 < length t → get_or t 0 0 ≡ 45 → ⊥) → (false ≡ signed t) × (t ≡ unsigned t)
+unfolding signed unsigned
+first-unsigned [] h = (refl, refl)
+first-unsigned (b ∷ t) h = let bare : signed (b ∷ t) ≡ false = ne_eqb b 45 (h (omega arith)) in (sym bare, rw (bare, unsigned))
+
+-- A text by its minus and the bytes behind it. Without one, none stands in front of those.
+unsigned-sign : (t : List ℕ) → (t ≡ sign (signed t) (unsigned t)) × (signed t ≡ false → signed (unsigned t) ≡ false)
+unfolding signed unsigned
+unsigned-sign [] = (refl, λ h. refl)
+unsigned-sign (b ∷ t) = split (eqb b 45) refl
+  where
+    split : (x : Bool) → eqb b 45 ≡ x
+        → (b ∷ t ≡ sign (signed (b ∷ t)) (unsigned (b ∷ t))) × (signed (b ∷ t) ≡ false → signed (unsigned (b ∷ t)) ≡ false)
+    split true e = (rw (e, unsigned, eqb-true b 45 e), λ h. absurd (true≢false (sym e ∙ h)))
+    split false e = (rw (e, unsigned), λ h. rw (e, unsigned) e)
+
+-- The same of a minus and bytes that are known to be those.
+pub minus-is : (t ds : List ℕ) (absent : Bool) → absent ≡ signed t → ds ≡ unsigned t → (t ≡ sign absent ds) × (absent ≡ false → signed ds ≡ false)
+minus-is t ds absent e f = rw (e, f) (unsigned-sign t)
+
+-- Then none stands in front of a front.
+front-unsigned : (p s : List ℕ) → signed (p ++ s) ≡ false → signed p ≡ false
+unfolding signed
+front-unsigned [] s h = refl
+front-unsigned (b ∷ p) s h = h
+
+-- What is said of bytes behind a minus or without one, as a number,
+sign-number : (absent : Bool) (p : List ℕ) → (absent ≡ false → signed p ≡ false)
+    → signed_said (sign absent p) ≡ then_some (is_numeral p) (record { value = decimal_value p; absent = absent })
+unfolding signed unsigned
+sign-number true p h = refl
+sign-number false p h = rw (h refl, unsigned)
+
+-- and as a fault.
+sign-fault : (absent : Bool) (p : List ℕ) → (absent ≡ false → signed p ≡ false)
+    → fault_said (sign absent p) ≡ then_some (is_numeral p && ltb 0 (decimal_value p)) (record { place = decimal_value p - 1; absent = absent })
+unfolding is_fault fault_in signed unsigned
+sign-fault true p h = refl
+sign-fault false p h = rw (h refl, unsigned)
+
+-- The same of more bytes behind.
+sign-append : (absent : Bool) (p s : List ℕ) → sign absent (p ++ s) ≡ sign absent p ++ s
+sign-append true p s = refl
+sign-append false p s = refl
+
+-- No byte is a number,
+no-number : signed_said [] ≡ None
+unfolding signed unsigned
+no-number = rw none-not
+
+-- or a fault.
+no-fault : fault_said [] ≡ None
+unfolding is_fault signed unsigned
+no-fault = rw none-not
+
+-- Nor is 0 a fault.
+zero-not : is_numeral (48 ∷ []) && ltb 0 (decimal_value (48 ∷ [])) ≡ false
+unfolding decimal_value value_after
+zero-not = and-false (is_numeral (48 ∷ []))
+
+-- Bytes that are a number without their minus are plain.
+unsigned-plain : (f : List ℕ) → is_numeral (unsigned f) ≡ true → Plain f
+unfolding signed unsigned
+unsigned-plain [] h = tt
+unsigned-plain (b ∷ f) h = split (eqb b 45) refl h
+  where
+    split : (s : Bool) → eqb b 45 ≡ s → is_numeral (unsigned (b ∷ f)) ≡ true → Plain (b ∷ f)
+    split true s h =
+        let minus = eqb-true b 45 s in
+        (λ e. omega (arith, minus), λ e. omega (arith, minus), λ e. omega (arith, minus), numeral-plain f (rw (s, unsigned) at h))
+    split false s h = numeral-plain (b ∷ f) (rw (s, unsigned) at h)
+
+-- So are those of which a number is said, or a fault.
+pub signed-plain : SaysPlain signed_said
+signed-plain f x e = unsigned-plain f (said-true (is_numeral (unsigned f)) _ x e).0
+
+pub faults-plain : SaysPlain fault_said
+unfolding is_fault
+faults-plain f x e = unsigned-plain f (and_left (is_numeral (unsigned f)) _ (said-true (is_fault f) (fault_in f) x e).0)
+
+module _ {t ds : List ℕ} {absent : Bool} (e : t ≡ sign absent ds) (bare : absent ≡ false → signed ds ≡ false) where
+  -- No minus stands in front of digits that have none.
+  digits-bare : (q s : List ℕ) → ds ≡ q ++ s → absent ≡ false → signed q ≡ false
+  digits-bare q s f z = front-unsigned q s (sym (ap signed f) ∙ bare z)
+
+  -- Of no front anything is said, if nothing is of the fronts of the digits.
+  fronts-none : {A : Type 0} (says : List ℕ → Option A) → says [] ≡ None → ((q s : List ℕ) → ds ≡ q ++ s → says (sign absent q) ≡ None)
+      → (p s : List ℕ) → t ≡ p ++ s → says p ≡ None
+  fronts-none says none n p s f = go absent p (sym e ∙ f) n
     where
-      split : Dec (at < n.end) → ltb at n.end ≡ is_numeral (part t at n.end)
-      split (yes h) = lt-ltb at n.end h ∙ sym (ap is_numeral (sym (r.number h)) ∙ decimal-numeral n.value r.small)
-      split (no h) = let e : n.end ≡ at = omega (arith, r.from) in le-ltb at n.end (omega arith) ∙ sym (rw (e, part_none t at) none-not)
+      go : (a : Bool) (p : List ℕ) → sign a ds ≡ p ++ s → ((q s : List ℕ) → ds ≡ q ++ s → says (sign a q) ≡ None) → says p ≡ None
+      go true [] f n = none
+      go true (c ∷ p) f n = let minus : c ≡ 45 = cc in let more : ds ≡ p ++ s = cc in rw minus (n p s more)
+      go false p f n = n p s f
 
-  read_value : ltb at n.end ≡ true → n.value ≡ decimal_value (part t at n.end)
-  read_value h = sym (ap decimal_value (sym (r.number (ltb-true at n.end h))) ∙ decimal-value n.value)
+  -- There is no number.
+  module _ (n : (q s : List ℕ) → ds ≡ q ++ s → numeral_said q ≡ None) where
+    pub signed-none : (p s : List ℕ) → t ≡ p ++ s → signed_said p ≡ None
+    signed-none = fronts-none signed_said no-number (λ q s f.
+        sign-number absent q (digits-bare q s f) ∙ said-not _ _ (said-false (is_numeral q) (decimal_value q) (n q s f)))
 
-  -- There is no minus.
-  pub signed_bare : stands_at t at 45 ≡ false
-      → SignedRead t at (record { good = ltb at n.end; absent = false; value = n.value; end = n.end })
-  unfolding is_signed
-  signed_bare m =
-      let u : signed (part t at n.end) ≡ false = digits-unsigned (part t at n.end) read_digits in
-      let v : unsigned (part t at n.end) ≡ part t at n.end = unsigned-bare _ u in
+  module _ {rest : List ℕ} {n : ℕ} (l : Longest numeral_said ds n rest) where
+    -- The number's front.
+    number-is : (is_numeral l.front ≡ true) × (decimal_value l.front ≡ n)
+    number-is = said-true (is_numeral l.front) (decimal_value l.front) n l.said
+
+    -- What stands behind the number is left, where no longer front is a number either.
+    longest-sign : {A : Type 0} (says : List ℕ → Option A) (x : A) → says (sign absent l.front) ≡ Some x
+        → ((q : List ℕ) → (absent ≡ false → signed q ≡ false) → is_numeral q ≡ false → says (sign absent q) ≡ None) → Longest says t x rest
+    longest-sign says x said none =
+        record {
+          front = sign absent l.front;
+          whole = e ∙ ap (sign absent) l.whole ∙ sign-append absent l.front rest;
+          said = said;
+          longest = λ b p s f.
+              let more : ds ≡ (l.front ++ b ∷ p) ++ s = l.whole ∙ ap (λ (r : List ℕ). l.front ++ r) f ∙ sym (append_assoc l.front (b ∷ p) s) in
+              ap says (sym (sign-append absent l.front (b ∷ p)))
+              ∙ none (l.front ++ b ∷ p) (digits-bare (l.front ++ b ∷ p) s more) (said-false (is_numeral (l.front ++ b ∷ p)) _ (l.longest b p s f));
+        }
+
+    -- There is a number.
+    pub signed-some : Longest signed_said t (record { value = n; absent = absent }) rest
+    signed-some =
+        longest-sign signed_said _
+        (sign-number absent l.front (digits-bare l.front rest l.whole) ∙ rw (number-is.0, number-is.1))
+        (λ q b h. sign-number absent q b ∙ said-not _ _ h)
+
+    -- If it is 0, there is no fault.
+    fault-zero : (0 < n → ⊥) → (p s : List ℕ) → t ≡ p ++ s → fault_said p ≡ None
+    unfolding decimal digits
+    fault-zero h = fronts-none fault_said no-fault (λ q s f. sign-fault absent q (digits-bare q s f) ∙ said-not _ _ (go q s (sym zero ∙ f)))
+      where
+        zero : ds ≡ 48 ∷ rest
+        zero =
+            let none : n ≡ 0 = omega (arith, h) in
+            l.whole ∙ ap (λ (p : List ℕ). p ++ rest) (sym (said-decimal l.front n l.said) ∙ ap decimal none)
+
+        go : (q s : List ℕ) → 48 ∷ rest ≡ q ++ s → is_numeral q && ltb 0 (decimal_value q) ≡ false
+        go [] s f = rw none-not
+        go (c ∷ []) s f = let same : c ≡ 48 = cc in rw same zero-not
+        go (c ∷ d ∷ q) s f = let same : c ≡ 48 = cc in rw (same, nought-not d q)
+
+    -- Else there is one.
+    fault-some : 0 < n → Longest fault_said t (record { place = n - 1; absent = absent }) rest
+    fault-some h =
+        longest-sign fault_said _
+        (sign-fault absent l.front (digits-bare l.front rest l.whole) ∙ rw (number-is.0, number-is.1, lt-ltb 0 n h))
+        (λ q b k. sign-fault absent q b ∙ said-not _ _ (rw k))
+
+-- ---- a fault by its number
+
+-- Bytes that are no number are no fault.
+pub fault-none : (f : List ℕ) → signed_said f ≡ None → fault_said f ≡ None
+unfolding is_fault
+fault-none f h = said-not _ _ (rw (said-false (is_numeral (unsigned f)) _ h))
+
+-- A numeral that no minus stands in front of has none in front of more either.
+more-bare : (q s : List ℕ) → is_numeral q ≡ true → signed q ≡ false → signed (q ++ s) ≡ false
+unfolding signed
+more-bare [] s h b = absurd (true≢false (sym h ∙ none-not))
+more-bare (c ∷ q) s h b = b
+
+module _ {t rest : List ℕ} {x : Signed} (l : Longest signed_said t x rest) where
+  -- The digits of the number, and its sign.
+  number-said : (is_numeral (unsigned l.front) ≡ true) × (record { value = decimal_value (unsigned l.front); absent = signed l.front } ≡ x)
+  number-said = said-true (is_numeral (unsigned l.front)) _ x l.said
+
+  same-sign : signed l.front ≡ x.absent
+  same-sign = ap (λ (y : Signed). y.absent) number-said.1
+
+  -- The front by them.
+  front-sign : l.front ≡ sign x.absent (unsigned l.front)
+  front-sign = (unsigned-sign l.front).0 ∙ ap (λ (a : Bool). sign a (unsigned l.front)) same-sign
+
+  -- No minus stands in front of the digits if the number has none.
+  front-bare : (s : List ℕ) → x.absent ≡ false → signed (unsigned l.front ++ s) ≡ false
+  front-bare s e = more-bare (unsigned l.front) s number-said.0 ((unsigned-sign l.front).1 (same-sign ∙ e))
+
+  -- The text behind its minus.
+  text-sign : t ≡ sign x.absent (unsigned l.front ++ rest)
+  text-sign = l.whole ∙ ap (λ (f : List ℕ). f ++ rest) front-sign ∙ sym (sign-append x.absent (unsigned l.front) rest)
+
+  -- The digits are the longest number there.
+  digits-longest : Longest numeral_said (unsigned l.front ++ rest) x.value rest
+  digits-longest =
       record {
-        taken =
-            record {
-              from = r.from;
-              inside = r.inside;
-              plain = digits-plain (part t at n.end) read_digits;
-              good = rw v read_good;
-              longest = λ h s. ap is_numeral (unsigned-bare _ (digits-bare (part t at n.end) (get_or t n.end 0) s read_digits (first h))) ∙ r.longest h s;
-            };
-        small = r.small;
-        value = λ h. rw v (read_value h);
-        absent = λ h. sym u;
+        front = unsigned l.front;
+        whole = refl;
+        said = rw number-said.0 (ap (λ (y : Signed). Some y.value) number-said.1);
+        longest = λ b p s f.
+            let more : l.front ++ b ∷ p ≡ sign x.absent (unsigned l.front ++ b ∷ p) =
+            ap (λ (q : List ℕ). q ++ b ∷ p) front-sign ∙ sym (sign-append x.absent (unsigned l.front) (b ∷ p)) in
+            said-not _ _
+            (said-false _ _
+            (sym (sign-number x.absent (unsigned l.front ++ b ∷ p) (front-bare (b ∷ p))) ∙ ap signed_said (sym more) ∙ l.longest b p s f));
       }
-    where
-      first : n.end < length t → length (part t at n.end) ≡ 0 → get_or t n.end 0 ≡ 45 → ⊥
-      first h k q =
-          let e : n.end ≡ at = omega (arith, r.from, part_length t at n.end r.from r.inside) in
-          stands-no t at 45 m (omega arith) (ap (λ (i : ℕ). get_or t i 0) (sym e) ∙ q)
 
--- There is one.
-pub signed-minus : (t : List ℕ) (at : ℕ) (n : NumberAt) → NumberRead t (at + 1) n → stands_at t at 45 ≡ true
-    → SignedRead t at (record { good = ltb (at + 1) n.end; absent = true; value = n.value; end = n.end })
-unfolding is_signed signed unsigned
-signed-minus t at n r m =
-    let s = stands-yes t at 45 m in
-    let p : part t at n.end ≡ 45 ∷ part t (at + 1) n.end
-    = part-cons t at n.end (omega (arith, r.from)) s.0 ∙ ap (λ (b : ℕ). b ∷ part t (at + 1) n.end) s.1 in
+  -- If it is 0, there is no fault.
+  pub fault-nought : (0 < x.value → ⊥) → (p s : List ℕ) → t ≡ p ++ s → fault_said p ≡ None
+  fault-nought = fault-zero text-sign (front-bare rest) digits-longest
+
+  -- Else there is the one of that number.
+  pub fault-numbered : 0 < x.value → Longest fault_said t (record { place = x.value - 1; absent = x.absent }) rest
+  fault-numbered = fault-some text-sign (front-bare rest) digits-longest
+
+-- ---- a word
+
+-- It is plain.
+pub words-plain : (w : List ℕ) → Plain w → SaysPlain (word_said w)
+words-plain w p f x e = subst Plain (sym (same-equal f w (said-true (same_numbers f w) tt x e).0)) p
+
+-- Another front.
+pub word-none : (w t : List ℕ) → ((s : List ℕ) → t ≡ w ++ s → ⊥) → (p s : List ℕ) → t ≡ p ++ s → word_said w p ≡ None
+word-none w t n p s e = said-not (same_numbers p w) tt (is_false (same_numbers p w) (λ h. n s (e ∙ ap (λ (l : List ℕ). l ++ s) (same-equal p w h))))
+
+-- The word.
+pub word-some : (w t rest : List ℕ) → t ≡ w ++ rest → Longest (word_said w) t tt rest
+word-some w t rest e =
     record {
-      taken =
-          record {
-            from = omega (arith, r.from);
-            inside = r.inside;
-            plain = rw p (λ e. omega (arith, e), λ e. omega (arith, e), λ e. omega (arith, e), digits-plain (part t (at + 1) n.end) (read_digits t (at + 1) n r));
-            good = rw p (read_good t (at + 1) n r);
-            longest = λ h q. rw p (r.longest h q);
-          };
-      small = r.small;
-      value = λ h. rw p (read_value t (at + 1) n r h);
-      absent = λ h. rw p;
+      front = w;
+      whole = e;
+      said = rw (equal-same w);
+      longest = λ b p s f. said-not (same_numbers (w ++ b ∷ p) w) tt (is_false _ (λ h. absurd (omega (arith, ap length (same-equal _ w h), length-append w (b ∷ p)))));
     }
-
--- There is one, and the text ends.
-pub minus-alone : (t : List ℕ) (at : ℕ) (a : Bool) → a ≡ stands_at t at 45 → a ≡ true → at + 1 ≡ length t
-    → SignedRead t at (record { good = false; absent = a; value = 0; end = at + 1 })
-minus-alone t at a s y e =
-    let m : stands_at t at 45 ≡ true = sym s ∙ y in
-    let none = reading_end t (at + 1) (at + 1) 0 (reading-none t (at + 1) (omega arith)) (λ h low high few. omega arith) in
-    rw y
-    (subst (λ (b : Bool). SignedRead t at (record { good = b; absent = true; value = 0; end = at + 1 })) (le-ltb (at + 1) (at + 1) (omega arith))
-    (signed-minus t at (record { value = 0; end = at + 1 }) none m))
-
--- A position behind a minus that may stand there is inside.
-pub past-minus : (t : List ℕ) (at : ℕ) (m : Bool) (i : ℕ) → at ≤ length t → m ≡ stands_at t at 45 → i ≡ at + indicator m → i ≤ length t
-past-minus t at true i h e f = omega (arith, (stands-yes t at 45 (sym e)).0, f)
-past-minus t at false i h e f = omega (arith, f)
-
--- With a minus or without.
-pub signed-read : (t : List ℕ) (at : ℕ) (m : Bool) (i : ℕ) (n : NumberAt) → m ≡ stands_at t at 45 → i ≡ at + indicator m → NumberRead t i n
-    → SignedRead t at (record { good = ltb i n.end; absent = m; value = n.value; end = n.end })
-signed-read t at true i n e f r = rw f (signed-minus t at n (rw f at r) (sym e))
-signed-read t at false i n e f r =
-    let z : i ≡ at = omega (arith, f) in
-    rw z (signed_bare t at n (rw z at r) (sym e))
-
--- A numeral has no minus.
-pub signed-numeral : (f : List ℕ) → is_numeral f ≡ true → signed f ≡ false
-signed-numeral f e = digits-unsigned f (subst AllDigits (numeral-decimal f e) (decimal-digits (decimal_value f)))

@@ -1,126 +1,104 @@
 -- The record of a way, test by test: the empty way, the words of faults that are near or far, and the cue.
--- Rests on Stops.antt for the fields, and on Naming.antt for the words.
-use mathlib.Core.Path.{◌≡◌, refl, sym, ap, ◌∙◌}
-use mathlib.Core.Bool.{Bool, true, false, not, ◌&&◌, ◌||◌, false≢true}
-use mathlib.Core.List.{List, [], ◌∷◌, map}
-use Prim.Native.Nat.{ℕ, suc, ◌+◌, ◌^◌, ◌<◌, ◌≤◌}
-use native.Mathlib.Nat.{pow-le-pow_right, pow-suc, one-le-pow, zero-lt-suc}
-use native.Mathlib.Omega.{arith}
-use native.Mathlib.Numerals.{add-one}
-use lib.Dec.{ltb}
+-- Rests on `csv_text`, Shapes, and on Reading.antt.
+use Rattle.std.proofs.Common.{◌≡◌, refl, sym, ap, ◌∙◌, Bool, true, false, not, ◌&&◌, ◌||◌, eqb, ltb, lt-ltb, le-ltb, ltb-true, eqb-true, if◌then◌else◌, List, [], ◌∷◌, map, ℕ, suc, ◌^◌, ◌<◌, ◌≤◌, zero-lt-suc, pow-suc, Option, Some, None, MatchOption, Bor, arith}
+use Rattle.std.proofs.lemmas.Bool.{false≢true, eqb-false, ltb-false}
+use native.Mathlib.Nat.{pow-le-pow_right, one-le-pow}
 use lib.Bits.{or_lt, or_add_and, and_le_r, and_le_l}
-use borrow.Author.Tests.{lt-ltb, le-ltb, ltb-true, ltb-false, not-true, not-false}
-use Rattle.rules.specs.Refusals.{some_above}
+use borrow.Author.Tests.{not-true, not-false}
+use Rattle.std.specs.Bool.{then_some}
 use Rattle.rules.specs.Sheet.{same_numbers}
 use Rattle.rules.specs.Text.{bytes, digits, decimal, value_after, decimal_value}
 use Rattle.rules.proofs.Booleans.{and_left, and-false, or_split, or-first, or-second, or_cases, or-neither, is_false}
 use Rattle.rules.proofs.Sheets.{same-equal}
 use Rattle.decimal.specs.Numerals.{is_numeral}
-use Rattle.decimal.proofs.Numerals.{numeral-decimal}
+use Rattle.csv_text.specs.Cut.{fields_in}
 use Rattle.csv_text.specs.declared.Fault.{Fault}
-use Rattle.csv_text.specs.Cut.{unquoted, fields_in}
 use Rattle.csv_text.specs.Shapes.{signed, unsigned, is_fault, fault_in, all_faults, repeats, same_sense, word_of, is_empty_way, is_names, is_row, faults_named, row_in}
-use Rattle.csv_rows.specs.declared.FieldAt.{FieldAt}
-use Rattle.csv_rows.specs.declared.NamesSaid.{NamesSaid}
-use Rattle.csv_rows.specs.Scan.{line_at, next_line}
-use Rattle.csv_rows.specs.Cursor.{first_field, behind, line_behind, NumeralNext}
-use Rattle.csv_rows.specs.Told.{wide, word_if, cue_said, ToldRow}
-use Rattle.csv_rows.specs.Walks.{word_for, some_far, apart, ToldFaults}
-use Rattle.csv_rows.proofs.Stops.{later, fields-raw}
+use Rattle.csv_rows.specs.declared.Named.{Named}
+use Rattle.csv_rows.specs.declared.Named.TheVariants.{Near, Far}
+use Rattle.csv_rows.specs.Scan.{first_line, next_lines}
+use Rattle.csv_rows.specs.Fields.{numeral_said}
+use Rattle.csv_rows.specs.Walks.{some_far, apart, named_in}
+use Rattle.csv_rows.specs.Told.{ReadsLine, named_by, way_by, row_of, faults_said, nothing_said, way_said, row_said}
+use Rattle.csv_rows.proofs.Reading.{said-not, said-true, said-false, said-decimal}
 
 -- ---- the empty way
 
--- The empty way names nothing.
-pub nothing-told : (b : Bool) (n : ℕ) (e : Bool) → b ≡ e
-    → ToldFaults e [] (record { good = b; words = record { far = false; present = 0; absent = 0 }; next = n })
-unfolding some_far word_of word_for
-nothing-told b n e h = record { same = h; far = λ p. refl; words = λ p q c. none c }
-  where
-    none : (c : Bool) → word_for c (record { far = false; present = 0; absent = 0 }) ≡ word_of c []
-    none true = refl
-    none false = refl
-
 -- Fields that begin with another one are no empty way.
-empty-first : (f : List ℕ) (fs : List (List ℕ)) → (f ≡ 48 ∷ [] → ⊥) → is_empty_way (f ∷ fs) ≡ false
+empty-not : (f : List ℕ) (fs : List (List ℕ)) → (f ≡ 48 ∷ [] → ⊥) → is_empty_way (f ∷ fs) ≡ false
 unfolding is_empty_way bytes
-empty-first f [] h = is_false (same_numbers f (48 ∷ [])) (λ e. h (same-equal f (48 ∷ []) e))
-empty-first f (g ∷ fs) h = refl
+empty-not f [] h = is_false (same_numbers f (48 ∷ [])) (λ e. h (same-equal f (48 ∷ []) e))
+empty-not f (g ∷ fs) h = refl
 
-module _ (t : List ℕ) (at : ℕ) (f : FieldAt) (s : NumeralNext t at f) where
-  -- Another field than `0`.
-  not_first : (first_field t at ≡ 48 ∷ [] → ⊥) → is_empty_way (fields_in (line_at t at)) ≡ false
-  not_first h = ap is_empty_way (fields-raw t at) ∙ empty-first (first_field t at) (map unquoted (later t at)) h
+-- `0` says 0.
+zero-said : numeral_said (48 ∷ []) ≡ Some 0
+unfolding is_numeral same_numbers decimal digits decimal_value value_after
+zero-said = refl
 
-  -- `0` is a number.
-  nought_is : first_field t at ≡ 48 ∷ [] → (f.good ≡ true) × (f.good ≡ true → f.value ≡ 0)
-  unfolding is_numeral same_numbers decimal digits decimal_value value_after
-  nought_is e = (s.good ∙ ap is_numeral e, λ p. s.value p ∙ ap decimal_value e)
+-- No number.
+pub nothing-bad : (f : List ℕ) (fs : List (List ℕ)) → numeral_said f ≡ None → nothing_said (f ∷ fs) ≡ None
+nothing-bad f fs h = said-not _ _ (empty-not f fs (λ e. let bad : ◌≡◌ {A = Option ℕ} None (Some 0) = sym h ∙ ap numeral_said e ∙ zero-said in absurd cc))
 
-  -- A further field follows.
-  pub nothing_more : f.more ≡ true → false ≡ is_empty_way (fields_in (line_at t at))
-  unfolding is_empty_way behind
-  nothing_more m = sym (split f.good refl)
-    where
-      split : (x : Bool) → f.good ≡ x → is_empty_way (fields_in (line_at t at)) ≡ false
-      split true g =
-          ap is_empty_way
-          ((s.passed g).fields
-          ∙ ap (λ (b : Bool). first_field t at ∷ behind b t f.next) m
-          ∙ ap (λ (fs : List (List ℕ)). first_field t at ∷ fs) (fields-raw t f.next))
-      split false g = not_first (λ e. false≢true (sym g ∙ (nought_is e).0))
+-- A further field follows.
+pub nothing-more : (f : List ℕ) (fs : List (List ℕ)) → (fs ≡ [] → ⊥) → nothing_said (f ∷ fs) ≡ None
+unfolding is_empty_way
+nothing-more f [] h = absurd (h refl)
+nothing-more f (g ∷ fs) h = refl
 
-  -- Another number.
-  pub nothing_other : (f.value ≡ 0 → ⊥) → false ≡ is_empty_way (fields_in (line_at t at))
-  nothing_other v = sym (not_first (λ e. let z = nought_is e in v (z.1 z.0)))
+-- A number alone: the empty way, if it is 0.
+pub nothing-alone : (f : List ℕ) (n : ℕ) → numeral_said f ≡ Some n → nothing_said (f ∷ []) ≡ then_some (eqb n 0) (named_in [])
+unfolding is_empty_way same_numbers bytes decimal digits
+nothing-alone f n h = ap (λ (b : Bool). then_some b (named_in [])) (split (eqb n 0) refl)
+  where
+    split : (x : Bool) → eqb n 0 ≡ x → is_empty_way (f ∷ []) ≡ eqb n 0
+    split true e =
+        let zero : f ≡ 48 ∷ [] = sym (said-decimal f n h) ∙ ap decimal (eqb-true n 0 e) in
+        rw (e, zero)
+    split false e =
+        empty-not f [] (λ z. eqb-false n 0 e (let same : ◌≡◌ {A = Option ℕ} (Some n) (Some 0) = sym h ∙ ap numeral_said z ∙ zero-said in cc)) ∙ sym e
 
-  -- `0` alone, if it is a number at all.
-  pub nothing_here : f.more ≡ false → f.value ≡ 0 → f.good ≡ is_empty_way (fields_in (line_at t at))
-  unfolding is_empty_way behind bytes decimal digits same_numbers
-  nothing_here m v = split f.good refl
-    where
-      split : (x : Bool) → f.good ≡ x → f.good ≡ is_empty_way (fields_in (line_at t at))
-      split true g =
-          let z : decimal_value (first_field t at) ≡ 0 = sym (s.value g) ∙ v in
-          let e : first_field t at ≡ 48 ∷ [] = sym (ap decimal (sym z) ∙ numeral-decimal (first_field t at) (sym s.good ∙ g)) in
-          g ∙ sym (ap is_empty_way ((s.passed g).fields ∙ ap (λ (b : Bool). first_field t at ∷ behind b t f.next) m ∙ ap (λ (l : List ℕ). l ∷ []) e))
-      split false g = g ∙ sym (not_first (λ e. false≢true (sym g ∙ (nought_is e).0)))
+-- A line that says something if a test holds.
+pub reads-if : {A : Type 0} (says : List (List ℕ) → Option A) (t : List ℕ) (b : Bool) (x : A) (lines : Bor (List ℕ))
+    → says (fields_in (first_line t)) ≡ then_some b x → lines.now ≡ next_lines t → ReadsLine says t (then_some b (x, lines))
+reads-if says t true x lines e f = (e, f)
+reads-if says t false x lines e f = e
 
-  -- The next line starts behind it.
-  pub nothing_line : f.more ≡ false → f.good ≡ true → f.next + 1 ≡ next_line t at
-  unfolding line_behind
-  nothing_line m g = add-one f.next ∙ ap (λ (b : Bool). line_behind b t f.next) (sym m) ∙ (s.passed g).line
+-- ---- a way
 
 -- `0` is no fault.
-apart_some : (fs : List (List ℕ)) → apart fs ≡ true → is_empty_way fs ≡ false
+apart-some : (fs : List (List ℕ)) → apart fs ≡ true → is_empty_way fs ≡ false
 unfolding is_empty_way all_faults is_fault signed unsigned is_numeral same_numbers decimal digits decimal_value value_after
-apart_some [] h = refl
-apart_some (f ∷ []) h =
-    empty-first f [] (λ e. false≢true (sym (and-false (is_numeral (48 ∷ []))) ∙ ap is_fault (sym e) ∙ and_left (is_fault f) _ (and_left (is_fault f && true) _ h)))
-apart_some (f ∷ g ∷ fs) h = refl
+apart-some [] h = refl
+apart-some (f ∷ []) h =
+    empty-not f [] (λ e. false≢true (sym (and-false (is_numeral (48 ∷ []))) ∙ ap is_fault (sym e) ∙ and_left (is_fault f) _ (and_left (is_fault f && true) _ h)))
+apart-some (f ∷ g ∷ fs) h = refl
 
-module _ (fs : List (List ℕ)) (r : NamesSaid) where
-  -- A way that names its faults.
-  pub way_names : r.good ≡ true → ToldFaults (apart fs) (map fault_in fs) r → ToldFaults (is_names fs) (faults_named fs) r
-  unfolding is_names faults_named
-  way_names g t =
-      let e : is_empty_way fs ≡ false = apart_some fs (sym t.same ∙ g) in
-      rw (e, faults_named) t
+-- A way that names its faults.
+pub way-faults : (fs : List (List ℕ)) (w : Named) → faults_said fs ≡ Some w → way_said fs ≡ Some w
+unfolding is_names faults_named
+way-faults fs w h =
+    let said = said-true (apart fs) (named_in (map fault_in fs)) w h in
+    rw (apart-some fs said.0, faults_named, said.0) (ap Some said.1)
 
-  -- Any other is the empty one.
-  pub way_empty : (n : NamesSaid) → n.good ≡ false → ToldFaults (apart fs) (map fault_in fs) n → ToldFaults (is_empty_way fs) [] r
-      → ToldFaults (is_names fs) (faults_named fs) r
-  unfolding is_names faults_named
-  way_empty n b a t = split (is_empty_way fs) refl
-    where
-      split : (x : Bool) → is_empty_way fs ≡ x → ToldFaults (is_names fs) (faults_named fs) r
-      split true e = rw (e, faults_named) (rw e at t)
-      split false e =
-          rw (e, faults_named)
-          (record {
-            same = t.same ∙ e ∙ sym b ∙ a.same;
-            far = λ p. absurd (false≢true (sym e ∙ sym t.same ∙ p));
-            words = λ p. absurd (false≢true (sym e ∙ sym t.same ∙ p));
-          })
+-- Any other is the empty one.
+pub way-nothing : (fs : List (List ℕ)) → faults_said fs ≡ None → way_said fs ≡ nothing_said fs
+unfolding is_names faults_named
+way-nothing fs h = rw (said-false (apart fs) _ h) (split (is_empty_way fs) refl)
+  where
+    split : (x : Bool) → is_empty_way fs ≡ x
+        → then_some (is_empty_way fs || false) (named_in (faults_named fs)) ≡ then_some (is_empty_way fs) (named_in [])
+    split true e = rw (e, faults_named)
+    split false e = rw e
+
+-- Of either kind.
+pub way-either : {P : Type 0} (t : List ℕ) (r s : Option (Named × Bor (List ℕ))) → ReadsLine faults_said t r → (P → ReadsLine nothing_said t s)
+    → MatchOption r P (λ x. s ≡ Some x) → ReadsLine way_said t s
+way-either t None s e other m = reads s (other m)
+  where
+    reads : (s : Option (Named × Bor (List ℕ))) → ReadsLine nothing_said t s → ReadsLine way_said t s
+    reads None n = way-nothing _ e ∙ n
+    reads (Some r) n = (way-nothing _ e ∙ n.0, n.1)
+way-either t (Some (w, lines)) s e other m = rw m (way-faults _ w e.0, e.1)
 
 -- ---- words that 64 bits hold
 
@@ -201,81 +179,44 @@ far-is fs = split (some_far fs) refl
 
 -- ---- the record
 
--- A record that is none says nothing.
-row-not : (fs : List (List ℕ)) (n : ℕ) → is_row fs ≡ false
-    → ToldRow fs (record { good = false; cue = 0; way = false; far = false; present = 0; absent = 0; next = n })
-row-not fs n h =
-    record {
-      good = sym h;
-      cue = λ p. absurd (false≢true p);
-      ways = λ p. absurd (false≢true p);
-      far = λ p. absurd (false≢true p);
-      near = λ p. absurd (false≢true p);
-    }
+-- The faults of a way are those of its words.
+words-name : (xs : List Fault) → named_in xs ≡ named_by (word_of false xs) (word_of true xs)
+unfolding named_in named_by
+words-name xs = ap (λ (far : Bool). if far then Far else Near (record { present = word_of false xs; absent = word_of true xs })) (far-is xs)
 
-module _ (t : List ℕ) (at : ℕ) (c : FieldAt) (s : NumeralNext t at c) where
-  -- No number in front.
-  pub row_bad : c.good ≡ false → (n : ℕ)
-      → ToldRow (fields_in (line_at t at)) (record { good = false; cue = 0; way = false; far = false; present = 0; absent = 0; next = n })
+-- So a way is told by its words.
+way-named : (c : ℕ) (xs : List Fault)
+    → row_of (record { number = c; present = word_of false xs ∷ []; absent = word_of true xs ∷ [] }) ≡ record { cue = c; way = Some (named_in xs) }
+unfolding row_of way_by
+way-named c xs = rw (words-name xs)
+
+-- No number in front;
+pub row-bad : (c : List ℕ) (fs : List (List ℕ)) → numeral_said c ≡ None → row_said (c ∷ fs) ≡ None
+unfolding is_row
+row-bad c fs h = rw (said-false (is_numeral c) _ h)
+
+module _ (c : List ℕ) (n : ℕ) (said : numeral_said c ≡ Some n) where
+  -- a cue number too large;
+  pub row-high : (fs : List (List ℕ)) → 65535 < n → row_said (c ∷ fs) ≡ None
   unfolding is_row
-  row_bad h n = row-not (fields_in (line_at t at)) n (ap is_row (fields-raw t at) ∙ rw (sym s.good ∙ h))
+  row-high fs h = let is = said-true (is_numeral c) (decimal_value c) n said in rw (is.0, is.1, le-ltb n 65536 (omega arith))
 
-  module _ (g : c.good ≡ true) where
-    -- The cue's size and the fields behind it decide.
-    row_is : is_row (fields_in (line_at t at)) ≡ ltb c.value 65536 && is_names (behind c.more t c.next)
+  module _ (small : n ≤ 65535) where
+    -- fields that are no way.
+    pub row-not : (f : List ℕ) (fs : List (List ℕ)) → way_said (f ∷ fs) ≡ None → row_said (c ∷ f ∷ fs) ≡ None
     unfolding is_row
-    row_is = ap is_row (s.passed g).fields ∙ rw (sym s.good ∙ g, s.value g)
+    row-not f fs h =
+        rw (said-false (is_names (f ∷ fs)) _ h, and-false (is_numeral c && ltb (decimal_value c) 65536))
 
-    -- A cue number too large.
-    pub row-high : 65535 < c.value → (n : ℕ)
-        → ToldRow (fields_in (line_at t at)) (record { good = false; cue = 0; way = false; far = false; present = 0; absent = 0; next = n })
-    row-high k n = row-not (fields_in (line_at t at)) n (row_is ∙ rw (le-ltb c.value 65536 (omega arith)))
+    -- The cue alone.
+    pub row-alone : row_said (c ∷ []) ≡ Some (record { cue = n; way = None })
+    unfolding is_row is_names is_empty_way all_faults repeats row_in row_of way_by
+    row-alone = let is = said-true (is_numeral c) (decimal_value c) n said in rw (is.0, is.1, lt-ltb n 65536 (omega arith))
 
-    module _ (small : c.value ≤ 65535) where
-      -- The cue alone.
-      pub row-alone : c.more ≡ false → (n : ℕ)
-          → ToldRow (fields_in (line_at t at)) (record { good = true; cue = c.value; way = false; far = false; present = 0; absent = 0; next = n })
-      unfolding behind is_names is_empty_way all_faults repeats row_in wide some_above cue_said word_if
-      row-alone k n =
-          let none : behind c.more t c.next ≡ [] = ap (λ (b : Bool). behind b t c.next) k in
-          let only : fields_in (line_at t at) ≡ first_field t at ∷ [] = (s.passed g).fields ∙ ap (λ (fs : List (List ℕ)). first_field t at ∷ fs) none in
-          record {
-            good = sym (row_is ∙ rw (lt-ltb c.value 65536 (omega arith), none));
-            cue = λ p. rw only (sym (s.value g));
-            ways = λ p. rw only;
-            far = λ p. rw only;
-            near = λ p q. rw (only, s.value g);
-          }
-
-      -- A way.
-      pub row-way : c.more ≡ true → (n : NamesSaid) → ToldFaults (is_names (fields_in (line_at t c.next))) (faults_named (fields_in (line_at t c.next))) n
-          → ToldRow (fields_in (line_at t at))
-          (record { good = n.good; cue = c.value; way = true; far = n.words.far; present = n.words.present; absent = n.words.absent; next = n.next })
-      unfolding behind row_in wide some_above cue_said word_if word_for
-      row-way k n u =
-          let rest : behind c.more t c.next ≡ fields_in (line_at t c.next) = ap (λ (b : Bool). behind b t c.next) k in
-          let all : fields_in (line_at t at) ≡ first_field t at ∷ fields_in (line_at t c.next)
-          = (s.passed g).fields ∙ ap (λ (fs : List (List ℕ)). first_field t at ∷ fs) rest in
-          let xs : List Fault = faults_named (fields_in (line_at t c.next)) in
-          let said : row_in (fields_in (line_at t at)) ≡ record { number = c.value; present = word_of false xs ∷ []; absent = word_of true xs ∷ [] } =
-          ap row_in all ∙ rw (s.value g, fields-raw t c.next) in
-          record {
-            good = u.same ∙ sym (row_is ∙ rw (lt-ltb c.value 65536 (omega arith), rest));
-            cue = λ p. rw said;
-            ways = λ p. rw said;
-            far = λ p. u.far p ∙ far-is xs ∙ rw said (or-ends (ltb 18446744073709551615 (word_of false xs)) (ltb 18446744073709551615 (word_of true xs)));
-            near = λ p q. rw (said, ← u.words p q false, ← u.words p q true);
-          }
-        where
-          or-ends : (x y : Bool) → x || y ≡ (x || false) || (y || false)
-          or-ends true y = refl
-          or-ends false true = refl
-          or-ends false false = refl
-
-  -- Where the next line starts.
-  pub row_line : c.good ≡ true → c.more ≡ false → c.next + 1 ≡ next_line t at
-  row_line g m = nothing_line t at c s m g
-
-  pub row_behind : c.good ≡ true → c.more ≡ true → (n : ℕ) → n ≡ next_line t c.next → n ≡ next_line t at
-  unfolding line_behind
-  row_behind g m n e = e ∙ ap (λ (b : Bool). line_behind b t c.next) (sym m) ∙ (s.passed g).line
+    -- A way.
+    pub row-way : (f : List ℕ) (fs : List (List ℕ)) (w : Named) → way_said (f ∷ fs) ≡ Some w → row_said (c ∷ f ∷ fs) ≡ Some (record { cue = n; way = Some w })
+    unfolding is_row row_in
+    row-way f fs w h =
+        let is = said-true (is_numeral c) (decimal_value c) n said in
+        let way = said-true (is_names (f ∷ fs)) (named_in (faults_named (f ∷ fs))) w h in
+        rw (is.0, is.1, lt-ltb n 65536 (omega arith), way.0, way-named n (faults_named (f ∷ fs)), way.1)

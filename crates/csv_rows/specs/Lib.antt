@@ -1,8 +1,7 @@
--- What the contracts of this crate cite besides the definitions of `csv`.
--- Scan.antt: where lines end. Cursor.antt: what a cursor over a text tells of a field. Walks.antt: what the steps of a walk over faults tell.
--- Begins.antt: lists that are filled as far as they go. Told.antt: what the functions tell of a line.
+-- What the contracts of this crate cite besides the definitions of `csv_text`.
+-- Scan.antt: where the first line ends. Fields.antt: what is told of the first field, and of what is left behind it. Walks.antt: a walk over faults.
+-- Told.antt: what the functions tell of the first line.
 pub mod Scan
-pub mod Begins
-pub mod Told
+pub mod Fields
 pub mod Walks
-pub mod Cursor
+pub mod Told

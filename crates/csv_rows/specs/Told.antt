@@ -1,45 +1,67 @@
--- What the functions of this crate tell of a line, given by its fields.
--- Rests on `csv`, Shapes, and on Begins.antt.
-use Rattle.std.specs.Prelude.{◌≡◌, Bool, true, false, ◌||◌, List, [], ◌∷◌, ℕ, suc, length}
-use Rattle.rules.specs.Rounding.{S}
-use Rattle.rules.specs.Table.{indicator}
-use Rattle.rules.specs.Refusals.{some_above}
+-- What the functions of this crate tell of the first line of a text, given by its fields.
+-- Rests on `csv_text`, Shapes, and on Scan.antt and Walks.antt.
+use Rattle.std.specs.Prelude.{◌≡◌, ◌||◌, if◌then◌else◌, List, [], ◌∷◌, map, take, length, ℕ, min, ltb, Option, Some, None}
+use Rattle.std.specs.Bool.{then_some}
+use Rattle.std.specs.Borrow.{Bor}
 use Rattle.rules.specs.Sheet.{Cue}
-use Rattle.csv_text.specs.Shapes.{is_run, limits_said, is_weights, weights_said, is_row, row_in}
-use Rattle.csv_rows.specs.declared.RunSaid.{RunSaid}
-use Rattle.csv_rows.specs.declared.WeightsSaid.{WeightsSaid}
-use Rattle.csv_rows.specs.declared.RowSaid.{RowSaid}
-use Rattle.csv_rows.specs.Begins.{Begins, cut_all}
+use Rattle.rules.specs.declared.Limits.{Limits}
+use Rattle.csv_text.specs.Cut.{fields_in}
+use Rattle.csv_text.specs.Shapes.{is_run, limits_said, is_weights, weights_said, fault_in, is_empty_way, is_names, faults_named, is_row, row_in}
+use Rattle.csv_rows.specs.declared.heads.WeightsKept.{WeightsKept}
+use Rattle.csv_rows.specs.declared.Named.{Named}
+use Rattle.csv_rows.specs.declared.Named.TheVariants.{Near, Far}
+use Rattle.csv_rows.specs.declared.Row.{Row}
+use Rattle.csv_rows.specs.Scan.{first_line, next_lines}
+use Rattle.csv_rows.specs.Walks.{apart, named_in}
 
--- The record of the limits.
-pub record ToldRun (fs : List (List ℕ)) (r : RunSaid) : Type 0 where
-  pub good : r.good ≡ is_run fs
-  pub limits : r.good ≡ true → r.limits ≡ limits_said fs
+-- The first line is read: what its fields say, and the lines behind it; nothing if they say nothing.
+abbrev pub ReadsLine : {A : Type 0} → (List (List ℕ) → Option A) → List ℕ → Option (A × Bor (List ℕ)) → Type 0
+ReadsLine says t None = says (fields_in (first_line t)) ≡ None
+ReadsLine says t (Some r) = (says (fields_in (first_line t)) ≡ Some r.0) × (r.1.now ≡ next_lines t)
 
--- The record of the weights, of which a list holds as many as it has room for, each cut to one above the limit.
-pub record ToldWeights (fs : List (List ℕ)) (before after : List ℕ) (r : WeightsSaid) : Type 0 where
-  pub good : r.good ≡ is_weights fs
-  pub count : r.good ≡ true → r.count ≡ length (weights_said fs)
-  pub long : length after ≡ length before
-  pub begins : r.good ≡ true → Begins after (cut_all (suc S) (weights_said fs))
+-- ---- the limits and the weights
 
--- A cue with a word that 64 bits do not hold: it names a fault that no sheet has.
-unfoldable pub wide : Cue → Bool
-wide c = some_above 18446744073709551615 c.present || some_above 18446744073709551615 c.absent
+-- The limits.
+abbrev pub run_said : List (List ℕ) → Option Limits
+run_said fs = then_some (is_run fs) (limits_said fs)
 
--- One word for a way, none without.
-unfoldable pub word_if : Bool → ℕ → List ℕ
-word_if true w = w ∷ []
-word_if false w = []
+-- Numbers as a list of smaller ones holds them: every one above m as m.
+unfoldable pub cut_all : ℕ → List ℕ → List ℕ
+cut_all m xs = map (λ x. min x m) xs
 
--- The cue that is handed over, of one way or none.
-unfoldable pub cue_said : RowSaid → Cue
-cue_said r = record { number = r.cue; present = word_if r.way r.present; absent = word_if r.way r.absent }
+-- The first n weights, cut to 32 bits, and how many there are.
+abbrev pub weights_kept : (n : ℕ) → List (List ℕ) → Option (WeightsKept n)
+weights_kept n fs =
+    then_some (is_weights fs)
+    (record { first = record { items = take n (cut_all 4294967295 (weights_said fs)) }; count = length (weights_said fs) })
 
--- The record of a way: its cue number and whether it has a way are told in any case, its words where they fit 64 bits.
-pub record ToldRow (fs : List (List ℕ)) (r : RowSaid) : Type 0 where
-  pub good : r.good ≡ is_row fs
-  pub cue : r.good ≡ true → (row_in fs).number ≡ r.cue
-  pub ways : r.good ≡ true → length (row_in fs).present ≡ indicator r.way
-  pub far : r.good ≡ true → r.far ≡ wide (row_in fs)
-  pub near : r.good ≡ true → r.far ≡ false → row_in fs ≡ cue_said r
+-- ---- ways
+
+-- The fields of a way that names faults.
+abbrev pub faults_said : List (List ℕ) → Option Named
+faults_said fs = then_some (apart fs) (named_in (map fault_in fs))
+
+-- The field of the empty way.
+abbrev pub nothing_said : List (List ℕ) → Option Named
+nothing_said fs = then_some (is_empty_way fs) (named_in [])
+
+-- The fields of a way of either kind.
+abbrev pub way_said : List (List ℕ) → Option Named
+way_said fs = then_some (is_names fs) (named_in (faults_named fs))
+
+-- The two words of a way: its faults, unless a word is none of 64 bits and so names a fault that no sheet has.
+unfoldable pub named_by : ℕ → ℕ → Named
+named_by p q = if ltb 18446744073709551615 p || ltb 18446744073709551615 q then Far else Near (record { present = p; absent = q })
+
+-- The way of a cue by its words, none without words.
+unfoldable pub way_by : List ℕ → List ℕ → Option Named
+way_by (p ∷ ps) (q ∷ qs) = Some (named_by p q)
+way_by ps qs = None
+
+-- A cue of one way or none, as a row.
+unfoldable pub row_of : Cue → Row
+row_of c = record { cue = c.number; way = way_by c.present c.absent }
+
+-- The record of a way.
+abbrev pub row_said : List (List ℕ) → Option Row
+row_said fs = then_some (is_row fs) (row_of (row_in fs))

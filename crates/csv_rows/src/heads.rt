@@ -1,106 +1,43 @@
-//! The first two records of a text: the limits and the weights. Rests on `cursor`.
-ghost use Rattle.std.specs.Prelude.{◌≡◌, true, ℕ, ◌≤◌, min, length, set};
-ghost use Rattle.csv_text.specs.Cut.{fields_in};
-ghost use Rattle.csv_rows.specs.Scan.{line_at, next_line};
-ghost use Rattle.csv_rows.specs.Told.{ToldRun, ToldWeights};
+//! The first two records of a text: the limits and the weights. Rests on fields.rt and lists.rt.
+ghost use Rattle.csv_rows.specs.Told.{ReadsLine, run_said, weights_kept};
 
-use super::cursor::{numeral_at, word_at};
-use super::{RunSaid, WeightsSaid};
+use super::fields::{Rest, number_field, word_field};
+use super::lists::keep;
+use arrayvec::ArrayVec;
 use rules::Limits;
 
-/// The record of the limits in the line at a position: `run`, allowance, budget.
-pub fn run(text: &[u8], at: usize) -> RunSaid
-    requires { at ≤ length text.now }
-    ensures told_run { ToldRun (fields_in (line_at text.now at)) result }
-    ensures next_value { result.good ≡ true → result.next ≡ next_line text.now at }
-{
-    let none = RunSaid {
-        good: false,
-        limits: Limits {
-            allowance: 0,
-            budget: 0,
-        },
-        next: at,
-    };
-    let w = word_at(text, at, b"run");
-    if !w.good {
-        return none;
-    }
-    if !w.more {
-        return none;
-    }
-    let a = numeral_at(text, w.next);
-    if !a.good {
-        return none;
-    }
-    if !a.more {
-        return none;
-    }
-    let b = numeral_at(text, a.next);
-    if !b.good {
-        return none;
-    }
-    if b.more {
-        return none;
-    }
-    RunSaid {
-        good: true,
-        limits: Limits {
-            allowance: a.value,
-            budget: b.value,
-        },
-        next: b.next + 1,
-    }
+// No code here reads the count: it stays for the contract of `weights` (docs/CONTRACTS.md).
+/// The weights that a record says: the first N, those that 32 bits do not hold as the most that they hold, and how many there are in all.
+#[derive(Drop)]
+pub struct WeightsKept<const N: usize> {
+    pub first: ArrayVec<u32, N>,
+    pub count: usize,
 }
 
-/// A weight, cut to one above the limit.
-fn cut(x: u64) -> u32
-    ensures { result ≡ min x 1000000001 }
+/// The record of the limits: `run`, allowance, budget.
+pub fn run(text: &[u8]) -> Option<(Limits, &[u8])>
+    ensures { ReadsLine run_said text.now result }
 {
-    if x < 1000000001 { x as u32 } else { 1000000001 }
+    let ((), rest) = word_field(text, b"run")?;
+    let (allowance, rest) = number_field(rest.fields()?)?;
+    let (budget, rest) = number_field(rest.fields()?)?;
+    let lines = rest.lines()?;
+    Some((Limits { allowance, budget }, lines))
 }
 
-/// Stores a weight at its place, if the list reaches that far.
-fn store(weights: &mut [u32], i: usize, w: u32)
-    ensures { weights.new ≡ set weights.old i w }
+// No iterator goes over the fields: the lines behind the record would have to be got out of it at its end.
+/// The record of the weights: `weights`, then each weight.
+pub fn weights<const N: usize>(text: &[u8]) -> Option<(WeightsKept<N>, &[u8])>
+    ensures { ReadsLine (weights_kept N) text.now result }
 {
-    if i < weights.len() {
-        weights[i] = w;
+    let ((), mut rest) = word_field(text, b"weights")?;
+    let mut first = ArrayVec::new();
+    let mut count = 0;
+    while let Some(fields) = rest.fields() {
+        let (weight, behind) = number_field(fields)?;
+        keep(&mut first, u32::try_from(weight).unwrap_or(u32::MAX));
+        count += 1;
+        rest = behind;
     }
-}
-
-/// The record of the weights in the line at a position: `weights`, then each weight. The list takes as many as it has room for; all are counted.
-pub fn weights(text: &[u8], start: usize, weights: &mut [u32]) -> WeightsSaid
-    requires { start ≤ length text.now }
-    ensures told_weights { ToldWeights (fields_in (line_at text.now start)) weights.old weights.new result }
-    ensures next_value { result.good ≡ true → result.next ≡ next_line text.now start }
-{
-    let none = WeightsSaid {
-        good: false,
-        count: 0,
-        next: start,
-    };
-    let word = word_at(text, start, b"weights");
-    if !word.good {
-        return none;
-    }
-    let mut at = word.next;
-    let mut more = word.more;
-    let mut n: usize = 0;
-    while more {
-        let w = numeral_at(text, at);
-        if !w.good {
-            return none;
-        }
-        let value = cut(w.value);
-        store(weights, n, value);
-        n += 1;
-        at = w.next;
-        more = w.more;
-    }
-    WeightsSaid {
-        good: true,
-        count: n,
-        next: at + 1,
-    }
+    Some((WeightsKept { first, count }, rest.lines()?))
 }

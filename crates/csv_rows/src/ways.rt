@@ -1,257 +1,160 @@
-//! The record of a way: its cue number, and the faults that it names. Rests on `cursor`: a text is read field by field, each byte once.
+//! The record of a way: its cue number, and the faults that it names. Rests on fields.rt: a text is read field by field, each byte once.
 //! A near fault, at a place below 64, is looked for in the word so far; only a far one is looked for among the fields behind it.
-ghost use Rattle.std.specs.Prelude.{◌≡◌, true, not, ◌&&◌, List, [], map, ℕ, ◌≤◌, ◌<◌, eqb, length};
-ghost use Rattle.csv_text.specs.Cut.{fields_in};
-ghost use Rattle.csv_text.specs.Shapes.{fault_in, all_faults, same_sense, among, is_empty_way, is_names, faults_named};
-ghost use Rattle.csv_rows.specs.Scan.{line_at, next_line};
-ghost use Rattle.csv_rows.specs.Cursor.{behind, FieldNext, FaultNext};
-ghost use Rattle.csv_rows.specs.Walks.{holds, with_fault, twice, apart, ToldFaults};
-ghost use Rattle.csv_rows.specs.Told.{ToldRow};
+//! No iterator goes over the fields: the lines behind the record would have to be got out of it at its end.
+ghost use Rattle.std.specs.Prelude.{◌≡◌, true, ◌<◌, map};
+ghost use Rattle.csv_text.specs.Shapes.{fault_in, all_faults, among};
+ghost use Rattle.csv_rows.specs.Fields.{fields_left};
+ghost use Rattle.csv_rows.specs.Walks.{word_for, holds, with_fault, twice, named};
+ghost use Rattle.csv_rows.specs.Told.{ReadsLine, faults_said, nothing_said, way_said, row_said};
 
-use super::cursor::{ended, field_at, numeral_at, quoted_at, signed_at, stands};
-use super::{FaultAt, FieldAt, NamesSaid, RowSaid, Words};
+use super::fields::{Rest, fault_field, number_field};
+use super::{Named, Row};
 use csv_text::Fault;
+use rules::Words;
 
-/// A field as a fault.
-fn fault_of(f: FieldAt) -> FaultAt
-    ensures { (t : List ℕ) (at : ℕ) → FieldNext t at f → FaultNext t at result }
-{
-    if f.value == 0 {
-        return FaultAt {
-            good: false,
-            fault: Fault {
-                place: 0,
-                absent: f.absent,
-            },
-            more: f.more,
-            next: f.next,
-        };
-    }
-    FaultAt {
-        good: f.good,
-        fault: Fault {
-            place: f.value - 1,
-            absent: f.absent,
-        },
-        more: f.more,
-        next: f.next,
-    }
+// Both stay, where `Named` has one of them: a near fault behind a far one is still looked for in the words.
+/// The faults of a way that are seen so far: the words of the near ones, and whether there is a far one.
+#[derive(Clone, Copy)]
+struct Seen {
+    words: Words,
+    far: bool,
 }
 
-/// The field at a position as a fault. A bare field is read in place, as this is done for every fault of a text.
-fn fault_at(text: &[u8], at: usize) -> FaultAt
-    requires { at ≤ length text.now }
-    ensures { FaultNext text.now at result }
+/// The fault is among those that are left, in the same sense, if all that is left are faults. Far faults are rare: they are looked for out of line.
+#[inline(never)]
+fn among(fault: Fault, rest: Rest<'_>) -> bool
+    ensures { all_faults (fields_left rest.entry) ≡ true → result ≡ among fault (map fault_in (fields_left rest.entry)) }
 {
-    if stands(text, at, 34) {
-        return fault_of(quoted_at(text, at));
-    }
-    let c = signed_at(text, at);
-    let end = c.end;
-    fault_of(ended(text, c, end))
-}
-
-/// Two faults are the same, in the same sense.
-fn same_fault(x: Fault, y: Fault) -> bool
-    ensures { result ≡ (eqb x.place y.place && same_sense x.absent y.absent) }
-{
-    if x.place != y.place {
-        return false;
-    }
-    if x.absent {
-        return y.absent;
-    }
-    !y.absent
-}
-
-/// The fault is among those that are left from a position on, in the same sense, if all fields there are faults.
-fn among(x: Fault, text: &[u8], more: bool, start: usize) -> bool
-    requires { more ≡ true → start ≤ length text.now }
-    ensures { all_faults (behind more text.now start) ≡ true → result ≡ among x (map fault_in (behind more text.now start)) }
-{
-    let mut at = start;
-    let mut left = more;
-    while left {
-        let y = fault_of(field_at(text, at));
-        if !y.good {
+    let mut rest = rest;
+    while let Some(fields) = rest.fields() {
+        let Some((other, behind)) = fault_field(fields) else {
             return false;
-        }
-        let f = y.fault;
-        if same_fault(x, f) {
+        };
+        if fault == other {
             return true;
         }
-        at = y.next;
-        left = y.more;
+        rest = behind;
     }
     false
 }
 
-/// A near fault is in the word of its sense.
-fn named(w: Words, x: Fault) -> bool
-    requires { x.place < 64 }
-    ensures { result ≡ holds w x }
-{
-    let place = x.place;
-    if x.absent {
-        return (w.absent >> place) % 2 == 1;
-    }
-    (w.present >> place) % 2 == 1
-}
-
-/// The fault was named before, or, if it is far, is named behind a position.
-fn named_twice(w: Words, x: Fault, text: &[u8], more: bool, at: usize) -> bool
-    requires { more ≡ true → at ≤ length text.now }
-    ensures { all_faults (behind more text.now at) ≡ true → result ≡ twice w x (map fault_in (behind more text.now at)) }
-{
-    if x.place < 64 {
-        return named(w, x);
-    }
-    among(x, text, more, at)
-}
-
-/// The words with one fault more.
-fn with_fault(w: Words, x: Fault) -> Words
-    ensures { result ≡ with_fault w x }
-{
-    let place = x.place;
-    if 64 <= place {
-        return Words {
-            far: true,
-            present: w.present,
-            absent: w.absent,
-        };
-    }
-    let bit: u64 = 1 << place;
-    if x.absent {
-        return Words {
-            far: w.far,
-            present: w.present,
-            absent: w.absent | bit,
-        };
-    }
-    Words {
-        far: w.far,
-        present: w.present | bit,
-        absent: w.absent,
-    }
-}
-
-/// The fields from a position on as the faults of a way, none of them twice in the same sense.
-fn names(text: &[u8], start: usize) -> NamesSaid
-    requires { start ≤ length text.now }
-    ensures told_faults { ToldFaults (apart (fields_in (line_at text.now start))) (map fault_in (fields_in (line_at text.now start))) result }
-    ensures next_value { result.good ≡ true → result.next ≡ next_line text.now start }
-{
-    let mut w = Words {
+impl Seen {
+    /// No fault.
+    const NONE: Seen = Seen {
+        words: Words {
+            present: 0,
+            absent: 0,
+        },
         far: false,
-        present: 0,
-        absent: 0,
     };
-    let none = NamesSaid {
-        good: false,
-        words: w,
-        next: start,
-    };
-    let mut at = start;
-    let mut more = true;
-    while more {
-        let f = fault_at(text, at);
-        if !f.good {
-            return none;
+
+    /// The word of a sense.
+    fn word(&self, absent: bool) -> u64
+        ensures { result ≡ word_for absent self.now.words }
+    {
+        if absent {
+            self.words.absent
+        } else {
+            self.words.present
         }
-        let x = f.fault;
-        at = f.next;
-        more = f.more;
-        if named_twice(w, x, text, more, at) {
-            return none;
-        }
-        w = with_fault(w, x);
     }
-    NamesSaid {
-        good: true,
-        words: w,
-        next: at + 1,
+
+    // `has` of `chances` would bring in a crate of weights for one line: no plainer.
+    /// A near fault is in the word of its sense.
+    fn holds(&self, fault: Fault) -> bool
+        requires { fault.place < 64 }
+        ensures { result ≡ holds self.now fault }
+    {
+        (self.word(fault.absent) >> fault.place) & 1 == 1
+    }
+
+    /// The fault was named before, or, if it is far, is named behind it.
+    fn again(&self, fault: Fault, rest: Rest<'_>) -> bool
+        ensures { all_faults (fields_left rest.entry) ≡ true → result ≡ twice self.now fault (map fault_in (fields_left rest.entry)) }
+    {
+        if fault.place < 64 {
+            self.holds(fault)
+        } else {
+            among(fault, rest)
+        }
+    }
+
+    /// With one fault more.
+    fn with(self, fault: Fault) -> Seen
+        ensures { result ≡ with_fault self fault }
+    {
+        let Seen { mut words, far } = self;
+        if fault.place >= 64 {
+            return Seen { words, far: true };
+        }
+        let bit = 1 << fault.place;
+        if fault.absent {
+            words.absent |= bit;
+        } else {
+            words.present |= bit;
+        }
+        Seen { words, far }
+    }
+
+    /// The faults as they are handed over.
+    fn named(self) -> Named
+        ensures { result ≡ named self }
+    {
+        if self.far {
+            Named::Far
+        } else {
+            Named::Near(self.words)
+        }
+    }
+}
+
+/// The fields as the faults of a way, none of them twice in the same sense. There is one at least, so no test stands before the first.
+fn faults(text: &[u8]) -> Option<(Named, &[u8])>
+    ensures { ReadsLine faults_said text.now result }
+{
+    let mut seen = Seen::NONE;
+    let mut fields = text;
+    loop {
+        let (fault, rest) = fault_field(fields)?;
+        if seen.again(fault, rest) {
+            return None;
+        }
+        seen = seen.with(fault);
+        match rest {
+            Rest::Fields(further) => fields = further,
+            Rest::Lines(lines) => return Some((seen.named(), lines)),
+        }
     }
 }
 
 /// The field `0` alone: the empty way.
-fn nothing(text: &[u8], at: usize) -> NamesSaid
-    requires { at ≤ length text.now }
-    ensures told_faults { ToldFaults (is_empty_way (fields_in (line_at text.now at))) [] result }
-    ensures next_value { result.good ≡ true → result.next ≡ next_line text.now at }
+fn nothing(text: &[u8]) -> Option<(Named, &[u8])>
+    ensures { ReadsLine nothing_said text.now result }
 {
-    let f = numeral_at(text, at);
-    let mut n = NamesSaid {
-        good: false,
-        words: Words {
-            far: false,
-            present: 0,
-            absent: 0,
-        },
-        next: f.next,
-    };
-    if f.more {
-        return n;
-    }
-    if f.value != 0 {
-        return n;
-    }
-    if f.good {
-        n.good = true;
-        n.next = f.next + 1;
-    }
-    n
+    let (number, rest) = number_field(text)?;
+    let lines = rest.lines()?;
+    (number == 0).then_some((Seen::NONE.named(), lines))
 }
 
 /// The fields behind a cue number: faults, or `0` alone for the empty way.
-fn way(text: &[u8], at: usize) -> NamesSaid
-    requires { at ≤ length text.now }
-    ensures told_faults { ToldFaults (is_names (fields_in (line_at text.now at))) (faults_named (fields_in (line_at text.now at))) result }
-    ensures next_value { result.good ≡ true → result.next ≡ next_line text.now at }
+fn way(text: &[u8]) -> Option<(Named, &[u8])>
+    ensures { ReadsLine way_said text.now result }
 {
-    let n = names(text, at);
-    if n.good {
-        return n;
-    }
-    nothing(text, at)
+    faults(text).or_else(|| nothing(text))
 }
 
-/// The record of a way in the line at a position: a cue number, then the fields of the way, or none for a cue without ways.
-pub fn row(text: &[u8], at: usize) -> RowSaid
-    requires { at ≤ length text.now }
-    ensures told_row { ToldRow (fields_in (line_at text.now at)) result }
-    ensures next_value { result.good ≡ true → result.next ≡ next_line text.now at }
+/// The record of a way: a cue number, then the fields of the way, or none for a cue without ways.
+pub fn row(text: &[u8]) -> Option<(Row, &[u8])>
+    ensures { ReadsLine row_said text.now result }
 {
-    let c = numeral_at(text, at);
-    let mut r = RowSaid {
-        good: false,
-        cue: 0,
-        way: false,
-        far: false,
-        present: 0,
-        absent: 0,
-        next: c.next,
-    };
-    if !c.good {
-        return r;
-    }
-    if 65535 < c.value {
-        return r;
-    }
-    r.cue = c.value as u16;
-    if !c.more {
-        r.good = true;
-        r.next = c.next + 1;
-        return r;
-    }
-    let n = way(text, c.next);
-    RowSaid {
-        good: n.good,
-        cue: c.value as u16,
-        way: true,
-        far: n.words.far,
-        present: n.words.present,
-        absent: n.words.absent,
-        next: n.next,
+    let (number, rest) = number_field(text)?;
+    let cue = u16::try_from(number).ok()?;
+    match rest {
+        Rest::Lines(lines) => Some((Row { cue, way: None }, lines)),
+        Rest::Fields(fields) => {
+            let (way, lines) = way(fields)?;
+            let way = Some(way);
+            Some((Row { cue, way }, lines))
+        }
     }
 }

@@ -13,10 +13,9 @@ use Rattle.rules.specs.Rounding.{S}
 use Rattle.rules.specs.Refusals.{way_refusals, limit_refusals}
 use Rattle.rules.specs.Sheet.{Sheet, AllBelow, Within, encode, decode, read_refusals, read_number, lists_refusals, write_refusals}
 use Rattle.rules.specs.Answers.{Reply}
-use Rattle.rules.specs.declared.WriteAnswer.{WriteAnswer}
+use Rattle.std.specs.Prelude.{Ok}
 use Rattle.rules.proofs.Refused.{numbers_tried}
 use Rattle.rules.proofs.Sheets.{within_decoded, encode_decode, encode-bytes}
-use Rattle.csv_text.specs.declared.ImportAnswer.{ImportAnswer}
 use Rattle.csv_text.specs.Cut.{records_in}
 use Rattle.csv_text.specs.Shapes.{misread, sheet_in}
 use Rattle.csv_text.specs.Texts.{sheet_records, rendered, csv_of}
@@ -139,7 +138,7 @@ import-exactly t n = (
 -- What an accepted import gives.
 pub record Accepts (t space : List ℕ) : Type 0 where
   -- The count of the sheet's bytes, these at the front of the space, and behind them what was there.
-  pub answer : import_answer t (length space) ≡ ImportAnswer.Written (length (encode (sheet_in t)))
+  pub answer : import_answer t (length space) ≡ Ok (length (encode (sheet_in t)))
   pub written : AtFront (encode (sheet_in t)) space (imported t space)
   -- Reading accepts those bytes and finds the sheet that the text says.
   pub reads : read_number (encode (sheet_in t)) ≡ 0
@@ -190,10 +189,10 @@ refused-export = export-refused
 -- The bytes of a sheet, exported into one space and from there imported into another.
 pub record Returns (bs between space : List ℕ) : Type 0 where
   -- Export answers with the count of the text's bytes and puts them to the front.
-  pub export-answer : export_answer bs (length between) ≡ WriteAnswer.Written (length (csv_of (decode bs)))
+  pub export-answer : export_answer bs (length between) ≡ Ok (length (csv_of (decode bs)))
   pub text : AtFront (csv_of (decode bs)) between (exported bs between)
   -- Import of that text answers with the count of the bytes, and puts the same bytes to the front.
-  pub import-answer : import_answer (csv_of (decode bs)) (length space) ≡ ImportAnswer.Written (length bs)
+  pub import-answer : import_answer (csv_of (decode bs)) (length space) ≡ Ok (length bs)
   pub bytes : AtFront bs space (imported (csv_of (decode bs)) space)
 
 pub export-import : (bs : List ℕ) → AllBelow 256 bs → read_number bs ≡ 0 → (between space : List ℕ)
@@ -207,7 +206,7 @@ export-import bs h accepted between space room long =
     record {
       export-answer = export_answered bs (length between) out;
       text = export-put bs between out;
-      import-answer = import_answered (csv_of (decode bs)) (length space) back ∙ ap (λ (xs : List ℕ). ImportAnswer.Written (length xs)) same;
+      import-answer = import_answered (csv_of (decode bs)) (length space) back ∙ ap (λ (xs : List ℕ). Ok (length xs)) same;
       bytes = rw same at (import-put (csv_of (decode bs)) space back);
     }
 

@@ -11,10 +11,12 @@ use lib.Dec.{ltb}
 use borrow.Author.Tests.{ltb-false, le-ltb, not-false}
 use Rattle.rules.specs.Rounding.{S}
 use Rattle.rules.specs.declared.Limits.{Limits}
-use Rattle.rules.specs.Refusals.{Refusal, refusal, overweight, not_rising, rising, way_refusals, limit_refusals}
+use Rattle.rules.specs.Refusals.{Test, test, overweight, not_rising, rising, way_refusals, limit_refusals}
+use Rattle.rules.specs.declared.Refusal.{Refusal}
 use Rattle.rules.specs.Sheet.{Cue, Sheet, same_numbers, AllBelow, Within, lists_of, numbers_of, present_of, absent_of, encode, decode}
-use Rattle.rules.specs.Sheet.{read_refusals, read_number, write_answer_by, written_by}
-use Rattle.rules.specs.declared.WriteAnswer.{WriteAnswer}
+use Rattle.rules.specs.Sheet.{read_refusals, read_number, written_by}
+use Rattle.std.specs.Prelude.{Ok}
+use Rattle.rules.proofs.Answering.{answered-free}
 use Rattle.rules.specs.Text.{bytes}
 use Rattle.rules.proofs.Booleans.{and_both}
 use Rattle.rules.proofs.Bytes.{below-mono}
@@ -140,13 +142,13 @@ csv-ended s = rendered-ended (run_record s.limits) (weights_record s.weights ∷
 
 module _ (bs : List ℕ) (n : ℕ) where
   -- The last refusal of an export.
-  abbrev room : List Refusal
-  room = refusal 22 (ltb n (length (csv_of (decode bs)))) ∷ []
+  abbrev room : List Test
+  room = test Refusal.NoRoom (ltb n (length (csv_of (decode bs)))) ∷ []
 
   -- A sheet that reading accepts meets none of its refusals.
   read_free : read_number bs ≡ 0 → NoneApplies (read_refusals bs)
   unfolding read_number read_refusals way_refusals limit_refusals
-  read_free h = none-applies (read_refusals bs) refl h
+  read_free h = none-applies (read_refusals bs) h
 
   -- Accepted: reading accepts the sheet.
   pub export_read : export_number bs n ≡ 0 → read_number bs ≡ 0
@@ -162,7 +164,7 @@ module _ (bs : List ℕ) (n : ℕ) where
   unfolding export_number export_refusals
   export_room h =
       ltb-false n (length (csv_of (decode bs)))
-      (none-applies room refl (sym (first-after (read_refusals bs) room (read_free (export_read h))) ∙ h)).0
+      (none-applies room (sym (first-after (read_refusals bs) room (read_free (export_read h))) ∙ h)).0
 
   -- The other way.
   pub read_export : read_number bs ≡ 0 → length (csv_of (decode bs)) ≤ n → export_number bs n ≡ 0
@@ -171,9 +173,9 @@ module _ (bs : List ℕ) (n : ℕ) where
       first-after (read_refusals bs) room (read_free h) ∙ first-later _ _ (le-ltb n (length (csv_of (decode bs))) fits) ∙ first-none
 
   -- An accepted export answers with the count of the text's bytes.
-  pub export_answered : export_number bs n ≡ 0 → export_answer bs n ≡ WriteAnswer.Written (length (csv_of (decode bs)))
-  unfolding export_answer write_answer_by
-  export_answered h = rw h
+  pub export_answered : export_number bs n ≡ 0 → export_answer bs n ≡ Ok (length (csv_of (decode bs)))
+  unfolding export_answer export_number
+  export_answered h = answered-free (export_refusals bs n) (length (csv_of (decode bs))) h
 
 -- An accepted export puts the text to the front of the space.
 pub export-put : (bs space : List ℕ) → export_number bs (length space) ≡ 0 → AtFront (csv_of (decode bs)) space (exported bs space)

@@ -8,6 +8,7 @@ use Prim.Native.Nat.{ℕ, zero, suc}
 use Prim.Native.String.{String}
 use lib.ListN.{length, replicate}
 use lib.Dec.{eqb}
+use Rattle.rules.specs.Refusals
 use Rattle.rules.specs.Answers
 use Rattle.rules.specs.Answers.{Reply, counted_by, write_reply}
 use Rattle.rules.specs.Sheet
@@ -43,13 +44,13 @@ of-shapes = tt
 
 -- An import.
 unfoldable of-import : Unit {0}
-unfolding of-shapes of-writing Sheet.write_answer_by Sheet.write_answer Sheet.written_by Calls.text_lists Calls.import_refusals Calls.import_number
+unfolding of-shapes of-writing Refusals.answered Sheet.write_answer Sheet.written_by Calls.text_lists Calls.import_refusals Calls.import_number
     Calls.taken_over Calls.import_answer_by Calls.import_answer Calls.import_count Calls.imported
 of-import = tt
 
 -- An export.
 unfoldable of-export : Unit {0}
-unfolding of-reading Answers.counted_by Text.bytes Text.digits Text.decimal Sheet.write_answer_by Sheet.written_by
+unfolding of-reading Answers.counted_by Text.bytes Text.digits Text.decimal Refusals.answered Sheet.written_by
     Texts.fault_text Texts.mark Texts.faults_from Texts.or_zero
     Texts.way_record Texts.way_records Texts.or_alone Texts.cue_records Texts.run_record Texts.weights_record Texts.sheet_records Texts.further_fields
     Texts.record_text Texts.rendered Texts.csv_of Calls.export_refusals Calls.export_number Calls.export_answer Calls.exported

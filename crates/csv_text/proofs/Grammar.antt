@@ -201,7 +201,7 @@ first-cut {l = l} {t = t} p h b long =
 -- ---- what cutting finds to be TEXTDATA is of the grammar
 
 -- A piece that begins and ends with a quote is what stands between them, in quotes.
-quoted-quotes : (p : List ℕ) → quoted p ≡ true → p ≡ quotes (take (length p - 2) (drop 1 p))
+pub quoted-quotes : (p : List ℕ) → quoted p ≡ true → p ≡ quotes (take (length p - 2) (drop 1 p))
 unfolding quoted
 quoted-quotes [] h = absurd (true≢false (sym h))
 quoted-quotes (b ∷ q) h = split (length q) refl

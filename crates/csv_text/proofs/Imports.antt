@@ -12,12 +12,14 @@ use lib.Seq.{take-append_seam, drop-append_seam}
 use lib.Dec.{eqb, ltb}
 use borrow.Author.Tests.{ltb-true, le-ltb, lt-ltb, ne_eqb, eq-eqb}
 use Rattle.rules.specs.Rounding.{S}
-use Rattle.rules.specs.Refusals.{Refusal, refusal, first, way_refusals, limit_refusals}
+use Rattle.rules.specs.Refusals.{Test, test, number, first, way_refusals, limit_refusals}
+use Rattle.rules.specs.declared.Refusal.{Refusal}
 use Rattle.rules.specs.Sheet.{Cue, Sheet, Lists, AllBelow, Within, lists_of, sheet_of, numbers_of, encode, decode, read_number, disagree}
-use Rattle.rules.specs.Sheet.{lists_refusals, write_refusals, write_number, write_answer_by, write_answer, written_by}
+use Rattle.rules.specs.Sheet.{lists_refusals, write_refusals, write_number, write_answer, written_by}
 use Rattle.rules.specs.Answers.{Reply, counted_by, write_reply}
 use Rattle.rules.specs.Text.{decimal_value}
-use Rattle.rules.specs.declared.WriteAnswer.{WriteAnswer}
+use Rattle.std.specs.Prelude.{Result, Ok, Err}
+use Rattle.rules.proofs.Answering.{answered-free}
 use Rattle.rules.proofs.Booleans.{and_left, and_right, and_both, or-first, or-second}
 use Rattle.rules.proofs.First.{first-none, first-here, first-later, first_below}
 use Rattle.rules.proofs.Laid.{Paired, paired_none, paired-cons, paired-agree}
@@ -27,13 +29,12 @@ use Rattle.rules.proofs.Sheets.{sheet-lists, accepts_encoded, decode_encode}
 use Rattle.rules.proofs.RoundTrip.{write_kept, kept-write}
 use Rattle.rules.proofs.Replies.{write-by, write-reply}
 use Rattle.decimal.specs.Numerals.{is_numeral}
-use Rattle.csv_text.specs.declared.ImportAnswer.{ImportAnswer}
 use Rattle.csv_text.specs.Cut.{records_in}
 use Rattle.csv_text.specs.Shapes.{is_run, is_weights, is_row, row_in, follows, misread_rows, misread_weights, misread_records, misread}
 use Rattle.csv_text.specs.Shapes.{attach, grouped, sheet_said, sheet_in}
 use Rattle.csv_text.specs.Texts.{csv_of}
 use Rattle.csv_text.specs.Calls.{text_lists, import_refusals, import_number, taken_over, import_answer_by, import_answer, import_reply, import_count, imported}
-use Rattle.csv_text.specs.Calls.{export_number, export_answer}
+use Rattle.csv_text.specs.Calls.{export_refusals, export_number, export_answer}
 use Rattle.csv_text.specs.Promises.{told}
 
 -- ---- words in pairs, so 21 never applies
@@ -76,18 +77,18 @@ unfolding text_lists
 never-21 t = agree-disagree (lists_of (sheet_in t)) (paired-agree (sheet_in t) (text-paired t))
 
 -- A refusal of this number applies.
-abbrev applies : ℕ → List Refusal → Bool
+abbrev applies : ℕ → List Test → Bool
 applies k [] = false
-applies k (x ∷ xs) = (eqb x.number k && x.applies) || applies k xs
+applies k (x ∷ xs) = (eqb (number x.refusal) k && x.applies) || applies k xs
 
 -- A number that a list gives is that of a refusal that applies.
-first-applies : (k : ℕ) (xs : List Refusal) → 0 < k → first xs ≡ k → applies k xs ≡ true
+first-applies : (k : ℕ) (xs : List Test) → 0 < k → first xs ≡ k → applies k xs ≡ true
 first-applies k [] p h = absurd (omega (arith, h, first-none))
 first-applies k (x ∷ xs) p h = split x.applies refl (first-applies k xs p)
   where
     split : (b : Bool) → x.applies ≡ b → (first xs ≡ k → applies k xs ≡ true) → applies k (x ∷ xs) ≡ true
-    split true e rest = or-first (eqb x.number k && x.applies) (applies k xs) (and_both _ _ (eq-eqb x.number k (sym (first-here x xs e) ∙ h)) e)
-    split false e rest = or-second (eqb x.number k && x.applies) (applies k xs) (rest (sym (first-later x xs e) ∙ h))
+    split true e rest = or-first (eqb (number x.refusal) k && x.applies) (applies k xs) (and_both _ _ (eq-eqb (number x.refusal) k (sym (first-here x xs e) ∙ h)) e)
+    split false e rest = or-second (eqb (number x.refusal) k && x.applies) (applies k xs) (rest (sym (first-later x xs e) ∙ h))
 
 -- So the number of an import is never 21.
 pub number-not-21 : (t : List ℕ) (n : ℕ) → import_number t n ≡ 21 → ⊥
@@ -151,12 +152,12 @@ module _ (t : List ℕ) (n : ℕ) where
   -- A record is misread: 23, whatever else applies.
   pub number_misread : (k : ℕ) → misread t ≡ suc k → import_number t n ≡ 23
   unfolding import_number import_refusals
-  number_misread k e = first-here (refusal 23 (ltb 0 (misread t))) (write_refusals (text_lists t) n) (lt-ltb 0 (misread t) (omega (arith, e)))
+  number_misread k e = first-here (test Refusal.Misread (ltb 0 (misread t))) (write_refusals (text_lists t) n) (lt-ltb 0 (misread t) (omega (arith, e)))
 
   -- None is: the writer's number.
   pub number_read : misread t ≡ 0 → import_number t n ≡ write_number (text_lists t) n
   unfolding import_number import_refusals write_number
-  number_read e = first-later (refusal 23 (ltb 0 (misread t))) (write_refusals (text_lists t) n) (le-ltb 0 (misread t) (omega (arith, e)))
+  number_read e = first-later (test Refusal.Misread (ltb 0 (misread t))) (write_refusals (text_lists t) n) (le-ltb 0 (misread t) (omega (arith, e)))
 
 -- ---- an accepted import
 
@@ -201,9 +202,10 @@ module _ (t : List ℕ) (n : ℕ) (accepted : import_number t n ≡ 0) where
   import_room = rw import_sheet at (write_kept (text_lists t) n lists_written).1
 
   -- The answer counts them.
-  pub import_answered : import_answer t n ≡ ImportAnswer.Written (length (encode (sheet_in t)))
-  unfolding import_answer import_answer_by taken_over write_answer write_answer_by
-  import_answered = rw (not_misread, lists_written, import_sheet)
+  pub import_answered : import_answer t n ≡ Ok (length (encode (sheet_in t)))
+  unfolding import_answer import_answer_by taken_over write_answer write_number
+  import_answered =
+      rw (not_misread, answered-free (write_refusals (text_lists t) n) (length (encode (sheet_of (text_lists t)))) lists_written, import_sheet)
 
 -- No record is misread, the sheet is within the limits and its bytes fit: import accepts the text.
 pub import-accepts : (t : List ℕ) (n : ℕ) → misread t ≡ 0 → Within (sheet_in t) → length (encode (sheet_in t)) ≤ n → import_number t n ≡ 0
@@ -246,10 +248,10 @@ unfolding write_number write_refusals lists_refusals way_refusals limit_refusals
 write-below x n = first_below 23 (write_refusals x n) (omega arith) refl
 
 -- An answer of the writer says the same as the import's.
-taken-reply : (a : WriteAnswer) → import_reply (taken_over a) ≡ write_reply a
+taken-reply : (a : Result ℕ Refusal) → import_reply (taken_over a) ≡ write_reply a
 unfolding taken_over
-taken-reply (WriteAnswer.Written n) = refl
-taken-reply (WriteAnswer.Refused n) = refl
+taken-reply (Ok n) = refl
+taken-reply (Err r) = refl
 
 -- What a call of this number tells; at is the record that is misread.
 abbrev told_by : ℕ → ℕ → ℕ → Reply
@@ -287,5 +289,5 @@ import-replies t n = split (misread t) refl
 
 -- An export's answer likewise: the bytes written, or the number.
 pub export-replies : (bs : List ℕ) (n : ℕ) → write_reply (export_answer bs n) ≡ counted_by (export_number bs n) (length (csv_of (decode bs)))
-unfolding export_answer
-export-replies bs n = write-by (export_number bs n) (length (csv_of (decode bs)))
+unfolding export_answer export_number
+export-replies bs n = write-by (export_refusals bs n) (length (csv_of (decode bs)))

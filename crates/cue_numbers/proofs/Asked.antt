@@ -12,9 +12,10 @@ use Rattle.rules.specs.Table.{Table}
 use Rattle.rules.specs.declared.Way.{Way}
 use Rattle.rules.specs.Leaf.{is_open}
 use Rattle.rules.specs.Tree.{root_ways, Place, DTree, occurs, possible, roomy, leaf_ways}
-use Rattle.rules.specs.Refusals.{Refusal, refusal, first, way_refusals, table_refusals, table_number, Accepted}
+use Rattle.rules.specs.Refusals.{Test, test, first, way_refusals, table_refusals, table_number, Accepted}
 use Rattle.rules.specs.Calls.{place_of, leaf_named, no_leaf, of_leaf, leaf_refusals, hand_refusals, hand_number}
 use Rattle.rules.specs.declared.Kind.{Kind}
+use Rattle.rules.specs.declared.Refusal.{Refusal}
 use Rattle.rules.proofs.Accepted.{few_faults, root_inside}
 use Rattle.rules.proofs.First.{none-applies, first-after, first-before, first-same}
 use Rattle.rules.proofs.KindLaws.{occurs-below}
@@ -22,14 +23,14 @@ use Rattle.rules.proofs.Runs.{leaf-inside}
 use Rattle.cue_numbers.specs.Numbers.{kind_asked}
 
 -- The refusals of a hand refinement that is possible at no leaf: 20 applies always.
-unfoldable pub never_refusals : Table → Bool → DTree → List ℕ → List Refusal
+unfoldable pub never_refusals : Table → Bool → DTree → List ℕ → List Test
 never_refusals t bad s bs =
     table_refusals t
-    ++ (refusal 16 bad
-    ∷ refusal 17 (no_leaf bs (leaf_named t s bs))
-    ∷ refusal 18 (of_leaf (λ vs. not (is_open t.weights vs)) (leaf_named t s bs))
-    ∷ refusal 19 (not (roomy s))
-    ∷ refusal 20 true
+    ++ (test Refusal.NotGood bad
+    ∷ test Refusal.NoLeaf (no_leaf bs (leaf_named t s bs))
+    ∷ test Refusal.Closed (of_leaf (λ vs. not (is_open t.weights vs)) (leaf_named t s bs))
+    ∷ test Refusal.Full (not (roomy s))
+    ∷ test Refusal.Impossible true
     ∷ [])
 
 module _ (t : Table) (ok : Accepted t) (s : DTree) (bs : List ℕ) (f : ℕ) (far : 64 ≤ f) where
@@ -65,10 +66,10 @@ far-fault t bad s bs f far = by (first (table_refusals t)) refl
     by : (n : ℕ) → first (table_refusals t) ≡ n → hand_number t bad s bs (Kind.Shannon f) ≡ first (never_refusals t bad s bs)
     by (suc n) e = first-before (table_refusals t) _ n e ∙ sym (first-before (table_refusals t) _ n e)
     by zero e =
-        let k = none-applies (table_refusals t) refl e in
+        let k = none-applies (table_refusals t) e in
         first-after (table_refusals t) _ k
         ∙ first-same _ _ _ (λ _. first-same _ _ _ (λ leaf. first-same _ _ _ (λ _. first-same _ _ _ (λ _.
-        ap (λ (b : Bool). first (refusal 20 b ∷ [])) (twenty t e s bs f far leaf)))))
+        ap (λ (b : Bool). first (test Refusal.Impossible b ∷ [])) (twenty t e s bs f far leaf)))))
         ∙ sym (first-after (table_refusals t) _ k)
 
 -- THE NUMBER of a hand refinement that asks for none of them: `what` is neither 0 nor 1 nor 2.

@@ -1,25 +1,21 @@
 -- The numbers that stand for each answer, the refinement that numbers ask for, and the version of them all.
 -- What is told of an answer is the reply that `rules`, Answers, gives it, with a code for the verdict and a run's figure (docs/RULES.md, 8.4 to 8.9).
-use Rattle.std.specs.Prelude.{true, false, List, [], ◌∷◌, ℕ, zero, suc, eqb, length, drop}
-use Rattle.std.proofs.Math.Option.{Option, none, some}
+use Rattle.std.specs.Prelude.{Option, Some, None, Result, Ok, Err, true, false, List, [], ◌∷◌, ℕ, zero, suc, eqb, length, drop}
+use Rattle.std.specs.declared.cmp.Ordering.{Ordering}
 use Rattle.rules.specs.Table.{Table, table}
 use Rattle.rules.specs.Sheet.{Cue, table_of, decode, read_number}
-use Rattle.rules.specs.Answers.{Reply, answer_reply, run_reply, run_verdict, run_figure, read_reply, entry_reply, handed_over, write_reply}
+use Rattle.rules.specs.Answers.{Reply, verdict_number, answer_reply, run_reply, run_verdict, run_figure, read_reply, entry_reply, handed_over, write_reply}
 use Rattle.rules.specs.declared.Kind.{Kind}
 use Rattle.rules.specs.declared.Verdict.{Verdict}
-use Rattle.rules.specs.declared.Answer.{Answer}
-use Rattle.rules.specs.declared.RunAnswer.{RunAnswer}
+use Rattle.rules.specs.declared.Ended.{Ended}
+use Rattle.rules.specs.declared.Entry.{Entry}
+use Rattle.rules.specs.declared.Figures.{Figures}
 use Rattle.rules.specs.declared.Head.{Head}
-use Rattle.rules.specs.declared.ReadAnswer.{ReadAnswer}
-use Rattle.rules.specs.declared.EntryAnswer.{EntryAnswer}
-use Rattle.rules.specs.declared.WriteAnswer.{WriteAnswer}
-use Rattle.page.specs.declared.Spot.{Spot}
-use Rattle.csv_text.specs.declared.ImportAnswer.{ImportAnswer}
+use Rattle.rules.specs.declared.Refusal.{Refusal}
+use Rattle.csv_text.specs.declared.ImportError.{ImportError}
+use Rattle.captures.specs.declared.Fraction.{Fraction}
 use Rattle.csv_text.specs.Calls.{import_reply}
-use Rattle.captures.specs.declared.FractionAnswer.{FractionAnswer}
-use Rattle.captures.specs.declared.WeightAnswer.{WeightAnswer}
-use Rattle.captures.specs.declared.OrderAnswer.{OrderAnswer}
-use Rattle.captures.specs.Fractions.{fraction_refused, fraction_told, weight_refused, weight_told, order_refused, order_told}
+use Rattle.captures.specs.Fractions.{number_told, fraction_told, weight_told, order_told}
 use Rattle.sheet.specs.Handed.{sized}
 use Rattle.cue_numbers.specs.declared.CueAnswer.{CueAnswer}
 use Rattle.cue_numbers.specs.declared.CueSpot.{CueSpot}
@@ -48,11 +44,8 @@ kind_asked what fault =
 
 -- A verdict's code; 0 where there is none.
 abbrev pub verdict_code : Option Verdict → ℕ
-verdict_code none = 0
-verdict_code (some Verdict.Met) = 1
-verdict_code (some Verdict.Done) = 2
-verdict_code (some Verdict.Full) = 3
-verdict_code (some Verdict.Spent) = 4
+verdict_code None = 0
+verdict_code (Some v) = verdict_number v
 
 -- A reply, a verdict and a figure as numbers.
 abbrev pub flat_with : Reply → Option Verdict → ℕ → CueAnswer
@@ -60,36 +53,36 @@ flat_with r v g = record { number = r.number; low = r.low; high = r.high; count 
 
 -- A reply as numbers where there is neither verdict nor figure.
 abbrev pub flat : Reply → CueAnswer
-flat r = flat_with r none 0
+flat r = flat_with r None 0
 
 -- The answer of an opening or a hand refinement.
-abbrev pub flat_answer : Answer → CueAnswer
+abbrev pub flat_answer : Result Figures Refusal → CueAnswer
 flat_answer a = flat (answer_reply a)
 
 -- The answer of a run.
-abbrev pub flat_run : RunAnswer → CueAnswer
+abbrev pub flat_run : Result Ended Refusal → CueAnswer
 flat_run a = flat_with (run_reply a) (run_verdict a) (run_figure a)
 
 -- The answer of the writer, of the report and of an export.
-abbrev pub flat_write : WriteAnswer → CueAnswer
+abbrev pub flat_write : Result ℕ Refusal → CueAnswer
 flat_write a = flat (write_reply a)
 
 -- The answer of an import.
-abbrev pub flat_import : ImportAnswer → CueAnswer
+abbrev pub flat_import : Result ℕ ImportError → CueAnswer
 flat_import a = flat (import_reply a)
 
 -- What the search of lent records finds.
-abbrev pub flat_spot : Spot → CueSpot
-flat_spot (Spot.At i) = record { found = 1; at = i }
-flat_spot Spot.Nothing = record { found = 0; at = 0 }
+abbrev pub flat_spot : Option ℕ → CueSpot
+flat_spot (Some i) = record { found = 1; at = i }
+flat_spot None = record { found = 0; at = 0 }
 
 -- The head that reading a whole sheet hands over; refused, zeros.
-abbrev pub head_handed : ReadAnswer → Head
-head_handed (ReadAnswer.Sheet h) = h
-head_handed (ReadAnswer.Refused n) = record { faults = 0; cues = 0; limits = record { allowance = 0; budget = 0 } }
+abbrev pub head_handed : Result Head Refusal → Head
+head_handed (Ok h) = h
+head_handed (Err r) = record { faults = 0; cues = 0; limits = record { allowance = 0; budget = 0 } }
 
 -- The answer of reading a whole sheet.
-abbrev pub flat_sheet : ReadAnswer → CueSheet
+abbrev pub flat_sheet : Result Head Refusal → CueSheet
 flat_sheet a =
     record {
       number = (read_reply a).number;
@@ -100,13 +93,13 @@ flat_sheet a =
     }
 
 -- Whether a reader's call was past the last cue.
-abbrev pub past_code : EntryAnswer → ℕ
-past_code (EntryAnswer.Cue e) = 0
-past_code EntryAnswer.Past = 1
-past_code (EntryAnswer.Refused n) = 0
+abbrev pub past_code : Result (Option Entry) Refusal → ℕ
+past_code (Ok (Some e)) = 0
+past_code (Ok None) = 1
+past_code (Err r) = 0
 
 -- The answer of a reader's call.
-abbrev pub flat_entry : EntryAnswer → CueEntry
+abbrev pub flat_entry : Result (Option Entry) Refusal → CueEntry
 flat_entry a =
     record {
       number = (entry_reply a).number;
@@ -119,16 +112,16 @@ flat_entry a =
 -- ---- logs and fractions (docs/RULES.md, 14)
 
 -- The answer of a log, of several, and of a sum of fractions; refused, 0 of 0.
-abbrev pub flat_fraction : FractionAnswer → CueFraction
-flat_fraction a = record { number = fraction_refused a; discarded = (fraction_told a).discarded; judged = (fraction_told a).judged }
+abbrev pub flat_fraction : Result Fraction Refusal → CueFraction
+flat_fraction a = record { number = number_told a; discarded = (fraction_told a).discarded; judged = (fraction_told a).judged }
 
 -- The answer of making a weight; refused, 0.
-abbrev pub flat_weight : WeightAnswer → CueWeight
-flat_weight a = record { number = weight_refused a; weight = weight_told a }
+abbrev pub flat_weight : Result ℕ Refusal → CueWeight
+flat_weight a = record { number = number_told a; weight = weight_told a }
 
 -- The answer of a comparison; refused, 0.
-abbrev pub flat_order : OrderAnswer → CueOrder
-flat_order a = record { number = order_refused a; order = order_told a }
+abbrev pub flat_order : Result Ordering Refusal → CueOrder
+flat_order a = record { number = number_told a; order = order_told a }
 
 -- ---- a cue's table (docs/RULES.md, 7.13)
 

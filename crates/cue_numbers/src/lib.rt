@@ -1,5 +1,6 @@
 //! The answers of the C interface: structs of plain numbers, as include/cue_risk.h has them. numbers.rt makes each from the answer of the call that
-//! it tells, by the definitions of specs/Numbers.antt. Rests on the answers of `rules`, `page`, `sheet`, `csv` and `captures`; `cuerisk` has the exports.
+//! it tells, by the definitions of specs/Numbers.antt. Rests on the answers of `rules`, with those of the writer, the report and the trees, and on
+//! those of `page`, `sheet`, `csv_text` and `captures`; `cuerisk` has the exports.
 #![tactic(auto)]
 
 pub mod numbers;
@@ -19,7 +20,7 @@ pub struct CueAnswer {
 
 /// The answer of the search of lent records: 1 and the position, or 0 and 0.
 #[repr(C)]
-#[derive(Clone, Copy)]
+#[derive(Clone, Copy, Default)]
 pub struct CueSpot {
     pub found: u64,
     pub at: usize,
@@ -27,7 +28,7 @@ pub struct CueSpot {
 
 /// The answer of reading a whole sheet: its head, or the number that refuses it and zeros.
 #[repr(C)]
-#[derive(Clone, Copy)]
+#[derive(Clone, Copy, Default)]
 pub struct CueSheet {
     pub number: u64,
     pub faults: u64,
@@ -38,7 +39,7 @@ pub struct CueSheet {
 
 /// The answer of a reader's call: a cue; past the last cue `past` is 1 and the rest 0; refused, the number and zeros.
 #[repr(C)]
-#[derive(Clone, Copy)]
+#[derive(Clone, Copy, Default)]
 pub struct CueEntry {
     pub number: u64,
     pub past: u64,
@@ -63,7 +64,7 @@ pub struct CueTable {
 
 /// The answer of counting one log or several, and of adding fractions: the fraction, or the number that refuses it and 0 of 0.
 #[repr(C)]
-#[derive(Clone, Copy)]
+#[derive(Clone, Copy, Default)]
 pub struct CueFraction {
     pub number: u64,
     pub discarded: u64,
@@ -72,7 +73,7 @@ pub struct CueFraction {
 
 /// The answer of making a weight of a fraction: the weight, or the number that refuses it and 0.
 #[repr(C)]
-#[derive(Clone, Copy)]
+#[derive(Clone, Copy, Default)]
 pub struct CueWeight {
     pub number: u64,
     pub weight: u64,
@@ -80,7 +81,7 @@ pub struct CueWeight {
 
 /// The answer of comparing a fraction with another: 1 less, 2 equal, 3 greater, or the number that refuses it and 0.
 #[repr(C)]
-#[derive(Clone, Copy)]
+#[derive(Clone, Copy, Default)]
 pub struct CueOrder {
     pub number: u64,
     pub order: u64,

@@ -1,284 +1,292 @@
 //! The numbers of each answer, and the refinement that numbers ask for.
 //! Rests on the definitions of specs/Numbers.antt, most of which go through `rules`, Answers.
-ghost use Rattle.std.specs.Prelude.{◌≡◌};
-ghost use Rattle.std.proofs.Math.Option.{some};
+ghost use Rattle.std.specs.Prelude.{◌≡◌, ◌++◌, length, drop, replicate};
 ghost use Rattle.rules.specs.Rounding.{S};
+ghost use Rattle.rules.specs.Refusals.{number};
 ghost use Rattle.rules.specs.Answers.{refused};
-ghost use Rattle.cue_numbers.specs.Numbers.{verdict_code, kind_asked, flat, flat_answer, flat_run, flat_spot};
+ghost use Rattle.sheet.specs.Handed.{as_table};
+ghost use Rattle.cue_numbers.specs.Numbers.{kind_asked, flat, flat_answer, flat_run, flat_spot};
 ghost use Rattle.cue_numbers.specs.Numbers.{flat_sheet, flat_entry, no_table, flat_table, flat_write, flat_import};
 ghost use Rattle.cue_numbers.specs.Numbers.{flat_fraction, flat_weight, flat_order};
 
 use super::{CueAnswer, CueEntry, CueFraction, CueOrder, CueSheet, CueSpot, CueTable, CueWeight};
-use captures::{FractionAnswer, OrderAnswer, WeightAnswer};
-use csv_text::ImportAnswer;
-use page::Spot;
-use rules::{Answer, EntryAnswer, Figures, Kind, ReadAnswer, RunAnswer, S, Verdict, WriteAnswer};
+use arrayvec::ArrayVec;
+use captures::Fraction;
+use csv_text::ImportError;
+use rules::{Ended, Entry, Figures, Head, Kind, Refusal, S};
+use sheet::table::TableArrays;
+use std::cmp::Ordering;
 
 /// The refinement asked for: 0 is independence, 1 the fault, 2 the common part. Any other number asks for fault 64, which no table has: 20.
+/// No `TryFrom`: a number that stands for nothing is refused by 20, behind 9 to 19, so it has to be handed on as a kind.
+#[tactic(auto, unfolding(crate::specs::Numbers::kind_asked))]
 pub fn kind_asked(what: u64, fault: u64) -> Kind
     ensures { result ≡ kind_asked what fault }
 {
-    if what == 0 {
-        return Kind::IndependentOr;
-    }
-    if what == 1 {
-        return Kind::Shannon(fault);
-    }
-    if what == 2 {
-        return Kind::IndependentAnd;
-    }
-    Kind::Shannon(64)
-}
-
-/// A verdict's code.
-fn verdict_code(v: Verdict) -> u64
-    ensures { result ≡ verdict_code (some v) }
-{
-    match v {
-        Verdict::Met => 1,
-        Verdict::Done => 2,
-        Verdict::Full => 3,
-        Verdict::Spent => 4,
+    match what {
+        0 => Kind::IndependentOr,
+        1 => Kind::Shannon(fault),
+        2 => Kind::IndependentAnd,
+        _ => Kind::Shannon(64),
     }
 }
 
-/// An answer without an interval: nought to the full billion, neither verdict nor figure.
-fn bare(number: u64, count: u64) -> CueAnswer
-    ensures { result ≡ record { number = number; low = 0; high = S; count = count; verdict = 0; figure = 0 } }
-{
-    CueAnswer {
-        number,
-        low: 0,
-        high: S,
-        count,
-        verdict: 0,
-        figure: 0,
+impl CueAnswer {
+    /// An answer without an interval: nought to the full billion, neither verdict nor figure.
+    fn bare(number: u64, count: u64) -> CueAnswer
+        ensures { result ≡ record { number = number; low = 0; high = S; count = count; verdict = 0; figure = 0 } }
+    {
+        CueAnswer {
+            number,
+            low: 0,
+            high: S,
+            count,
+            verdict: 0,
+            figure: 0,
+        }
+    }
+
+    /// An accepted call on a tree, with its verdict's code and its figure.
+    fn accepted(figures: Figures, verdict: u64, figure: u64) -> CueAnswer
+        ensures { result ≡ record { number = 0; low = figures.low; high = figures.high; count = figures.count; verdict = verdict; figure = figure } }
+    {
+        CueAnswer {
+            number: 0,
+            low: figures.low,
+            high: figures.high,
+            count: figures.count,
+            verdict,
+            figure,
+        }
     }
 }
 
 /// A refused call.
-fn refused(n: u8) -> CueAnswer
-    ensures { result ≡ flat (refused n) }
-{
-    bare(n as u64, 0)
-}
+impl From<Refusal> for CueAnswer {
+    ghost from_gives = { λ r a. a ≡ flat (refused (number r)) };
 
-/// An accepted call on a tree, with its verdict's code and its figure.
-fn accepted(f: Figures, verdict: u64, figure: u64) -> CueAnswer
-    ensures { result ≡ record { number = 0; low = f.low; high = f.high; count = f.count; verdict = verdict; figure = figure } }
-{
-    CueAnswer {
-        number: 0,
-        low: f.low,
-        high: f.high,
-        count: f.count,
-        verdict,
-        figure,
+    fn from(refusal: Refusal) -> CueAnswer {
+        CueAnswer::bare(u64::from(refusal), 0)
     }
 }
 
-/// The numbers of an opening's or a hand refinement's answer.
-pub fn of_answer(a: Answer) -> CueAnswer
-    ensures { result ≡ flat_answer a }
-{
-    match a {
-        Answer::Accepted(f) => accepted(f, 0, 0),
-        Answer::Refused(n) => refused(n),
-    }
-}
+// Each conversion below has its `match`: what is told of a refusal is one more conversion, or zeros, and `map_or_else` would name the two as functions.
+/// An opening or a hand refinement.
+impl From<Result<Figures, Refusal>> for CueAnswer {
+    ghost from_gives = { λ r a. a ≡ flat_answer r };
 
-/// The numbers of a run's answer.
-pub fn of_run(a: RunAnswer) -> CueAnswer
-    ensures { result ≡ flat_run a }
-{
-    match a {
-        RunAnswer::Ended(v, f, g) => accepted(f, verdict_code(v), g),
-        RunAnswer::Refused(n) => refused(n),
-    }
-}
-
-/// The numbers of what the search finds.
-pub fn of_spot(s: Spot) -> CueSpot
-    ensures { result ≡ flat_spot s }
-{
-    match s {
-        Spot::At(i) => CueSpot { found: 1, at: i },
-        Spot::Nothing => CueSpot { found: 0, at: 0 },
-    }
-}
-
-/// The numbers of reading a whole sheet.
-pub fn of_read(a: ReadAnswer) -> CueSheet
-    ensures { result ≡ flat_sheet a }
-{
-    match a {
-        ReadAnswer::Sheet(h) => {
-            let m = h.limits;
-            CueSheet {
-                number: 0,
-                faults: h.faults as u64,
-                cues: h.cues as u64,
-                allowance: m.allowance,
-                budget: m.budget,
-            }
+    fn from(answer: Result<Figures, Refusal>) -> CueAnswer {
+        match answer {
+            Ok(figures) => CueAnswer::accepted(figures, 0, 0),
+            Err(refusal) => CueAnswer::from(refusal),
         }
-        ReadAnswer::Refused(n) => CueSheet {
-            number: n as u64,
+    }
+}
+
+/// A run.
+impl From<Result<Ended, Refusal>> for CueAnswer {
+    ghost from_gives = { λ r a. a ≡ flat_run r };
+
+    fn from(answer: Result<Ended, Refusal>) -> CueAnswer {
+        match answer {
+            Ok(ended) => {
+                CueAnswer::accepted(ended.figures, u64::from(ended.verdict), ended.figure)
+            }
+            Err(refusal) => CueAnswer::from(refusal),
+        }
+    }
+}
+
+/// The writer, the report or an export: the bytes written.
+impl From<Result<u64, Refusal>> for CueAnswer {
+    ghost from_gives = { λ r a. a ≡ flat_write r };
+
+    fn from(answer: Result<u64, Refusal>) -> CueAnswer {
+        match answer {
+            Ok(written) => CueAnswer::bare(0, written),
+            Err(refusal) => CueAnswer::from(refusal),
+        }
+    }
+}
+
+/// An import: the bytes written, or the record that is misread.
+impl From<Result<u64, ImportError>> for CueAnswer {
+    ghost from_gives = { λ r a. a ≡ flat_import r };
+
+    fn from(answer: Result<u64, ImportError>) -> CueAnswer {
+        match answer {
+            Ok(bytes) => CueAnswer::bare(0, bytes),
+            Err(ImportError::Misread(record)) => CueAnswer::bare(
+                u64::from(Refusal::Misread),
+                record,
+            ),
+            Err(ImportError::Refused(refusal)) => CueAnswer::from(refusal),
+        }
+    }
+}
+
+/// What the search of lent records finds.
+impl From<Option<usize>> for CueSpot {
+    ghost from_gives = { λ o s. s ≡ flat_spot o };
+
+    fn from(found: Option<usize>) -> CueSpot {
+        match found {
+            Some(at) => CueSpot { found: 1, at },
+            None => CueSpot::default(),
+        }
+    }
+}
+
+/// Reading a whole sheet.
+impl From<Result<Head, Refusal>> for CueSheet {
+    ghost from_gives = { λ r s. s ≡ flat_sheet r };
+
+    fn from(answer: Result<Head, Refusal>) -> CueSheet {
+        match answer {
+            Ok(head) => CueSheet {
+                number: 0,
+                faults: u64::from(head.faults),
+                cues: u64::from(head.cues),
+                allowance: head.limits.allowance,
+                budget: head.limits.budget,
+            },
+            Err(refusal) => CueSheet {
+                number: u64::from(refusal),
+                ..CueSheet::default()
+            },
+        }
+    }
+}
+
+/// A reader's call.
+impl From<Result<Option<Entry>, Refusal>> for CueEntry {
+    ghost from_gives = { λ r e. e ≡ flat_entry r };
+
+    fn from(answer: Result<Option<Entry>, Refusal>) -> CueEntry {
+        match answer {
+            Ok(Some(entry)) => CueEntry {
+                number: 0,
+                past: 0,
+                cue: u64::from(entry.cue),
+                ways: u64::from(entry.ways),
+                start: u64::from(entry.start),
+            },
+            Ok(None) => CueEntry {
+                past: 1,
+                ..CueEntry::default()
+            },
+            Err(refusal) => CueEntry {
+                number: u64::from(refusal),
+                ..CueEntry::default()
+            },
+        }
+    }
+}
+
+impl CueTable {
+    /// Where there is no table to hand over: refused by a number, or past the last cue.
+    #[tactic(auto, using(sheet::proofs::Sized::sizing))]
+    pub fn none(number: u64, past: u64) -> CueTable
+        ensures { result ≡ flat_table number past no_table }
+    {
+        CueTable {
+            number,
+            past,
             faults: 0,
-            cues: 0,
-            allowance: 0,
-            budget: 0,
-        },
+            ways: 0,
+            weights: [0; 64],
+            present: [0; 128],
+            absent: [0; 128],
+        }
     }
 }
 
-/// The numbers of a reader's call.
-pub fn of_entry(a: EntryAnswer) -> CueEntry
-    ensures { result ≡ flat_entry a }
+/// The items of a list, and blanks behind them.
+fn told<T: Copy, const N: usize>(list: &ArrayVec<T, N>, blank: T) -> [T; N]
+    ensures { result ≡ list.now.items ++ drop (length list.now.items) (replicate N blank) }
 {
-    match a {
-        EntryAnswer::Cue(e) => CueEntry {
+    let mut told = [blank; N];
+    told[..list.len()].copy_from_slice(list);
+    told
+}
+
+/// A table that a sheet's reader hands over.
+impl From<TableArrays> for CueTable {
+    ghost from_gives = { λ t c. c ≡ flat_table 0 0 (as_table t) };
+
+    #[tactic(auto, using(sheet::proofs::Sized::sizing))]
+    fn from(table: TableArrays) -> CueTable {
+        CueTable {
             number: 0,
             past: 0,
-            cue: e.cue as u64,
-            ways: e.ways as u64,
-            start: e.start as u64,
-        },
-        EntryAnswer::Past => CueEntry {
-            number: 0,
-            past: 1,
-            cue: 0,
-            ways: 0,
-            start: 0,
-        },
-        EntryAnswer::Refused(n) => CueEntry {
-            number: n as u64,
-            past: 0,
-            cue: 0,
-            ways: 0,
-            start: 0,
-        },
+            faults: table.weights.len() as u64,
+            ways: table.present.len() as u64,
+            weights: told(&table.weights, 0),
+            present: told(&table.present, 0),
+            absent: told(&table.absent, 0),
+        }
     }
 }
 
-/// The numbers of a table that a sheet's reader hands over.
-pub fn of_table(t: sheet::table::TableArrays) -> CueTable
-    ensures { result ≡ record {
-      number = 0;
-      past = 0;
-      faults = t.faults;
-      ways = t.ways;
-      weights = t.weights;
-      present = t.present;
-      absent = t.absent;
-    } }
-{
-    let weights = t.weights;
-    let present = t.present;
-    let absent = t.absent;
-    CueTable {
-        number: 0,
-        past: 0,
-        faults: t.faults as u64,
-        ways: t.ways as u64,
-        weights,
-        present,
-        absent,
+/// The answer of counting one log or several, and of adding fractions.
+impl From<Result<Fraction, Refusal>> for CueFraction {
+    ghost from_gives = { λ r f. f ≡ flat_fraction r };
+
+    fn from(answer: Result<Fraction, Refusal>) -> CueFraction {
+        match answer {
+            Ok(fraction) => CueFraction {
+                number: 0,
+                discarded: fraction.discarded,
+                judged: fraction.judged,
+            },
+            Err(refusal) => CueFraction {
+                number: u64::from(refusal),
+                ..CueFraction::default()
+            },
+        }
     }
 }
 
-/// The numbers where there is no table to hand over.
-pub fn no_table(number: u64, past: u64) -> CueTable
-    ensures { result ≡ flat_table number past no_table }
-{
-    let weights = [0u32; 64];
-    let words = [0u64; 128];
-    CueTable {
-        number,
-        past,
-        faults: 0,
-        ways: 0,
-        weights,
-        present: words,
-        absent: words,
+/// The answer of making a weight.
+impl From<Result<u32, Refusal>> for CueWeight {
+    ghost from_gives = { λ r w. w ≡ flat_weight r };
+
+    fn from(answer: Result<u32, Refusal>) -> CueWeight {
+        match answer {
+            Ok(weight) => CueWeight {
+                number: 0,
+                weight: u64::from(weight),
+            },
+            Err(refusal) => CueWeight {
+                number: u64::from(refusal),
+                ..CueWeight::default()
+            },
+        }
     }
 }
 
-/// The numbers of the answer of the writer, of the report or of an export.
-pub fn of_write(a: WriteAnswer) -> CueAnswer
-    ensures { result ≡ flat_write a }
-{
-    match a {
-        WriteAnswer::Written(n) => bare(0, n),
-        WriteAnswer::Refused(n) => refused(n),
+impl CueOrder {
+    /// An order by its code.
+    fn told(order: u64) -> CueOrder
+        ensures { result ≡ record { number = 0; order = order } }
+    {
+        CueOrder { number: 0, order }
     }
 }
 
-/// The numbers of an import's answer.
-pub fn of_import(a: ImportAnswer) -> CueAnswer
-    ensures { result ≡ flat_import a }
-{
-    match a {
-        ImportAnswer::Written(n) => bare(0, n),
-        ImportAnswer::Misread(k) => bare(23, k),
-        ImportAnswer::Refused(n) => refused(n),
-    }
-}
+/// The answer of a comparison, whose codes are those of the header.
+impl From<Result<Ordering, Refusal>> for CueOrder {
+    ghost from_gives = { λ r o. o ≡ flat_order r };
 
-/// The numbers of a fraction's answer.
-pub fn of_fraction(a: FractionAnswer) -> CueFraction
-    ensures { result ≡ flat_fraction a }
-{
-    match a {
-        FractionAnswer::Counted(x) => CueFraction {
-            number: 0,
-            discarded: x.discarded,
-            judged: x.judged,
-        },
-        FractionAnswer::Refused(n) => CueFraction {
-            number: n as u64,
-            discarded: 0,
-            judged: 0,
-        },
-    }
-}
-
-/// The numbers of a weight's answer.
-pub fn of_weight(a: WeightAnswer) -> CueWeight
-    ensures { result ≡ flat_weight a }
-{
-    match a {
-        WeightAnswer::Weight(w) => CueWeight {
-            number: 0,
-            weight: w as u64,
-        },
-        WeightAnswer::Refused(n) => CueWeight {
-            number: n as u64,
-            weight: 0,
-        },
-    }
-}
-
-/// The numbers of a comparison's answer.
-pub fn of_order(a: OrderAnswer) -> CueOrder
-    ensures { result ≡ flat_order a }
-{
-    match a {
-        OrderAnswer::Less => CueOrder {
-            number: 0,
-            order: 1,
-        },
-        OrderAnswer::Equal => CueOrder {
-            number: 0,
-            order: 2,
-        },
-        OrderAnswer::Greater => CueOrder {
-            number: 0,
-            order: 3,
-        },
-        OrderAnswer::Refused(n) => CueOrder {
-            number: n as u64,
-            order: 0,
-        },
+    fn from(answer: Result<Ordering, Refusal>) -> CueOrder {
+        match answer {
+            Ok(Ordering::Less) => CueOrder::told(1),
+            Ok(Ordering::Equal) => CueOrder::told(2),
+            Ok(Ordering::Greater) => CueOrder::told(3),
+            Err(refusal) => CueOrder {
+                number: u64::from(refusal),
+                ..CueOrder::default()
+            },
+        }
     }
 }

@@ -16,7 +16,7 @@ use Rattle.cue_reader.proofs.Moved.{before-the-last}
 pub refused-stays : (bs : List ℕ) (n : ℕ) → read_number bs ≡ suc n → (k : ℕ) → place_at bs k ≡ 0
 unfolding place_at
 refused-stays bs n refused zero = refl
-refused-stays bs n refused (suc k) = rw (refused-everywhere bs n refused (place_at bs k)) (refused-stays bs n refused k)
+refused-stays bs n refused (suc k) = rw ((refused-everywhere bs n refused).2 (place_at bs k)) (refused-stays bs n refused k)
 
 module _ (bs : List ℕ) (accepted : read_number bs ≡ 0) where
   -- Up to the last cue the place is the number of calls.
@@ -44,7 +44,7 @@ in-order-by bs zero accepted k =
           ∙ past-the-last bs accepted (cues_in bs) (le_refl _) ∙ sym (past-the-last bs accepted k late)
       | no early ↦ ap (entry_answer bs) (counts_calls bs accepted k (omega arith))
     ]
-in-order-by bs (suc n) refused k = refused-everywhere bs n refused (place_at bs k) ∙ sym (refused-everywhere bs n refused k)
+in-order-by bs (suc n) refused k = let r = refused-everywhere bs n refused in r.2 (place_at bs k) ∙ sym (r.2 k)
 
 pub in_order : (bs : List ℕ) (k : ℕ) → call_answer bs k ≡ entry_answer bs k
 in_order bs k = in-order-by bs (read_number bs) refl k

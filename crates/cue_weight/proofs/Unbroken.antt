@@ -5,7 +5,7 @@ use Rattle.std.specs.Prelude.{Option, Some, None, IfSome}
 use Rattle.std.specs.Io.KnownBytes.{Consumes}
 use Rattle.captures.specs.declared.Log.{Log}
 use Rattle.captures.specs.Logs.{heard_all, is_full, capped, silent, limit, packets}
-use Rattle.captures.proofs.Counting.{heard-joined, full-stays, capped-full, capped-open, capped-on, few-packets}
+use Rattle.captures.proofs.Counting.{heard-joined, full-stays, capped-full, capped-open, capped-on, few-packets, piece-grows}
 
 -- What a log has heard of a reader: some bytes, which are taken from the front of those that were known.
 abbrev pub SoFar : Option (List ℕ) → Option (List ℕ) → Log → Type 0
@@ -53,3 +53,8 @@ too-long (Some xs) (Some ys) l (p, h, e) k =
     let whole : is_full (heard_all silent xs) ≡ true =
     ap (λ t. is_full (heard_all silent t)) h ∙ ap is_full (sym (heard-joined silent p ys)) ∙ full-stays (heard_all silent p) ys front in
     e ∙ capped-full (heard_all silent p) front ∙ sym (capped-full (heard_all silent xs) whole)
+
+-- ---- for the check's tactics
+
+-- A piece with a packet or more brings the log on.
+pub ruleset growing = (piece-grows)

@@ -7,9 +7,9 @@ ghost use Rattle.std.specs.Prelude.{◌≡◌, IfOk, IfSome};
 ghost use Rattle.captures.specs.Logs.{heard_all, capped, silent};
 ghost use Rattle.cue_weight.specs.Reading.{GoesOn, Hears};
 
-use captures::fractions::{add, weight};
-use captures::logs::{counted, hear_all, is_full};
-use captures::{Fraction, FractionAnswer, Log, SILENT, WeightAnswer};
+use captures::{Fraction, Log};
+use rules::Refusal;
+use std::alloc::{AllocError, Global};
 use std::env::FillError;
 use std::io::Read;
 use std::rt::{Env, Files};
@@ -18,61 +18,51 @@ use std::{fs, io, str};
 /// The longest name of a log, in bytes.
 const LONGEST_NAME: usize = 4096;
 
-/// What one read of a file comes to: the log after one more piece, or the end of the file.
-#[derive(Clone, Copy)]
-pub enum Piece {
-    More(Log),
-    End,
+/// Why there is no weight: a refusal; the line of a log that cannot be had; or no memory. Its two `From` are written by hand:
+/// `thiserror` would want a message for each case, and no case is printed by one.
+#[derive(Drop)]
+enum Stop {
+    Refused(Refusal),
+    Lacking(String),
+    Failed(AllocError),
 }
 
-/// What an argument comes to: its log, a file that cannot be had, which standard error tells; or there is no such argument.
-#[derive(Clone, Copy)]
-enum Heard {
-    Whole(Log),
-    Unread,
-    Past,
-}
-
-/// The line of a refusal.
-fn refused(rt: &impl Print, n: u8) -> io::Result<()> {
-    println!(rt; "refused {n}")
-}
-
-/// The line of a fraction and its weight.
-fn tell(rt: &impl Print, x: Fraction) -> io::Result<()> {
-    let discarded = x.discarded;
-    let judged = x.judged;
-    match weight(x) {
-        WeightAnswer::Weight(w) => println!(rt; "{discarded} {judged} {w}"),
-        WeightAnswer::Refused(n) => refused(rt, n),
+impl From<Refusal> for Stop {
+    fn from(refusal: Refusal) -> Stop {
+        Stop::Refused(refusal)
     }
 }
 
-/// Reads one piece.
-fn read_piece<F: Read>(file: &mut F, log: Log) -> io::Result<Piece>
+impl From<AllocError> for Stop {
+    fn from(why: AllocError) -> Stop {
+        Stop::Failed(why)
+    }
+}
+
+/// Reads one piece: the log after it, or nothing at the end of the file.
+#[tactic(auto, using(crate::proofs::Unbroken::growing))]
+fn read_piece<F: Read>(file: &mut F, log: Log) -> io::Result<Option<Log>>
     ensures grows { IfOk result (λ piece. GoesOn log piece) }
     ensures bytes { IfOk result (λ piece. Hears (F.remaining file.old) (F.remaining file.new) log piece) }
 {
     let mut buf = [0u8; 65536];
     let n = file.read(&mut buf)?;
     if n == 0 {
-        return Ok(Piece::End);
+        return Ok(None);
     }
-    Ok(Piece::More(hear_all(log, &buf[..n])))
+    Ok(Some(log.hear_all(&buf[..n])))
 }
 
 /// Reads a file to its end, or to where its log is too long whatever follows; so it ends even where the file does not.
 fn read_log<F: Read>(file: &mut F) -> io::Result<Log>
     ensures bytes { IfOk result (λ log. IfSome (F.remaining file.old) (λ bs. log ≡ capped (heard_all silent bs))) }
 {
-    let mut log = SILENT;
-    while !is_full(log) {
-        match read_piece(file, log)? {
-            Piece::More(l) => {
-                log = l;
-            }
-            Piece::End => break,
-        }
+    let mut log = Log::SILENT;
+    while !log.is_full() {
+        let Some(more) = read_piece(file, log)? else {
+            break;
+        };
+        log = more;
     }
     Ok(log)
 }
@@ -91,61 +81,63 @@ fn in_words(text: &str) -> &str {
     }
 }
 
-/// The line of a log that cannot be had, on standard error: its name, and why.
-fn lacks(rt: &(impl Eprint + Alloc), name: &str, why: &io::Error) -> io::Result<()> {
-    let text = format!(in rt.alloc(); "{why}")?;
-    let words = in_words(text.as_str());
-    eprintln!(rt; "{name}: {words}")
-}
-
 /// The log in the file of this name, or the line that says why it cannot be had.
-fn heard_in(rt: &(impl Files + Eprint + Alloc), name: &str) -> io::Result<Heard> {
+fn log_in(rt: &(impl Files + AllocGlobal), name: &str) -> Result<Log, Stop> {
     match log_of(rt, name) {
-        Ok(log) => Ok(Heard::Whole(log)),
+        Ok(log) => Ok(log),
         Err(why) => {
-            lacks(rt, name, &why)?;
-            Ok(Heard::Unread)
+            let text = format!(in rt.alloc(); "{why}")?;
+            let words = in_words(text.as_str());
+            Err(Stop::Lacking(format!(in rt.alloc(); "{name}: {words}")?))
         }
     }
 }
 
-/// The log in the file that argument i names. A name that is too long, or not in UTF-8, is told on standard error as well.
-fn log_in(rt: &(impl Env + Files + Eprint + Alloc), i: usize) -> io::Result<Heard> {
+/// The name of a log as text, or the line that says that it is none.
+fn as_text(alloc: Global, name: &[u8]) -> Result<String, Stop> {
+    match str::from_utf8(name) {
+        Ok(text) => Ok(String::from_str(alloc, text)?),
+        Err(_) => {
+            let shown = String::from_utf8_lossy(alloc, name)?;
+            Err(Stop::Lacking(format!(in alloc; "{shown}: not in UTF-8")?))
+        }
+    }
+}
+
+/// The name that argument i gives, if there is such an argument. It is not taken from `env::args`, which does not say which name is not in UTF-8.
+/// `Env::arg` fills a lent buffer, and a longer name is told as one.
+fn name_at(rt: &(impl Env + AllocGlobal), i: usize) -> Result<Option<String>, Stop> {
     let mut name = [0u8; LONGEST_NAME];
     match rt.arg(i, &mut name) {
-        Ok(n) => match str::from_utf8(&name[..n]) {
-            Ok(text) => heard_in(rt, text),
-            Err(_) => {
-                let shown = String::from_utf8_lossy(rt.alloc(), &name[..n])?;
-                eprintln!(rt; "{shown}: not in UTF-8")?;
-                Ok(Heard::Unread)
-            }
-        },
+        Ok(n) => Ok(Some(as_text(rt.alloc(), &name[..n])?)),
+        Err(FillError::NotPresent) => Ok(None),
         Err(FillError::TooLong) => {
-            eprintln!(rt; "the name of a log: File name too long")?;
-            Ok(Heard::Unread)
+            let line = "the name of a log: File name too long";
+            Err(Stop::Lacking(String::from_str(rt.alloc(), line)?))
         }
-        Err(FillError::NotPresent) => Ok(Heard::Past),
     }
 }
 
-/// Adds the logs one by one, up to the first that cannot be read, is refused or makes the sum so.
-fn main(rt: HostRuntime) -> io::Result<()> {
-    let mut sum = Fraction {
-        discarded: 0,
-        judged: 0,
-    };
+/// The fraction of all logs and its weight: they are added one by one, up to the first that cannot be read, is refused or makes the sum so. No fold of
+/// `captures` does it, since a name or a file may fail between two of them.
+fn weigh(rt: &(impl Env + Files + AllocGlobal)) -> Result<(Fraction, u32), Stop> {
+    let mut sum = Fraction::default();
     for i in 1..usize::MAX {
-        match log_in(&rt, i)? {
-            Heard::Whole(l) => match add(sum, counted(l)) {
-                FractionAnswer::Counted(s) => {
-                    sum = s;
-                }
-                FractionAnswer::Refused(k) => return refused(&rt, k),
-            },
-            Heard::Unread => return Ok(()),
-            Heard::Past => break,
-        }
+        let Some(name) = name_at(rt, i)? else {
+            break;
+        };
+        let log = log_in(rt, name.as_str())?;
+        sum = sum.add(log.counted())?;
     }
-    tell(&rt, sum)
+    Ok((sum, sum.weight()?))
+}
+
+/// Prints the one line that the logs come to.
+fn main(rt: HostRuntime) -> io::Result<()> {
+    match weigh(&rt) {
+        Ok((sum, weight)) => println!(rt; "{} {} {weight}", sum.discarded, sum.judged),
+        Err(Stop::Refused(refusal)) => println!(rt; "{refusal}"),
+        Err(Stop::Lacking(line)) => eprintln!(rt; "{line}"),
+        Err(Stop::Failed(why)) => Err(io::Error::from(why)),
+    }
 }

@@ -1,6 +1,6 @@
 -- What each call promises whose answer is told in numbers: the promise of the call that it stands for, whole, and the numbers of that very
--- answer. Rests on `cue_numbers`, Numbers, on Into.antt, on `dtree`, `csv` and `captures`, Promises, on `page`, Widest, and on `rules`, Sheet.
-use Rattle.std.specs.Prelude.{◌≡◌, List, ℕ, ◌<◌, length, take, get_or}
+-- answer. Rests on `cue_numbers`, Numbers, on Into.antt, on `dtree`, `csv_text` and `captures`, Promises, on `page`, Widest, and on `rules`, Sheet.
+use Rattle.std.specs.Prelude.{◌≡◌, Result, List, ℕ, ◌<◌, length, take, get_or}
 use Rattle.rules.specs.Answers.{counted_by}
 use Rattle.rules.specs.Table.{Table, table}
 use Rattle.rules.specs.Tree.{tree}
@@ -10,8 +10,9 @@ use Rattle.rules.specs.Sheet.{Cue, table_of, Lists, sheet_of, encode, cues_in, d
 use Rattle.rules.specs.Text.{text}
 use Rattle.rules.specs.declared.Kind.{Kind}
 use Rattle.rules.specs.declared.Limits.{Limits}
-use Rattle.rules.specs.declared.Answer.{Answer}
-use Rattle.rules.specs.declared.RunAnswer.{RunAnswer}
+use Rattle.rules.specs.declared.Ended.{Ended}
+use Rattle.rules.specs.declared.Figures.{Figures}
+use Rattle.rules.specs.declared.Refusal.{Refusal}
 use Rattle.records.specs.Records.{history, bad}
 use Rattle.records.specs.declared.Node.{Node}
 use Rattle.records.specs.declared.Tree.{Tree}
@@ -35,11 +36,11 @@ use Rattle.cue_numbers.specs.declared.CueWeight.{CueWeight}
 use Rattle.cue_numbers.specs.declared.CueOrder.{CueOrder}
 
 -- The answer of a hand refinement on any tree, 16 judged by the records.
-abbrev pub refine_answer : Table → Tree → List ℕ → Kind → Answer
+abbrev pub refine_answer : Table → Tree → List ℕ → Kind → Result Figures Refusal
 refine_answer t x bs k = hand_answer t (bad t x) (tree (history x)) bs k
 
 -- The answer of a run on any tree.
-abbrev pub run_on_answer : Table → Tree → Limits → RunAnswer
+abbrev pub run_on_answer : Table → Tree → Limits → Result Ended Refusal
 run_on_answer t x m = run_answer t (bad t x) (tree (history x)) m
 
 -- AN OPENING of any table: the tree after it, and the numbers handed back.
@@ -84,6 +85,10 @@ pub record TableTold (bs : List ℕ) (i : ℕ) (r : CueTable) : Type 0 where
   pub table_is : read_number bs ≡ 0 → i < cues_in bs → (d : Cue) → table_held r ≡ table_of (decode bs).weights (get_or (decode bs).cues i d)
   -- Every call on a tree accepts this table.
   pub accepted : read_number bs ≡ 0 → i < cues_in bs → Accepted (table_held r)
+
+-- The lists that a call hands over.
+abbrev pub lists : List ℕ → List ℕ → List ℕ → List ℕ → List ℕ → Limits → Lists
+lists ws ns ks ps qs m = record { limits = m; weights = ws; numbers = ns; counts = ks; present = ps; absent = qs }
 
 -- WRITING the sheet that lists give into a space: the numbers, the number and the bytes that they count, and the space afterwards.
 pub record WritingTold (x : Lists) (before after : List ℕ) (r : CueAnswer) : Type 0 where

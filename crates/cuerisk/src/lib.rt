@@ -1,33 +1,29 @@
 //! The C interface (include/cue_risk.h): trees, slices and spaces are lent and written where they are, answers are handed back as plain numbers.
 //! Each export is one call of `dtree`, `page`, `sheet`, `writer`, `report`, `csv_import`, `csv_export` or `captures`, and carries its promise whole
 //! (specs/Told.antt); `cue_numbers` says which numbers stand for which answer. No enum crosses this border, and a number that a rule
-//! judges crosses it whole, in 64 bits.
-#![tactic(auto)]
+//! judges crosses it whole, in 64 bits. Lists come one by one, since C has no slice of pairs.
+#![tactic(auto, using(crate::proofs::Telling::telling))]
 
 mod reports;
 
 ghost use Rattle.std.specs.Prelude.{◌≡◌};
 ghost use Rattle.rules.specs.Table.{table};
-ghost use Rattle.store.specs.Lent.{tree_of};
-ghost use Rattle.writer.specs.Given.{given};
 ghost use Rattle.cue_numbers.specs.Numbers.{version, kind_asked};
-ghost use Rattle.cuerisk.specs.Told.{OpeningTold, RefiningTold, RunningTold, SearchTold, ReadingTold, EntryTold, TableTold, WritingTold, ReportingTold};
+ghost use Rattle.cuerisk.specs.Told.{OpeningTold, RefiningTold, RunningTold, SearchTold, ReadingTold, EntryTold, TableTold, lists, WritingTold, ReportingTold};
 ghost use Rattle.captures.specs.Logs.{logs_in};
 ghost use Rattle.captures.specs.Fractions.{fraction, fractions_in};
 ghost use Rattle.cuerisk.specs.Told.{ImportingTold, ExportingTold, LogTold, LogsTold, AddingTold, WeighingTold, ComparingTold};
 
 use captures::Fraction;
-use cue_numbers::numbers::{
-    kind_asked, no_table, of_answer, of_entry, of_fraction, of_import, of_order, of_read, of_run,
-    of_spot, of_table, of_weight, of_write,
-};
+use cue_numbers::numbers::kind_asked;
 use cue_numbers::{
     CueAnswer, CueEntry, CueFraction, CueOrder, CueSheet, CueSpot, CueTable, CueWeight,
 };
-use records::Node;
+use records::{Node, Tree};
 use reports::put_text;
-use rules::{EntryAnswer, Limits};
-use store::Words;
+use rules::Limits;
+use sheet::fields::Raw;
+use writer::lists::Lists;
 
 /// The version of these structs and calls, to be compared with that of the header.
 #[unsafe(no_mangle)]
@@ -40,22 +36,22 @@ pub extern "C" fn cue_version() -> u64
 /// Opens a table. What the tree held before does not matter; refused, it is left without nodes.
 #[unsafe(no_mangle)]
 pub extern "C" fn cue_open(
-    tree: &mut Words,
+    tree: &mut Tree,
     weights: &[u32],
     present: &[u64],
     absent: &[u64],
 ) -> CueAnswer
     ensures promise { OpeningTold (table weights.now present.now absent.now)
-        (tree_of tree.new) result }
+        tree.new result }
 {
-    of_answer(dtree::opening::open(weights, present, absent, tree))
+    CueAnswer::from(dtree::opening::open(weights, present, absent, tree))
 }
 
 /// Refines one leaf of the tree. The place is a list of steps from the root, 0 for left and 1 for right; `what` is 0 for
 /// independence, 1 for the fault and 2 for the common part. Any other `what`, and any fault from 64 on, is refused by 20 where nothing before refuses.
 #[unsafe(no_mangle)]
 pub extern "C" fn cue_refine(
-    tree: &mut Words,
+    tree: &mut Tree,
     weights: &[u32],
     present: &[u64],
     absent: &[u64],
@@ -64,16 +60,16 @@ pub extern "C" fn cue_refine(
     fault: u64,
 ) -> CueAnswer
     ensures promise { RefiningTold (table weights.now present.now absent.now)
-        (tree_of tree.old) place.now (kind_asked what fault) (tree_of tree.new) result }
+        tree.old place.now (kind_asked what fault) tree.new result }
 {
     let kind = kind_asked(what, fault);
-    of_answer(dtree::refining::refine(weights, present, absent, tree, place, kind))
+    CueAnswer::from(dtree::refining::refine(weights, present, absent, tree, place, kind))
 }
 
 /// Makes a run on the tree.
 #[unsafe(no_mangle)]
 pub extern "C" fn cue_run(
-    tree: &mut Words,
+    tree: &mut Tree,
     weights: &[u32],
     present: &[u64],
     absent: &[u64],
@@ -81,9 +77,9 @@ pub extern "C" fn cue_run(
     budget: u64,
 ) -> CueAnswer
     ensures promise { RunningTold (table weights.now present.now absent.now)
-        (tree_of tree.old) (record { allowance = allowance; budget = budget }) (tree_of tree.new) result }
+        tree.old (record { allowance = allowance; budget = budget }) tree.new result }
 {
-    of_run(dtree::runs::run(weights, present, absent, tree, Limits { allowance, budget }))
+    CueAnswer::from(dtree::runs::run(weights, present, absent, tree, Limits { allowance, budget }))
 }
 
 /// Where the widest open leaf stands in any records, the first of equally wide ones.
@@ -91,7 +87,7 @@ pub extern "C" fn cue_run(
 pub extern "C" fn cue_widest(records: &[Node]) -> CueSpot
     ensures promise { SearchTold records.now result }
 {
-    of_spot(page::widest(records))
+    CueSpot::from(page::widest(records))
 }
 
 /// Reads a whole sheet.
@@ -99,7 +95,7 @@ pub extern "C" fn cue_widest(records: &[Node]) -> CueSpot
 pub extern "C" fn cue_sheet_check(sheet: &[u8]) -> CueSheet
     ensures promise { ReadingTold sheet.now result }
 {
-    of_read(sheet::reader::read(sheet))
+    CueSheet::from(sheet::reader::read(sheet))
 }
 
 /// The cue at a position of a sheet's contents.
@@ -107,18 +103,19 @@ pub extern "C" fn cue_sheet_check(sheet: &[u8]) -> CueSheet
 pub extern "C" fn cue_sheet_cue(sheet: &[u8], position: usize) -> CueEntry
     ensures promise { EntryTold sheet.now position result }
 {
-    of_entry(sheet::reader::cue_at(sheet, position))
+    CueEntry::from(sheet::reader::cue_at(sheet, position))
 }
 
 /// The table of the cue at a position of a sheet's contents.
+/// By cases: an answer with a table in it would be made for this call and taken apart in it.
 #[unsafe(no_mangle)]
 pub extern "C" fn cue_sheet_table(sheet: &[u8], position: usize) -> CueTable
     ensures promise { TableTold sheet.now position result }
 {
     match sheet::reader::cue_at(sheet, position) {
-        EntryAnswer::Cue(e) => of_table(sheet::table::table(sheet, e)),
-        EntryAnswer::Past => no_table(0, 1),
-        EntryAnswer::Refused(n) => no_table(n as u64, 0),
+        Ok(Some(entry)) => CueTable::from(Raw { bytes: sheet }.table(entry)),
+        Ok(None) => CueTable::none(0, 1),
+        Err(refusal) => CueTable::none(u64::from(refusal), 0),
     }
 }
 
@@ -134,11 +131,18 @@ pub extern "C" fn cue_sheet_write(
     budget: u64,
     space: &mut [u8],
 ) -> CueAnswer
-    ensures promise { WritingTold (given weights.now numbers.now counts.now
+    ensures promise { WritingTold (lists weights.now numbers.now counts.now
         present.now absent.now (record { allowance = allowance; budget = budget })) space.old space.new result }
 {
-    let limits = Limits { allowance, budget };
-    of_write(writer::write(weights, numbers, counts, present, absent, limits, space))
+    let lists = Lists {
+        weights,
+        numbers,
+        counts,
+        present,
+        absent,
+        limits: Limits { allowance, budget },
+    };
+    CueAnswer::from(writer::write(lists, space))
 }
 
 /// Puts the text that is printed for the bytes, read as a sheet, to the front of the space.
@@ -146,7 +150,7 @@ pub extern "C" fn cue_sheet_write(
 pub extern "C" fn cue_sheet_report(sheet: &[u8], space: &mut [u8]) -> CueAnswer
     ensures promise { ReportingTold sheet.now space.old space.new result }
 {
-    of_write(put_text(sheet, space))
+    CueAnswer::from(put_text(sheet, space))
 }
 
 /// Puts the bytes of the sheet that a text says to the front of the space.
@@ -154,7 +158,7 @@ pub extern "C" fn cue_sheet_report(sheet: &[u8], space: &mut [u8]) -> CueAnswer
 pub extern "C" fn cue_csv_import(text: &[u8], space: &mut [u8]) -> CueAnswer
     ensures promise { ImportingTold text.now space.old space.new result }
 {
-    of_import(csv_import::import(text, space))
+    CueAnswer::from(csv_import::import(text, space))
 }
 
 /// Puts the text of a sheet to the front of the space.
@@ -162,7 +166,7 @@ pub extern "C" fn cue_csv_import(text: &[u8], space: &mut [u8]) -> CueAnswer
 pub extern "C" fn cue_csv_export(sheet: &[u8], space: &mut [u8]) -> CueAnswer
     ensures promise { ExportingTold sheet.now space.old space.new result }
 {
-    of_write(csv_export::export(sheet, space))
+    CueAnswer::from(csv_export::export(sheet, space))
 }
 
 /// Counts one log, of any length.
@@ -170,7 +174,7 @@ pub extern "C" fn cue_csv_export(sheet: &[u8], space: &mut [u8]) -> CueAnswer
 pub extern "C" fn cue_log(log: &[u8]) -> CueFraction
     ensures promise { LogTold log.now result }
 {
-    of_fraction(captures::logs::log(log))
+    CueFraction::from(captures::logs::log(log))
 }
 
 /// Counts several logs, whose bytes stand one behind the other.
@@ -178,7 +182,7 @@ pub extern "C" fn cue_log(log: &[u8]) -> CueFraction
 pub extern "C" fn cue_logs(bytes: &[u8], lengths: &[u64]) -> CueFraction
     ensures promise { LogsTold (logs_in lengths.now bytes.now) result }
 {
-    of_fraction(captures::logs::logs(bytes, lengths))
+    CueFraction::from(captures::logs::logs(bytes, lengths))
 }
 
 /// Adds the fractions that two lists give.
@@ -186,7 +190,7 @@ pub extern "C" fn cue_logs(bytes: &[u8], lengths: &[u64]) -> CueFraction
 pub extern "C" fn cue_fractions(discarded: &[u64], judged: &[u64]) -> CueFraction
     ensures promise { AddingTold (fractions_in discarded.now judged.now) result }
 {
-    of_fraction(captures::fractions::total(discarded, judged))
+    CueFraction::from(captures::fractions::total(discarded, judged))
 }
 
 /// The weight of a fraction.
@@ -194,7 +198,7 @@ pub extern "C" fn cue_fractions(discarded: &[u64], judged: &[u64]) -> CueFractio
 pub extern "C" fn cue_fraction_weight(discarded: u64, judged: u64) -> CueWeight
     ensures promise { WeighingTold (fraction discarded judged) result }
 {
-    of_weight(captures::fractions::weight(Fraction { discarded, judged }))
+    CueWeight::from(Fraction { discarded, judged }.weight())
 }
 
 /// Compares a fraction with another.
@@ -211,5 +215,5 @@ pub extern "C" fn cue_fraction_compare(
         discarded: other_discarded,
         judged: other_judged,
     };
-    of_order(captures::fractions::compare(Fraction { discarded, judged }, other))
+    CueOrder::from(Fraction { discarded, judged }.compare(other))
 }

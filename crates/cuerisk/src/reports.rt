@@ -1,21 +1,21 @@
 //! The report on a sheet into a lent space. Rests on `report`, whose text comes by value, and on the definitions of specs/Into.antt.
 //! A space that is too short is left as it was.
+#![tactic(auto, using(std::proofs::lemmas::Grind::common_steps), unfolding(rules::specs::Refusals::answered, rules::specs::Refusals::first, rules::specs::Sheet::written_by, crate::specs::Into::report_refusals, crate::specs::Into::report_number, crate::specs::Into::report_answer, crate::specs::Into::reported))]
+
 ghost use Rattle.std.specs.Prelude.{◌≡◌, length};
 ghost use Rattle.cuerisk.specs.Into.{report_answer, reported};
 
-use rules::WriteAnswer;
+use report::report;
+use rules::Refusal;
 
 /// Puts the printed text to the front of the space.
-pub fn put_text(s: &[u8], space: &mut [u8]) -> WriteAnswer
-    ensures value { result ≡ report_answer s.now (length space.old) }
-    ensures space_after { space.new ≡ reported s.now space.old }
+pub fn put_text(sheet: &[u8], space: &mut [u8]) -> Result<u64, Refusal>
+    ensures value { result ≡ report_answer sheet.now (length space.old) }
+    ensures space_after { space.new ≡ reported sheet.now space.old }
 {
-    let r = report::report(s);
-    let text = r.text;
-    let n = r.length;
-    if space.len() < n {
-        return WriteAnswer::Refused(22);
-    }
-    space[..n].copy_from_slice(&text[..n]);
-    WriteAnswer::Written(n as u64)
+    let report = report(sheet);
+    let text = report.as_slice();
+    Refusal::NoRoom.test(space.len() < text.len())?;
+    space[..text.len()].copy_from_slice(text);
+    Ok(text.len() as u64)
 }

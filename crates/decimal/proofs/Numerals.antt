@@ -1,16 +1,7 @@
 -- Which fields are numbers, and a number read digit by digit: laws on plain lists.
 -- Rests on `rules`, Decimal.
-use mathlib.Core.Path.{◌≡◌, refl, sym, ap, ap₂, ◌∙◌, subst}
-use mathlib.Core.Bool.{true, false}
-use mathlib.Core.List.{List, [], ◌∷◌, ◌++◌}
-use Prim.Native.Nat.{ℕ, zero, suc, ◌+◌, ◌-◌, ◌*◌, ◌/◌, ◌%◌, ◌^◌, ◌<◌, ◌≤◌}
-use native.Mathlib.Nat.{pow-suc}
-use native.Mathlib.Omega.{arith}
-use native.Mathlib.Numerals.{add-one}
-use lib.ListN.{length, get_or, take}
-use lib.Seq.{take-suc}
-use lib.Dec.{leb}
-use borrow.Author.Tests.{le-leb, lt-leb}
+use Rattle.std.proofs.Common.{◌≡◌, refl, sym, ap, ap₂, ◌∙◌, subst, true, false, List, [], ◌∷◌, ◌++◌, ℕ, suc, ◌+◌, ◌-◌, ◌*◌, ◌/◌, ◌%◌, ◌^◌, ◌<◌, ◌≤◌, pow-suc, arith, add-one, length, length-append, get_or, leb, le-leb}
+use Rattle.std.proofs.lemmas.Bool.{lt-leb}
 use Rattle.rules.specs.Sheet.{same_numbers}
 use Rattle.rules.proofs.Booleans.{and_both, and_right, is_false}
 use Rattle.rules.specs.Text.{digits, decimal, value_after, decimal_value}
@@ -45,14 +36,13 @@ unfolding is_numeral
 long-not f h = rw (lt-leb (length f) 10 h)
 
 -- A byte among digits is one.
-digit_at : (bs : List ℕ) (i : ℕ) → AllDigits bs → i < length bs → (48 ≤ get_or bs i 0) × (get_or bs i 0 ≤ 57)
-digit_at [] i h l = absurd (omega arith)
-digit_at (b ∷ bs) zero h l = (h.0, h.1)
-digit_at (b ∷ bs) (suc i) h l = digit_at bs i h.2 (omega arith)
+digit-in : (p : List ℕ) (b : ℕ) (s : List ℕ) → AllDigits (p ++ b ∷ s) → (48 ≤ b) × (b ≤ 57)
+digit-in [] b s h = (h.0, h.1)
+digit-in (c ∷ p) b s h = digit-in p b s h.2
 
 -- A field with a byte that is no digit.
-pub letter-not : (f : List ℕ) (i : ℕ) → i < length f → (48 ≤ get_or f i 0 → get_or f i 0 ≤ 57 → ⊥) → is_numeral f ≡ false
-letter-not f i l h = not-numeral f (λ n e. let d = digit_at f i (subst AllDigits e (decimal-digits n)) l in h d.0 d.1)
+pub letter-not : (p : List ℕ) (b : ℕ) (s : List ℕ) → (48 ≤ b → b ≤ 57 → ⊥) → is_numeral (p ++ b ∷ s) ≡ false
+letter-not p b s h = not-numeral (p ++ b ∷ s) (λ n e. let d = digit-in p b s (subst AllDigits e (decimal-digits n)) in h d.0 d.1)
 
 -- One that begins with 0 and goes on.
 pub nought-not : (b : ℕ) (f : List ℕ) → is_numeral (48 ∷ b ∷ f) ≡ false
@@ -65,61 +55,40 @@ nought-not b f =
 
 -- ---- the digits read so far
 
--- The first i bytes of the field are the number n in decimal.
-pub record Read (f : List ℕ) (i n : ℕ) : Type 0 where
-  pub within : i ≤ length f
-  pub small : n < 10 ^ i
-  pub nothing : i ≡ 0 → n ≡ 0
-  pub some : 0 < i → 0 < n
-  pub front : 0 < i → decimal n ≡ take i f
+-- The digits p, if there are any, are the number n in decimal.
+pub record Read (p : List ℕ) (n : ℕ) : Type 0 where
+  pub small : n < 10 ^ length p
+  pub none : length p ≡ 0 → n ≡ 0
+  pub some : 0 < length p → 0 < n
+  pub whole : 0 < length p → decimal n ≡ p
 
 -- At first there are none.
-pub read_none : (f : List ℕ) → Read f 0 0
-read_none f = record { within = omega arith; small = omega arith; nothing = λ e. refl; some = λ h. absurd (omega arith); front = λ h. absurd (omega arith) }
+pub read-none : Read [] 0
+read-none = record { small = omega arith; none = λ e. refl; some = λ h. absurd (omega arith); whole = λ h. absurd (omega arith) }
 
-module _ (f : List ℕ) (i n : ℕ) (r : Read f i n) (more : i < length f) (first : get_or f 0 0 ≡ 48 → ⊥) (low : 48 ≤ get_or f i 0) (high : get_or f i 0 ≤ 57) where
-  d : ℕ
-  d = get_or f i 0
+-- One digit more.
+pub read-more : (p : List ℕ) (n b : ℕ) → Read p n → (length p ≡ 0 → b ≡ 48 → ⊥) → 48 ≤ b → b ≤ 57 → Read (p ++ b ∷ []) (10 * n + (b - 48))
+read-more p n b r first low high =
+    let size : length (p ++ b ∷ []) ≡ suc (length p) = simp length-append (add-one (length p)) in
+    record {
+      small = rw (size, pow-suc 10 (length p)) (omega (arith, r.small));
+      none = λ e. absurd (omega (arith, size));
+      some = λ h. some p r first;
+      whole = λ h. whole p r;
+    }
+  where
+    some : (p : List ℕ) → Read p n → (length p ≡ 0 → b ≡ 48 → ⊥) → 0 < 10 * n + (b - 48)
+    some [] r first = let other = first refl in omega arith
+    some (c ∷ p) r first = omega (arith, r.some (omega arith))
 
-  front_more : decimal (10 * n + (get_or f i 0 - 48)) ≡ take (suc i) f
-  front_more = split i refl
-    where
-      next : take (suc i) f ≡ take i f ++ get_or f i 0 ∷ []
-      next = take-suc f i 0 more
-
-      split : (j : ℕ) → j ≡ i → decimal (10 * n + (get_or f i 0 - 48)) ≡ take (suc i) f
-      split zero e =
-          let none : n ≡ 0 = r.nothing (sym e) in
-          let only : 48 + (10 * n + (get_or f i 0 - 48)) ≡ get_or f i 0 = omega arith in
-          decimal-one (10 * n + (get_or f i 0 - 48)) (omega arith)
-          ∙ ap (λ (b : ℕ). b ∷ []) only
-          ∙ sym (next ∙ ap (λ (k : ℕ). take k f ++ get_or f i 0 ∷ []) (sym e))
-      split (suc j) e =
-          let pos : 0 < n = r.some (omega arith) in
-          let tens : (10 * n + (get_or f i 0 - 48)) / 10 ≡ n = omega arith in
-          let ones : 48 + (10 * n + (get_or f i 0 - 48)) % 10 ≡ get_or f i 0 = omega arith in
-          decimal-more (10 * n + (get_or f i 0 - 48)) (omega arith)
-          ∙ ap₂ (λ (m b : ℕ). decimal m ++ b ∷ []) tens ones
-          ∙ ap (λ (l : List ℕ). l ++ get_or f i 0 ∷ []) (r.front (omega arith))
-          ∙ sym next
-
-  some_more : 0 < 10 * n + (get_or f i 0 - 48)
-  some_more = split i refl
-    where
-      split : (j : ℕ) → j ≡ i → 0 < 10 * n + (get_or f i 0 - 48)
-      split zero e = let other : get_or f i 0 ≡ 48 → ⊥ = subst (λ (k : ℕ). get_or f k 0 ≡ 48 → ⊥) e first in above (get_or f i 0) other low
-        where
-          above : (b : ℕ) → (b ≡ 48 → ⊥) → 48 ≤ b → 0 < 10 * n + (b - 48)
-          above b o l = omega arith
-      split (suc j) e = omega (arith, r.some (omega arith))
-
-  pub read_more : Read f (i + 1) (10 * n + (get_or f i 0 - 48))
-  read_more =
-      rw add-one
-      (record {
-        within = omega arith;
-        small = omega (arith, r.small, pow-suc 10 i);
-        nothing = λ e. absurd (omega arith);
-        some = λ h. some_more;
-        front = λ h. front_more;
-      })
+    whole : (p : List ℕ) → Read p n → decimal (10 * n + (b - 48)) ≡ p ++ b ∷ []
+    whole [] r =
+        let none : n ≡ 0 = r.none refl in
+        let only : 48 + (10 * n + (b - 48)) ≡ b = omega arith in
+        decimal-one (10 * n + (b - 48)) (omega arith) ∙ ap (λ (d : ℕ). d ∷ []) only
+    whole (c ∷ p) r =
+        let tens : (10 * n + (b - 48)) / 10 ≡ n = omega arith in
+        let ones : 48 + (10 * n + (b - 48)) % 10 ≡ b = omega arith in
+        decimal-more (10 * n + (b - 48)) (omega (arith, r.some (omega arith)))
+        ∙ ap₂ (λ (m d : ℕ). decimal m ++ d ∷ []) tens ones
+        ∙ ap (λ (l : List ℕ). l ++ b ∷ []) (r.whole (omega arith))

@@ -1,31 +1,33 @@
 -- A hand refinement on an accepted table and a good tree: refused by 17 to 20, or made.
 -- Rests on `find`, ByHand, and on `records`, Grown.
-use mathlib.Core.Path.{◌≡◌, refl, sym, ap, ap₂, ◌∙◌}
-use mathlib.Core.Bool.{true, false}
+use mathlib.Core.Path.{◌≡◌, sym, ap, ap₂, ◌∙◌}
+use mathlib.Core.Bool.{Bool, true, false}
 use mathlib.Core.List.{List, [], ◌∷◌, ◌++◌}
 use Prim.Native.Nat.{ℕ, ◌+◌}
 use native.Mathlib.Omega.{arith}
 use lib.ListN.{length, length-append}
+use Rattle.std.specs.Prelude.{Ok, Err}
 use Rattle.rules.specs.Table.{Table}
-use Rattle.rules.specs.Tree.{Refinement, DTree, leaf, tree, series, acceptable}
+use Rattle.rules.specs.Tree.{Refinement, DTree, tree, series, acceptable}
 use Rattle.rules.specs.Refusals.{Accepted}
-use Rattle.rules.specs.Calls.{hand_number, hand_answer, answer_by, by_hand, handed, hand_makes, figures, call_number, outcome, makes, makes_by, would_make}
+use Rattle.rules.specs.Calls.{hand_number, hand_refusals, hand_answer, by_hand, handed, hand_makes, figures, call_number, outcome, makes, makes_by, would_make}
 use Rattle.rules.specs.declared.Kind.{Kind}
-use Rattle.rules.specs.declared.Answer.{Answer}
-use Rattle.rules.proofs.Series.{grow-append}
-use Rattle.records.specs.Records.{position, places, layout, records_of, bad, Good}
+use Rattle.rules.specs.declared.Figures.{Figures}
+use Rattle.rules.specs.declared.Refusal.{Refusal}
+use Rattle.rules.proofs.Answering.{answered-free, first-accepted}
+use Rattle.records.specs.Records.{position, places, layout, records_of, history, bad, Good}
 use Rattle.records.specs.Growing.{grown_at}
 use Rattle.records.specs.Library.{call_tree, call_outcome}
-use Rattle.records.specs.declared.Node.{Node}
 use Rattle.records.specs.declared.Tree.{Tree}
 use Rattle.records.proofs.Grown.{grows}
+use Rattle.records.proofs.History.{history-layout}
 use Rattle.records.proofs.Positions.{length_places}
 use Rattle.records.proofs.ByTheRules.{call-tree, call-outcome}
-use Rattle.find.specs.Finds.{word_table, leaf_number, found, Refinable}
-use Rattle.find.proofs.ByHand as finding
-use Rattle.find.proofs.ByHand.{Names, names, weightless}
-use Rattle.dtree.specs.Promises.{root_of, number_of, Called}
-use Rattle.dtree.proofs.Calling.{called, number_is, root_low, root_high}
+use Rattle.find.specs.Finds.{told, found, Refinable}
+use Rattle.find.proofs.ByHand.{Names, names, answered-by-hand}
+use Rattle.dtree.proofs.Accepting.{judged}
+use Rattle.dtree.specs.Promises.{root_figures, Called}
+use Rattle.dtree.proofs.Calling.{called, refusals_of, shows}
 
 -- The records of a series, grown by an acceptable refinement, are those of the longer series.
 grown-layout : (t : Table) → Accepted t → (ns : List Refinement) → series t ns ≡ true → (n : Refinement) → acceptable t (tree ns) n ≡ true → (j : ℕ)
@@ -45,37 +47,39 @@ made_one t s bs k n z e = ap (λ (m : ℕ). makes_by m (hand_makes bs k)) z ∙ 
 
 -- What it hands back.
 said-one : (t : Table) (ns : List Refinement) (bs : List ℕ) (k : Kind) (n : Refinement) → hand_number t false (tree ns) bs k ≡ 0 → hand_makes bs k ≡ n ∷ []
-    → outcome t (tree ns) (by_hand bs k)
-    ≡ handed (Answer.Accepted (record { low = (root_of (layout t (ns ++ (n ∷ [])))).low; high = (root_of (layout t (ns ++ (n ∷ [])))).high; count = 1 }))
-unfolding outcome hand_answer answer_by figures
+    → outcome t (tree ns) (by_hand bs k) ≡ handed (Ok (root_figures (layout t (ns ++ (n ∷ []))) 1))
+unfolding outcome hand_answer hand_number
 said-one t ns bs k n z e =
-    ap₂ (λ (m : ℕ) (r : List Refinement). handed (answer_by m (figures t (tree ns) r))) z e
-    ∙ rw (root_low t (ns ++ (n ∷ [])), root_high t (ns ++ (n ∷ [])), grow-append ns (n ∷ []) leaf) refl
+    ap handed (answered-free (hand_refusals t false (tree ns) bs k) (figures t (tree ns) (hand_makes bs k)) z)
+    ∙ ap (λ (ms : List Refinement). handed (Ok (figures t (tree ns) ms))) e
+    ∙ ap (λ (f : Figures). handed (Ok f)) (sym (shows t ns (n ∷ [])))
 
 module _ (t : Table) (ok : Accepted t) (x : Tree) (g : Good t x) (b : bad t x ≡ false) (bs : List ℕ) (k : Kind) where
   abbrev ns : List Refinement
   ns = g.made
 
-  -- The number is the one that the records tell.
-  pub by_leaf : (n : ℕ) → leaf_number (word_table t.present t.absent) x bs k ≡ n → number_of t x (by_hand bs k) ≡ n
-  unfolding call_number
-  by_leaf n e =
-      number_is t ns g.accepted x g.is b (by_hand bs k)
-      ∙ sym (finding.by-hand t ns g.accepted bs k ok)
-      ∙ ap (λ (y : Tree). leaf_number t y bs k) (sym g.is)
-      ∙ sym (weightless t x bs k) ∙ e
+  -- The refusals are those by the rules of the tree that the series grows.
+  by-series : refusals_of t x (by_hand bs k) ≡ hand_refusals t false (tree ns) bs k
+  by-series = ap₂ (λ (o : Bool) (ms : List Refinement). hand_refusals t o (tree ms) bs k) b (ap history g.is ∙ history-layout t ns g.accepted)
+
+  -- What the records tell refuses the call.
+  pub by_leaf : (r : Refusal) → told t x bs k ≡ Err r → judged (refusals_of t x (by_hand bs k)) ≡ Err r
+  by_leaf r e =
+      ap judged by-series
+      ∙ sym (answered-by-hand t ns g.accepted bs k ok tt)
+      ∙ ap (λ (y : Tree). told t y bs k) (sym g.is) ∙ e
 
   -- The refinement is made.
-  pub made : (j : ℕ) → Refinable (word_table t.present t.absent) x bs k j → (y : Tree) → y.nodes ≡ grown_at t x.nodes x.used j k
-      → y.used ≡ x.used + 2 → (top : Node) → top ≡ root_of y
-      → Called t x (by_hand bs k) y (handed (Answer.Accepted (record { low = top.low; high = top.high; count = 1 })))
-  made j r y e u top o = called t x (by_hand bs k) y _ tree_is outcome_is
+  pub made : (j : ℕ) → Refinable t x bs k j → (y : Tree) → y.nodes ≡ grown_at t x.nodes x.used j k → y.used ≡ x.used + 2
+      → Called t x (by_hand bs k) y (handed (Ok (root_figures y 1)))
+  unfolding hand_number
+  made j r y e u = called t x (by_hand bs k) y _ tree_is outcome_is
     where
       h : series t ns ≡ true
       h = g.accepted
 
-      free : leaf_number t (layout t ns) bs k ≡ 0
-      free = ap (λ (z : Tree). leaf_number t z bs k) (sym g.is) ∙ sym (weightless t x bs k) ∙ r.unrefused
+      free : told t (layout t ns) bs k ≡ Ok tt
+      free = ap (λ (z : Tree). told t z bs k) (sym g.is) ∙ r.unrefused
 
       w : Names t ns bs k j
       w = names t ns h bs k j free (ap (λ (z : Tree). found z.nodes bs) (sym g.is) ∙ r.leads)
@@ -84,7 +88,7 @@ module _ (t : Table) (ok : Accepted t) (x : Tree) (g : Good t x) (b : bad t x �
       n = record { place = w.place; kind = k }
 
       zeroed : hand_number t false (tree ns) bs k ≡ 0
-      zeroed = sym (finding.by-hand t ns h bs k ok) ∙ free
+      zeroed = first-accepted (hand_refusals t false (tree ns) bs k) tt tt (sym (answered-by-hand t ns h bs k ok tt) ∙ free)
 
       grown : y ≡ layout t (ns ++ (n ∷ []))
       grown =
@@ -96,8 +100,8 @@ module _ (t : Table) (ok : Accepted t) (x : Tree) (g : Good t x) (b : bad t x �
           grown ∙ ap (λ (ms : List Refinement). layout t (ns ++ ms)) (sym (made_one t (tree ns) bs k n zeroed w.makes))
           ∙ sym (call-tree t ns h (by_hand bs k)) ∙ ap (λ (z : Tree). call_tree t z (by_hand bs k)) (sym g.is)
 
-      outcome_is : handed (Answer.Accepted (record { low = top.low; high = top.high; count = 1 })) ≡ call_outcome t x (by_hand bs k)
+      outcome_is : handed (Ok (root_figures y 1)) ≡ call_outcome t x (by_hand bs k)
       outcome_is =
-          ap (λ (m : Node). handed (Answer.Accepted (record { low = m.low; high = m.high; count = 1 }))) (o ∙ ap root_of grown)
+          ap (λ (z : Tree). handed (Ok (root_figures z 1))) grown
           ∙ sym (said-one t ns bs k n zeroed w.makes) ∙ sym (call-outcome t ns h (by_hand bs k))
           ∙ ap (λ (z : Tree). call_outcome t z (by_hand bs k)) (sym g.is)

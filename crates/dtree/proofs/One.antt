@@ -13,7 +13,9 @@ use Rattle.rules.specs.Tree.{leaf_at, kind_at, Subtree, subtree, root, Interval,
 use Rattle.rules.specs.Refusals.{Accepted}
 use Rattle.rules.specs.Calls.{hand_number, call_number, by_hand, handed, makes, place_of}
 use Rattle.rules.specs.declared.Kind.{Kind}
-use Rattle.rules.specs.declared.Answer.{Answer}
+use Rattle.std.specs.Prelude.{Result, Err}
+use Rattle.rules.specs.declared.Figures.{Figures}
+use Rattle.rules.specs.declared.Refusal.{Refusal}
 use Rattle.rules.proofs.Places.{done-elsewhere, leaf-has, leaf-undone, has-subtree}
 use Rattle.rules.proofs.Series.{grow-append}
 use Rattle.rules.proofs.Demand3.{HandMade, hand-made}
@@ -25,7 +27,9 @@ use Rattle.records.proofs.Positions.{length_places}
 use Rattle.records.proofs.History.{layout-count}
 use Rattle.records.proofs.Seen.{seen_kind, seen_interval}
 use Rattle.dtree.specs.Promises.{number_of, Called, LeafSeen, OneMore, Refining}
-use Rattle.dtree.proofs.Calling.{by_the_rules}
+use Rattle.dtree.proofs.Accepting.{judged}
+use Rattle.dtree.proofs.Calling.{by_the_rules, refusals_of}
+use Rattle.dtree.proofs.Refuses.{refused-call}
 use Rattle.dtree.proofs.ByHand.{made_one}
 
 -- A leaf of the tree of a series is seen as one.
@@ -73,5 +77,11 @@ one_more t x bs k z = by_the_rules t (by_hand bs k) (λ y w o. OneMore y bs k w)
         rw (made_one t (tree ns) bs k _ n m.made) (on_series t ns (record { place = m.place; kind = k }) m.fine bs m.named)
 
 -- The promise of a hand refinement, from that of a call.
-pub refining : (t : Table) (x : Tree) (bs : List ℕ) (k : Kind) (y : Tree) (a : Answer) → Called t x (by_hand bs k) y (handed a) → Refining t x bs k y a
+pub refining : (t : Table) (x : Tree) (bs : List ℕ) (k : Kind) (y : Tree) (a : Result Figures Refusal)
+    → Called t x (by_hand bs k) y (handed a) → Refining t x bs k y a
 refining t x bs k y a c = record { call = c; one_more = λ z. subst (OneMore x bs k) (sym c.tree_is) (one_more t x bs k z) }
+
+-- A hand refinement that is refused.
+pub refining-refused : (t : Table) (x : Tree) (bs : List ℕ) (k : Kind) (a : Result Figures Refusal) (r : Refusal) → a ≡ Err r
+    → judged (refusals_of t x (by_hand bs k)) ≡ Err r → Refining t x bs k x a
+refining-refused t x bs k a r e f = rw e (refining t x bs k x (Err r) (refused-call t x (by_hand bs k) r f))

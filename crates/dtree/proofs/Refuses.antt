@@ -1,112 +1,104 @@
--- When a call on a tree is refused, and what it then hands back.
--- Rests on Calling.antt and on `rules`, First and Demand3.
-use mathlib.Core.Path.{◌≡◌, refl, sym, ap, subst, ◌∙◌}
+-- A call on a tree that is refused: by its table, by its limits, or by 16; and what the test of 16 tells.
+-- Rests on Calling.antt, on `rules`, Answering, and on `records`, Sixteen.
+use mathlib.Core.Path.{◌≡◌, refl, sym, ap, ◌∙◌}
 use mathlib.Core.Bool.{Bool, true, false, not}
-use mathlib.Core.List.{List, [], ◌∷◌, ◌++◌, append_assoc}
-use Prim.Native.Nat.{ℕ, zero, suc, ◌+◌, ◌<◌, ◌≤◌}
+use mathlib.Core.List.{List, [], ◌∷◌}
+use Prim.Native.Nat.{ℕ, ◌+◌, ◌<◌}
 use native.Mathlib.Omega.{arith}
-use borrow.Author.Tests.{ltb-false}
-use Rattle.rules.specs.Rounding.{S}
+use lib.Dec.{ltb}
+use borrow.Author.Tests.{ltb-true}
+use Rattle.std.specs.Prelude.{Result, Ok, Err}
 use Rattle.rules.specs.Table.{Table}
-use Rattle.rules.specs.Refusals.{refusal, first, table_refusals, way_refusals, limit_refusals, allowance_above, table_number, Accepted}
-use Rattle.rules.specs.Calls.{hand_number, run_number, hand_refusals, run_refusals, Call, by_hand, by_run}
+use Rattle.rules.specs.Refusals.{test, answered, first, table_refusals, limit_refusals, table_number, Accepted}
+use Rattle.rules.specs.Calls.{hand_refusals, run_refusals, Call, by_hand, by_run}
 use Rattle.rules.specs.declared.Kind.{Kind}
 use Rattle.rules.specs.declared.Limits.{Limits}
-use Rattle.rules.proofs.First.{none-applies, first-here, first-after, first-before, first-end}
-use Rattle.rules.proofs.Demand3.{run-number}
-use Rattle.records.specs.Records.{tree_records, layout, is_good, bad, Good}
-use Rattle.records.specs.declared.Node.{Node}
+use Rattle.rules.specs.declared.Refusal.{Refusal}
+use Rattle.rules.proofs.First.{number-above, none-applies}
+use Rattle.rules.proofs.Answering.{first-refused, answered-after, answered-before, answered-here}
+use Rattle.rules.proofs.Booleans.{and_left, and_right}
+use Rattle.records.specs.Records.{tree_records, record_in, is_live, layout, is_good, bad, Good}
+use Rattle.records.specs.Growing.{may_at}
 use Rattle.records.specs.declared.Tree.{Tree}
 use Rattle.records.proofs.Positions.{length_places}
 use Rattle.records.proofs.Sixteen.{good-sure}
-use Rattle.clauses.specs.declared.Clauses.{Clauses}
-use Rattle.node.specs.Told.{LeafWays}
 use Rattle.dtree.specs.Promises.{number_of, Called}
-use Rattle.dtree.proofs.Calling.{front-free, called, refused_by, refused-tree, refused-outcome}
+use Rattle.dtree.proofs.Accepting.{judged}
+use Rattle.dtree.proofs.Calling.{refusals_of, number-first, called, refused_by, refused-tree, refused-outcome}
 
--- With the number that applies, and the tree as it was.
-pub refused-call : (t : Table) (x : Tree) (c : Call) (n : ℕ) → number_of t x c ≡ n → (n ≡ 0 → ⊥) → Called t x c x (refused_by c n)
-refused-call t x c zero e f = absurd (f refl)
-refused-call t x c (suc n) e f = called t x c x (refused_by c (suc n)) (sym (refused-tree t x c n e)) (sym (refused-outcome t x c n e))
+-- Refused, a call hands back the first refusal that applies and leaves the tree as it was.
+pub refused-call : (t : Table) (x : Tree) (c : Call) (r : Refusal) → judged (refusals_of t x c) ≡ Err r → Called t x c x (refused_by c r)
+refused-call t x c r e =
+    let some : number_of t x c ≡ 0 → ⊥ =
+    λ z. absurd (omega (arith, z, number-first t x c, first-refused (refusals_of t x c) tt r e, number-above r)) in
+    called t x c x (refused_by c r) (sym (refused-tree t x c some)) (sym (refused-outcome t x c r e))
 
--- ---- which number
+-- ---- which refusal
 
--- 9 to 13 come first in a run, whatever 16 says.
-pub run-table : (t : Table) (b : Bool) (m : Limits) (n : ℕ) → n ≡ table_number t → (n ≡ 0 → ⊥) → run_number t b m ≡ n
-unfolding run_number run_refusals table_number
-run-table t b m zero e f = absurd (f refl)
-run-table t b m (suc n) e f = first-before (table_refusals t) _ n (sym e)
+-- 9 to 13 come first in every call.
+pub by-table : (t : Table) (x : Tree) (c : Call) (r : Refusal) → judged (table_refusals t) ≡ Err r → judged (refusals_of t x c) ≡ Err r
+unfolding hand_refusals run_refusals
+by-table t x (by_hand bs k) r e = answered-before (table_refusals t) _ tt tt r e
+by-table t x (by_run m) r e = answered-before (table_refusals t) _ tt tt r e
 
--- And in every call.
-pub by-table : (t : Table) (x : Tree) (c : Call) (n : ℕ) → n ≡ table_number t → (n ≡ 0 → ⊥) → number_of t x c ≡ n
-unfolding number_of hand_number hand_refusals table_number
-by-table t x (by_hand bs k) zero e f = absurd (f refl)
-by-table t x (by_hand bs k) (suc n) e f = first-before (table_refusals t) _ n (sym e)
-by-table t x (by_run m) n e f = run-table t (bad t x) m n e f
+-- 14 and 15 come next in a run.
+pub by-limits : (t : Table) → Accepted t → (x : Tree) (m : Limits) (r : Refusal) → judged (limit_refusals m) ≡ Err r
+    → judged (refusals_of t x (by_run m)) ≡ Err r
+unfolding run_refusals table_number
+by-limits t ok x m r e =
+    answered-after (table_refusals t) _ tt (none-applies (table_refusals t) ok) ∙ answered-before (limit_refusals m) _ tt tt r e
 
--- A hand refinement on an accepted table: then 16.
-pub hand-sixteen : (t : Table) (x : Tree) (bs : List ℕ) (k : Kind) → Accepted t → bad t x ≡ true → number_of t x (by_hand bs k) ≡ 16
-unfolding number_of hand_number hand_refusals table_number table_refusals way_refusals
-hand-sixteen t x bs k ok b = first-after (table_refusals t) _ (none-applies (table_refusals t) refl ok) ∙ first-here (refusal 16 (bad t x)) _ b
+-- Then 16. Its test refuses a tree of which b does not say that it is good.
+pub not-passed : (b : Bool) (w : Result (Unit {0}) Refusal) → w ≡ answered (test Refusal.NotGood (not b) ∷ []) tt → (r : Refusal) → w ≡ Err r
+    → (b ≡ false) × (r ≡ Refusal.NotGood)
+unfolding answered
+not-passed true w e r h = absurd (cc (h, e))
+not-passed false w e r h = (refl, cc (h, e))
 
--- A run: 9 to 15 come before 16.
-pub before-sixteen : (t : Table) (x : Tree) (m : Limits) (n : ℕ) → n ≡ run_number t false m → (n ≡ 0 → ⊥) → number_of t x (by_run m) ≡ n
-unfolding number_of run_number run_refusals first
-before-sixteen t x m zero e f = absurd (f refl)
-before-sixteen t x m (suc n) e f =
-    let ahead = table_refusals t ++ limit_refusals m in
-    let split : (b : Bool) → table_refusals t ++ (limit_refusals m ++ refusal 16 b ∷ []) ≡ ahead ++ refusal 16 b ∷ [] =
-    λ b. sym (append_assoc (table_refusals t) (limit_refusals m) (refusal 16 b ∷ [])) in
-    let found : first ahead ≡ suc n = sym (ap first (split false) ∙ first-end ahead (refusal 16 false ∷ []) refl) ∙ sym e in
-    ap first (split (bad t x)) ∙ first-before ahead (refusal 16 (bad t x) ∷ []) n found
+-- And lets any other pass.
+pub passed-on : (b : Bool) (w : Result (Unit {0}) Refusal) → w ≡ answered (test Refusal.NotGood (not b) ∷ []) tt → (u : Unit {0}) → w ≡ Ok u → b ≡ true
+unfolding answered
+passed-on true w e u h = refl
+passed-on false w e u h = absurd (cc (h, e))
 
--- What `run_number` found to be 0 lets the run through.
-pub let_through : (t : Table) (m : Limits) (n : ℕ) → n ≡ run_number t false m → n ≡ 0 → run_number t false m ≡ 0
-let_through t m n e z = sym e ∙ z
-
--- Where none of them applies the table is accepted.
-pub run-accepted : (t : Table) (m : Limits) → run_number t false m ≡ 0 → Accepted t
-unfolding run_number run_refusals table_number
-run-accepted t m z = front-free (table_refusals t) _ z
-
--- And the allowance is at most S.
-pub run-allowance : (t : Table) (m : Limits) → run_number t false m ≡ 0 → m.allowance ≤ S
-unfolding limit_refusals allowance_above
-run-allowance t m z =
-    let n = none-applies (limit_refusals m) refl (sym (run-number t (run-accepted t m z) m) ∙ z) in
-    ltb-false S m.allowance n.0
-
--- And 16 decides.
-pub run-sixteen : (t : Table) (x : Tree) (m : Limits) → run_number t false m ≡ 0 → bad t x ≡ true → number_of t x (by_run m) ≡ 16
-unfolding number_of run_number run_refusals table_number table_refusals way_refusals limit_refusals
-run-sixteen t x m z b =
-    let ok = run-accepted t m z in
-    first-after (table_refusals t) _ (none-applies (table_refusals t) refl ok)
-    ∙ first-after (limit_refusals m) _ (none-applies (limit_refusals m) refl (sym (run-number t ok m) ∙ z))
-    ∙ first-here (refusal 16 (bad t x)) [] b
-
--- ---- what the test of 16 tells
-
-module _ (t : Table) (x : Tree) (r : Bool) (e : r ≡ is_good t x) where
-  -- A test that fails says that 16 applies.
-  pub found_bad : r ≡ false → bad t x ≡ true
+-- The test on the tree gave b.
+-- The test on the tree gave b.
+module _ (t : Table) (x : Tree) (b : Bool) (e : b ≡ is_good t x) where
+  -- It is the test that the rules are handed.
+  tested : not b ≡ bad t x
   unfolding bad
-  found_bad h = ap not (sym e ∙ h)
+  tested = ap not e
 
-  -- One that holds says that the tree is good.
-  pub found_good : r ≡ true → Good t x
-  found_good h = good-sure t x (sym e ∙ h)
+  -- It refuses a hand refinement.
+  pub hand-bad : Accepted t → (bs : List ℕ) (k : Kind) → b ≡ false → judged (refusals_of t x (by_hand bs k)) ≡ Err Refusal.NotGood
+  unfolding hand_refusals table_number
+  hand-bad ok bs k f =
+      answered-after (table_refusals t) _ tt (none-applies (table_refusals t) ok)
+      ∙ answered-here (test Refusal.NotGood (bad t x)) _ tt (sym tested ∙ ap not f)
 
-  -- And that 16 does not apply.
-  pub not_bad : r ≡ true → bad t x ≡ false
-  unfolding bad
-  not_bad h = ap not (sym e ∙ h)
+  -- And a run.
+  pub run-bad : Accepted t → (m : Limits) → first (limit_refusals m) ≡ 0 → b ≡ false → judged (refusals_of t x (by_run m)) ≡ Err Refusal.NotGood
+  unfolding run_refusals table_number
+  run-bad ok m free f =
+      answered-after (table_refusals t) _ tt (none-applies (table_refusals t) ok)
+      ∙ answered-after (limit_refusals m) _ tt (none-applies (limit_refusals m) free)
+      ∙ answered-here (test Refusal.NotGood (bad t x)) _ tt (sym tested ∙ ap not f)
 
--- A good tree has room for two records or none.
+  -- A tree that it lets pass is not bad.
+  pub not-bad : b ≡ true → bad t x ≡ false
+  not-bad f = sym tested ∙ ap not f
+
+  -- But good.
+  pub good : b ≡ true → Good t x
+  good f = good-sure t x (sym e ∙ f)
+
+-- A good tree has room for two records or none, and for two where a refinement may be made.
 pub odd-room : (t : Table) (x : Tree) → Good t x → x.used < tree_records → x.used + 1 < tree_records
 unfolding layout
 odd-room t x g h = omega (arith, h, ap (λ (y : Tree). y.used) g.is, length_places g.made)
 
--- Equal records have equal ways.
-pub ways-there : (ps qs : List ℕ) (x y : Node) (c : Clauses) → x ≡ y → LeafWays ps qs x c → LeafWays ps qs y c
-ways-there ps qs x y c e w = subst (λ (n : Node). LeafWays ps qs n c) e w
+pub may-room : (t : Table) (x : Tree) → Good t x → (j : ℕ) (k : Kind) → may_at t x.nodes x.used j k ≡ true → x.used + 1 < tree_records
+unfolding may_at
+may-room t x g j k m =
+    let room = and_left (ltb x.used tree_records) _ (and_right (is_live (record_in x.nodes j)) _ m) in
+    odd-room t x g (ltb-true x.used tree_records room)

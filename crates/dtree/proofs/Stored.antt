@@ -9,7 +9,9 @@ use Rattle.rules.specs.Table.{Table}
 use Rattle.rules.specs.Tree.{Place, Refinement, tree, series, Subtree, subtree, Interval, interval, interval_at, kind_at}
 use Rattle.rules.specs.Refusals.{Accepted}
 use Rattle.rules.specs.Calls.{Call, Outcome}
-use Rattle.rules.specs.declared.Answer.{Answer}
+use Rattle.std.specs.Prelude.{Result}
+use Rattle.rules.specs.declared.Figures.{Figures}
+use Rattle.rules.specs.declared.Refusal.{Refusal}
 use Rattle.rules.proofs.Demands.{AtPlace, at_place}
 use Rattle.records.specs.Records.{history, tree_kind, tree_interval, bad, Good}
 use Rattle.records.specs.declared.Tree.{Tree}
@@ -64,7 +66,7 @@ every-place t ok y g =
 -- ---- 16 NEVER REFUSES WHAT A CALL LEFT: this follows from the promises alone
 
 -- Not the tree of an accepted opening.
-pub never-16-opened : (t : Table) (x : Tree) (a : Answer) → Opening t x a → Accepted t → bad t x ≡ false
+pub never-16-opened : (t : Table) (x : Tree) (a : Result Figures Refusal) → Opening t x a → Accepted t → bad t x ≡ false
 never-16-opened t x a o ok = (sixteen t x).1 (o.accepted ok).2.good
 
 -- Not the tree of an accepted hand refinement or run.

@@ -3,19 +3,21 @@
 use mathlib.Core.Path.{◌≡◌, refl, sym, ap, subst, ◌∙◌}
 use mathlib.Core.Bool.{Bool, true, false}
 use mathlib.Core.List.{List, ◌++◌, append_assoc}
-use mathlib.Core.Option.{some}
-use Prim.Native.Nat.{ℕ, zero, suc, ◌+◌, ◌≤◌}
+use Prim.Native.Nat.{ℕ, ◌+◌, ◌≤◌}
 use native.Mathlib.Omega.{arith}
 use borrow.Author.Tests.{le-ltb}
+use Rattle.std.specs.Prelude.{Some, Err}
 use Rattle.rules.specs.Table.{Table}
 use Rattle.rules.specs.Tree.{Refinement, DTree, leaf, tree, low, high, series}
 use Rattle.rules.specs.Run.{aim_of, picks}
 use Rattle.rules.specs.Run.{ran as after, figure as middle}
-use Rattle.rules.specs.Refusals.{limit_refusals, allowance_above, budget_above, Accepted}
-use Rattle.rules.specs.Calls.{Call, by_run, Outcome, reply, run_number, run_refusals, run_answer_by, figures, outcome}
+use Rattle.rules.specs.Refusals.{first, limit_refusals, allowance_above, budget_above, Accepted}
+use Rattle.rules.specs.Calls.{Call, by_run, Outcome, reply, run_number, run_refusals, figures, outcome}
 use Rattle.rules.specs.declared.Limits.{Limits}
 use Rattle.rules.specs.declared.Aim.{Aim}
 use Rattle.rules.specs.declared.Verdict.{Verdict}
+use Rattle.rules.specs.declared.Refusal.{Refusal}
+use Rattle.rules.proofs.Answering.{Comes, accepts, refuses, comes}
 use Rattle.rules.proofs.Series.{grow-append}
 use Rattle.rules.proofs.Runs.{OneRun, two_runs, picks-add}
 use Rattle.records.specs.Records.{layout, bad, Good}
@@ -23,10 +25,12 @@ use Rattle.records.specs.Library.{call_tree, call_outcome}
 use Rattle.records.specs.declared.Tree.{Tree}
 use Rattle.records.proofs.Sixteen.{sixteen}
 use Rattle.records.proofs.ByTheRules.{call-tree, call-outcome, still_series}
+use Rattle.dtree.proofs.Accepting.{judged}
 use Rattle.dtree.specs.Promises.{number_of}
-use Rattle.dtree.proofs.Calling.{free, refused-tree, refused-outcome}
-use Rattle.dtree.proofs.ByRun.{made-picks}
-use Rattle.dtree.proofs.Verdicts.{verdict_of, figure_of, said}
+use Rattle.dtree.proofs.Calling.{refusals_of, number-first, free}
+use Rattle.dtree.proofs.Refuses.{refused-call}
+use Rattle.dtree.proofs.ByRun.{made-picks, said}
+use Rattle.dtree.proofs.Verdicts.{verdict_of, figure_of}
 
 -- The limits of a run with this aim and budget, and a run with them.
 abbrev limits : Aim → ℕ → Limits
@@ -56,19 +60,27 @@ pub record AsOne (t : Table) (x : Tree) (first second one : Call) : Type 0 where
 -- ---- refused: all three are, by the same number, and the tree stays
 
 -- Between two budgets of at most 255 the refusals of a run see no difference, whatever 16 says.
+same_refusals : (t : Table) (o : Bool) (a : Aim) (b c : ℕ) → b ≤ 255 → c ≤ 255 → run_refusals t o (limits a b) ≡ run_refusals t o (limits a c)
+unfolding run_refusals limit_refusals budget_above allowance_above
+same_refusals t o a b c h k = rw (le-ltb 255 b h, le-ltb 255 c k) refl
+
+-- So is their number.
 same_number : (t : Table) (o : Bool) (a : Aim) (b c : ℕ) → b ≤ 255 → c ≤ 255 → run_number t o (limits a b) ≡ run_number t o (limits a c)
-unfolding run_number run_refusals limit_refusals budget_above allowance_above
-same_number t o a b c h k = rw (le-ltb 255 b h, le-ltb 255 c k) refl
+unfolding run_number
+same_number t o a b c h k = ap first (same_refusals t o a b c h k)
 
 -- So the second run meets the tree that the first met.
-refused-runs : (t : Table) (x : Tree) (k l m : Limits) (n : ℕ) → number_of t x (by_run k) ≡ suc n → number_of t x (by_run l) ≡ suc n
-    → number_of t x (by_run m) ≡ suc n → AsOne t x (by_run k) (by_run l) (by_run m)
-refused-runs t x k l m n e f g =
-    let stays = refused-tree t x (by_run k) n e in
+refused-runs : (t : Table) (x : Tree) (k l m : Limits) (r : Refusal) → judged (refusals_of t x (by_run k)) ≡ Err r
+    → judged (refusals_of t x (by_run l)) ≡ Err r → judged (refusals_of t x (by_run m)) ≡ Err r
+    → AsOne t x (by_run k) (by_run l) (by_run m)
+refused-runs t x k l m r e f g =
+    let on-first = refused-call t x (by_run k) r e in
+    let on-second = refused-call t x (by_run l) r f in
+    let on-one = refused-call t x (by_run m) r g in
     record {
-      tree_is = ap (λ (y : Tree). call_tree t y (by_run l)) stays ∙ refused-tree t x (by_run l) n f ∙ sym (refused-tree t x (by_run m) n g);
+      tree_is = ap (λ (y : Tree). call_tree t y (by_run l)) (sym on-first.tree_is) ∙ sym on-second.tree_is ∙ on-one.tree_is;
       answers =
-          rw (stays, refused-outcome t x (by_run k) n e, refused-outcome t x (by_run l) n f, refused-outcome t x (by_run m) n g)
+          rw (sym on-first.tree_is, sym on-first.outcome_is, sym on-second.outcome_is, sym on-one.outcome_is)
           record { first_number = refl; number = refl; low_end = refl; high_end = refl; verdict = refl; figure = refl; reports = refl };
     }
 
@@ -77,7 +89,7 @@ refused-runs t x k l m n e f g =
 -- What accepted runs hand back on a tree of the rules.
 rules-add-up : (t : Table) (s : DTree) (a : Aim) (b c : ℕ) → run_number t false (limits a b) ≡ 0 → run_number t false (limits a c) ≡ 0
     → run_number t false (limits a (b + c)) ≡ 0 → AddUp (outcome t s (run_of a b)) (outcome t (after t a b s) (run_of a c)) (outcome t s (run_of a (b + c)))
-unfolding run_answer_by figures
+unfolding figures
 rules-add-up t s a b c y z w =
     let one : OneRun t a b c s = two_runs t a b c s in
     rw (said t s (limits a b) y, said t (after t a b s) (limits a c) z, said t s (limits a (b + c)) w)
@@ -86,7 +98,7 @@ rules-add-up t s a b c y z w =
       number = refl;
       low_end = ap (low t) one.tree;
       high_end = ap (high t) one.tree;
-      verdict = ap (λ (v : Verdict). some v) one.verdicts;
+      verdict = ap (λ (v : Verdict). Some v) one.verdicts;
       figure = ap (λ (s : DTree). middle (low t s) (high t s)) one.tree;
       reports = one.report;
     }
@@ -110,7 +122,9 @@ module _ (t : Table) (ok : Accepted t) (ns : List Refinement) (h : series t ns �
   ms = ns ++ picks t a b (tree ns)
 
   first_series : series t ms ≡ true
-  first_series = ap (λ (ps : List Refinement). series t (ns ++ ps)) (sym (made-picks t (tree ns) (limits a b) free_first)) ∙ still_series t ok ns h (run_of a b)
+  first_series =
+      ap (λ (ps : List Refinement). series t (ns ++ ps)) (sym (made-picks t (tree ns) (limits a b) free_first))
+      ∙ still_series t ok ns h (run_of a b)
 
   first_grows : tree ms ≡ after t a b (tree ns)
   first_grows = grow-append ns (picks t a b (tree ns)) leaf
@@ -139,16 +153,20 @@ module _ (t : Table) (ok : Accepted t) (ns : List Refinement) (h : series t ns �
 -- TWO RUNS ARE ONE.
 pub two-runs-are-one : (t : Table) (x : Tree) (a : Aim) (b c : ℕ) → b + c ≤ 255 → AsOne t x (run_of a b) (run_of a c) (run_of a (b + c))
 unfolding number_of
-two-runs-are-one t x a b c few = by (number_of t x (run_of a (b + c))) refl
+two-runs-are-one t x a b c few = by (comes {A = Unit {0}} (refusals_of t x (run_of a (b + c))) tt)
   where
-    by : (n : ℕ) → number_of t x (run_of a (b + c)) ≡ n → AsOne t x (run_of a b) (run_of a c) (run_of a (b + c))
-    by zero e =
+    same : (d : ℕ) → d ≤ 255 → judged (refusals_of t x (run_of a d)) ≡ judged (refusals_of t x (run_of a (b + c)))
+    same d h = ap judged (same_refusals t (bad t x) a d (b + c) h few)
+
+    by : Comes {A = Unit {0}} (refusals_of t x (run_of a (b + c))) tt → AsOne t x (run_of a b) (run_of a c) (run_of a (b + c))
+    by (accepts n s) =
+        let e = number-first t x (run_of a (b + c)) ∙ n in
         let f = free t x (run_of a (b + c)) e in
         let g : Good t x = (sixteen t x).0 f.1 in
         let z : run_number t false (limits a (b + c)) ≡ 0 = sym (ap (λ (o : Bool). run_number t o (limits a (b + c))) f.1) ∙ e in
         subst (λ (y : Tree). AsOne t y (run_of a b) (run_of a c) (run_of a (b + c))) (sym g.is) (on_series t f.0 g.made g.accepted a b c few z)
-    by (suc n) e =
-        refused-runs t x (limits a b) (limits a c) (limits a (b + c)) n
-        (same_number t (bad t x) a b (b + c) (omega (arith, few)) few ∙ e)
-        (same_number t (bad t x) a c (b + c) (omega (arith, few)) few ∙ e)
-        e
+    by (refuses r n s) =
+        refused-runs t x (limits a b) (limits a c) (limits a (b + c)) r
+        (same b (omega (arith, few)) ∙ s)
+        (same c (omega (arith, few)) ∙ s)
+        s

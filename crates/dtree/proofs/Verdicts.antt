@@ -4,18 +4,19 @@ use mathlib.Core.Path.{◌≡◌, refl, ap, ◌∙◌}
 use mathlib.Core.Bool.{true, false}
 use mathlib.Core.List.{List, ◌++◌}
 use mathlib.Core.Logic.{◌↔◌}
-use mathlib.Core.Option.{Option, none, some, some-injective}
+use Rattle.std.specs.Prelude.{Option, Some, None, Result, Err}
 use Prim.Native.Nat.{ℕ, ◌+◌, ◌-◌, ◌*◌, ◌/◌, ◌≤◌}
 use Rattle.rules.specs.Table.{Table, ways, Near}
-use Rattle.rules.specs.Tree.{Refinement, DTree, leaf, tree, grow, low, high, series}
-use Rattle.rules.specs.Run.{aim_of, picks, verdict, figure}
+use Rattle.rules.specs.Tree.{Refinement, leaf, tree, grow, low, high, series}
+use Rattle.rules.specs.Run.{aim_of, picks, figure}
 use Rattle.rules.specs.Answers.{run_verdict, run_figure}
 use Rattle.rules.specs.Refusals.{Accepted}
-use Rattle.rules.specs.Calls.{run_number, run_answer, run_answer_by, Outcome, handed, ran, reply, by_run, run_makes, figures, call_number, outcome, makes}
+use Rattle.rules.specs.Calls.{run_number, Outcome, handed, ran, reply, by_run, figures, call_number, outcome, makes}
 use Rattle.rules.specs.declared.Limits.{Limits}
 use Rattle.rules.specs.declared.Verdict.{Verdict}
 use Rattle.rules.specs.declared.Verdict.TheVariants.{Met}
-use Rattle.rules.specs.declared.RunAnswer.{RunAnswer}
+use Rattle.rules.specs.declared.Ended.{Ended}
+use Rattle.rules.specs.declared.Refusal.{Refusal}
 use Rattle.rules.proofs.Series.{grow-append}
 use Rattle.rules.proofs.Runs.{picks-budget}
 use Rattle.rules.proofs.Distance.{met-exactly, figure-handed, no_figure}
@@ -23,12 +24,14 @@ use Rattle.records.specs.Records.{layout, history, bad}
 use Rattle.records.specs.Library.{call_tree, call_outcome}
 use Rattle.records.specs.declared.Tree.{Tree}
 use Rattle.dtree.specs.Promises.{root_of, number_of, Called, Running}
-use Rattle.dtree.proofs.Calling.{by_the_rules, root_low, root_high}
-use Rattle.dtree.proofs.ByRun.{made-picks}
+use Rattle.dtree.proofs.Accepting.{judged}
+use Rattle.dtree.proofs.Refuses.{refused-call}
+use Rattle.dtree.proofs.Calling.{refusals_of, by_the_rules, root_low, root_high}
+use Rattle.dtree.proofs.ByRun.{made-picks, said}
 
 -- The verdict of what a call hands back; a hand refinement has none.
 abbrev pub verdict_of : Outcome → Option Verdict
-verdict_of (handed a) = none
+verdict_of (handed a) = None
 verdict_of (ran a) = run_verdict a
 
 -- The figure of what a call hands back; a hand refinement has none.
@@ -39,26 +42,20 @@ figure_of (ran a) = run_figure a
 -- What an accepted run on a table says that leaves the tree y.
 record Says (t : Table) (m : Limits) (y : Tree) (o : Outcome) : Type 0 where
   in_budget : (reply o).count ≤ m.budget
-  met : (verdict_of o ≡ some Met) ↔ ((root_of y).high - (root_of y).low ≤ 2 * m.allowance)
+  met : (verdict_of o ≡ Some Met) ↔ ((root_of y).high - (root_of y).low ≤ 2 * m.allowance)
   figure_is : figure_of o ≡ (root_of y).low + ((root_of y).high - (root_of y).low) / 2
-  near : verdict_of o ≡ some Met → Near t.weights (ways t) (figure_of o) m.allowance
-
--- An accepted run hands back its verdict, the interval then at the root with the refinements that it made, and the figure of that interval.
-pub said : (t : Table) (s : DTree) (m : Limits) → run_number t false m ≡ 0
-    → outcome t s (by_run m) ≡ ran (run_answer_by 0 (verdict t (aim_of m) m.budget s) (figures t s (picks t (aim_of m) m.budget s)))
-unfolding outcome run_answer run_makes
-said t s m z = ap (λ (n : ℕ). ran (run_answer_by n (verdict t (aim_of m) m.budget s) (figures t s (picks t (aim_of m) m.budget s)))) z
+  near : verdict_of o ≡ Some Met → Near t.weights (ways t) (figure_of o) m.allowance
 
 -- At met its figure is near.
 near-said : (t : Table) → Accepted t → (ns : List Refinement) → series t ns ≡ true → (m : Limits) → run_number t false m ≡ 0
-    → verdict_of (outcome t (tree ns) (by_run m)) ≡ some Met → Near t.weights (ways t) (figure_of (outcome t (tree ns) (by_run m))) m.allowance
+    → verdict_of (outcome t (tree ns) (by_run m)) ≡ Some Met → Near t.weights (ways t) (figure_of (outcome t (tree ns) (by_run m))) m.allowance
 unfolding outcome
 near-said t ok ns s m z = (figure-handed t ok ns s m z).near
 
 -- By the rules, on the tree of a series.
 on_series : (t : Table) → Accepted t → (ns : List Refinement) → series t ns ≡ true → (m : Limits) → run_number t false m ≡ 0
     → Says t m (layout t (ns ++ picks t (aim_of m) m.budget (tree ns))) (outcome t (tree ns) (by_run m))
-unfolding run_answer_by figures figure
+unfolding figures figure
 on_series t ok ns s m z =
     let ps = picks t (aim_of m) m.budget (tree ns) in
     let x = met-exactly t (aim_of m) m.budget (tree ns) in
@@ -68,7 +65,7 @@ on_series t ok ns s m z =
     rw e
     record {
       in_budget = picks-budget t (aim_of m) m.budget (tree ns);
-      met = rw (l, h) (λ v. x.0 (some-injective _ _ v), λ w. ap (λ (v : Verdict). some v) (x.1 w));
+      met = rw (l, h) (λ v. x.0 (cc v), λ w. ap (λ (v : Verdict). Some v) (x.1 w));
       figure_is = rw (l, h) refl;
       near = rw e at (near-said t ok ns s m z);
     }
@@ -88,7 +85,7 @@ unfolding number_of call_outcome
 refused-figure t x m f = no_figure t m (bad t x) (tree (history x)) f
 
 -- The promise of a run, from that of a call.
-pub running : (t : Table) (x : Tree) (m : Limits) (y : Tree) (a : RunAnswer) → Called t x (by_run m) y (ran a) → Running t x m y a
+pub running : (t : Table) (x : Tree) (m : Limits) (y : Tree) (a : Result Ended Refusal) → Called t x (by_run m) y (ran a) → Running t x m y a
 running t x m y a c =
     record {
       call = c;
@@ -101,3 +98,8 @@ running t x m y a c =
   where
     at : number_of t x (by_run m) ≡ 0 → Says t m y (ran a)
     at z = rw (c.tree_is, c.outcome_is) (says t x m z)
+
+-- A run that is refused.
+pub running-refused : (t : Table) (x : Tree) (m : Limits) (a : Result Ended Refusal) (r : Refusal) → a ≡ Err r → judged (refusals_of t x (by_run m)) ≡ Err r
+    → Running t x m x a
+running-refused t x m a r e f = rw e (running t x m x (Err r) (refused-call t x (by_run m) r f))

@@ -1,6 +1,6 @@
 -- What each call of the library promises: its tree and its answer are the defined ones, and the claims that a reader cares for.
 -- Rests on `records`, Library, on `rules`, Calls and Answers, on `rules`, Table, for the exact sum, and on its Leaf and Tree for every place.
-use Rattle.std.specs.Prelude.{◌≡◌, false, List, [], ◌∷◌, ◌++◌, ◌↔◌, ℕ, ◌+◌, ◌-◌, ◌*◌, ◌/◌, ◌≤◌, set}
+use Rattle.std.specs.Prelude.{◌≡◌, false, Result, Some, List, [], ◌∷◌, ◌++◌, ◌↔◌, ℕ, ◌+◌, ◌-◌, ◌*◌, ◌/◌, ◌≤◌}
 use Rattle.std.proofs.Math.Option.{none, some}
 use Rattle.rules.specs.Rounding.{S}
 use Rattle.rules.specs.Table.{Table, ways, Encloses, Near}
@@ -13,16 +13,21 @@ use Rattle.rules.specs.declared.Way.{Way}
 use Rattle.rules.specs.declared.Kind.{Kind}
 use Rattle.rules.specs.declared.Limits.{Limits}
 use Rattle.rules.specs.declared.Verdict.TheVariants.{Met}
-use Rattle.rules.specs.declared.Answer.{Answer}
-use Rattle.rules.specs.declared.RunAnswer.{RunAnswer}
+use Rattle.rules.specs.declared.Figures.{Figures}
+use Rattle.rules.specs.declared.Ended.{Ended}
+use Rattle.rules.specs.declared.Refusal.{Refusal}
 use Rattle.records.specs.Records.{record_in, no_nodes, history, tree_count, bad, Good, tree_kind, tree_interval}
 use Rattle.records.specs.Library.{open_tree, call_tree, call_outcome}
 use Rattle.records.specs.declared.Node.{Node}
 use Rattle.records.specs.declared.Tree.{Tree}
 
--- A tree whose one record in use is x.
-unfoldable pub one_record : Node → Tree
-one_record x = record { nodes = set no_nodes.nodes 0 x; used = 1 }
+-- The record of the root.
+abbrev pub root_of : Tree → Node
+root_of x = record_in x.nodes 0
+
+-- What a call hands back that leaves the tree and made so many refinements.
+abbrev pub root_figures : Tree → ℕ → Figures
+root_figures x n = record { low = (root_of x).low; high = (root_of x).high; count = n }
 
 -- The interval of a reply is the one at the root of the tree y; it encloses the exact sum over the table's ways, in order and at most S.
 pub record Certain (t : Table) (y : Tree) (r : Reply) : Type 0 where
@@ -65,7 +70,7 @@ pub record EveryPlace (t : Table) (y : Tree) : Type 0 where
 -- ---- an opening
 
 -- AN OPENING of any table.
-pub record Opening (t : Table) (x : Tree) (a : Answer) : Type 0 where
+pub record Opening (t : Table) (x : Tree) (a : Result Figures Refusal) : Type 0 where
   -- The tree and the answer are the defined ones.
   pub tree_is : x ≡ open_tree t
   pub answer_is : a ≡ open_answer t
@@ -77,10 +82,6 @@ pub record Opening (t : Table) (x : Tree) (a : Answer) : Type 0 where
   pub otherwise : (Accepted t → ⊥) → (answer_reply a ≡ refused (table_number t)) × (x ≡ no_nodes)
 
 -- ---- calls on a tree
-
--- The record of the root.
-abbrev pub root_of : Tree → Node
-root_of x = record_in x.nodes 0
 
 -- The number of a call on any tree, 16 judged by the records.
 unfoldable pub number_of : Table → Tree → Call → ℕ
@@ -129,18 +130,18 @@ pub record OneMore (x : Tree) (bs : List ℕ) (k : Kind) (y : Tree) : Type 0 whe
   pub intervals_stay : (q : Place) → on_path q place ≡ false → on_path place q ≡ false → tree_interval y q ≡ tree_interval x q
 
 -- A HAND REFINEMENT: a call that makes the one refinement that it names.
-pub record Refining (t : Table) (x : Tree) (bs : List ℕ) (k : Kind) (y : Tree) (a : Answer) : Type 0 where
+pub record Refining (t : Table) (x : Tree) (bs : List ℕ) (k : Kind) (y : Tree) (a : Result Figures Refusal) : Type 0 where
   pub call : Called t x (by_hand bs k) y (handed a)
   pub one_more : number_of t x (by_hand bs k) ≡ 0 → OneMore x bs k y
 
 -- A RUN: a call that makes at most its budget, and hands back a verdict and a figure besides.
-pub record Running (t : Table) (x : Tree) (m : Limits) (y : Tree) (a : RunAnswer) : Type 0 where
+pub record Running (t : Table) (x : Tree) (m : Limits) (y : Tree) (a : Result Ended Refusal) : Type 0 where
   pub call : Called t x (by_run m) y (ran a)
   pub in_budget : number_of t x (by_run m) ≡ 0 → (run_reply a).count ≤ m.budget
   -- It says met exactly if the root is then at most twice the allowance wide.
-  pub met : number_of t x (by_run m) ≡ 0 → (run_verdict a ≡ some Met) ↔ ((root_of y).high - (root_of y).low ≤ 2 * m.allowance)
+  pub met : number_of t x (by_run m) ≡ 0 → (run_verdict a ≡ Some Met) ↔ ((root_of y).high - (root_of y).low ≤ 2 * m.allowance)
   -- Accepted, whatever the verdict, the figure is low plus half the width at the root, rounded down; refused, it is 0.
   pub figure_is : number_of t x (by_run m) ≡ 0 → run_figure a ≡ (root_of y).low + ((root_of y).high - (root_of y).low) / 2
   pub no_figure : (number_of t x (by_run m) ≡ 0 → ⊥) → run_figure a ≡ 0
   -- At met the exact chance of the table's ways is within the allowance of the figure.
-  pub near : number_of t x (by_run m) ≡ 0 → run_verdict a ≡ some Met → Near t.weights (ways t) (run_figure a) m.allowance
+  pub near : number_of t x (by_run m) ≡ 0 → run_verdict a ≡ Some Met → Near t.weights (ways t) (run_figure a) m.allowance

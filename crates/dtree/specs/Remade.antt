@@ -5,8 +5,8 @@ use Rattle.rules.specs.Table.{Table}
 use Rattle.rules.specs.declared.Kind.{Kind}
 use Rattle.records.specs.Records.{record_in, kind_of, Good}
 use Rattle.records.specs.Growing.{grown_at, may_at}
+use Rattle.records.specs.Safe.{Safe}
 use Rattle.records.specs.declared.Tree.{Tree}
-use Rattle.store.specs.Safe.{Safe}
 
 -- The record of the next refinement's place: the parent of the next left child.
 abbrev pub next_at : Tree → Tree → ℕ

@@ -1,25 +1,31 @@
 //! A run on a fresh tree, for a caller that wants its answer alone: the tree is the root leaf, so that 16 has nothing to test.
-//! Rests on the module `opening` for the root leaf and on the module `runs` for 9 to 15 and the run.
+//! Rests on the module `opening` for the root leaf and on the module `runs` for the run.
 ghost use Rattle.std.specs.Prelude.{◌≡◌, false};
 ghost use Rattle.rules.specs.Tree.{leaf};
 ghost use Rattle.rules.specs.Calls.{run_answer};
 ghost use Rattle.rules.specs.Table.{table};
 
-use super::opening::{put_alone, root_leaf};
-use super::runs::{run_good, run_number};
-use rules::{Limits, RunAnswer};
-use store::NO_NODES;
+use super::opening::put_root;
+use super::runs::run_good;
+use checks::accepted::Table;
+use records::NO_NODES;
+use rules::{Ended, Limits, Refusal};
+use running::Task;
 
 /// What one run with the limits answers on the root leaf of a table.
-pub fn run_afresh(weights: &[u32], present: &[u64], absent: &[u64], limits: Limits) -> RunAnswer
+#[tactic(auto, unfolding(records::specs::Records::no_nodes))]
+pub fn run_afresh(
+    weights: &[u32],
+    present: &[u64],
+    absent: &[u64],
+    limits: Limits,
+) -> Result<Ended, Refusal>
     ensures answer { result ≡ run_answer (table weights.now present.now absent.now)
         false leaf limits }
 {
-    let number = run_number(weights, present, absent, limits);
-    if number != 0 {
-        return RunAnswer::Refused(number);
-    }
+    let table = Table::accept(weights, present, absent)?;
+    let task = Task::accept(limits)?;
     let mut tree = NO_NODES;
-    put_alone(&mut tree, root_leaf(weights, present, absent));
-    run_good(weights, present, absent, &mut tree, limits)
+    put_root(table, &mut tree);
+    Ok(run_good(table, &mut tree, task))
 }

@@ -1,50 +1,58 @@
 //! The opening: a table is accepted with its root leaf, or refused by the first number that applies.
-//! Rests on `checks` for the refusals, on `clauses` and `node` for the root leaf's record, and on `store` for the lent tree.
+//! Rests on `checks` for the refusals, on `clauses` and `node` for the root leaf's record, and on `records` for the tree.
 ghost use Rattle.std.specs.Prelude.{◌≡◌, []};
-ghost use Rattle.rules.specs.Refusals.{Accepted};
 ghost use Rattle.rules.specs.Table.{table};
-ghost use Rattle.records.specs.Records.{no_nodes, record_at};
-ghost use Rattle.store.specs.Lent.{tree_of};
-ghost use Rattle.dtree.specs.Promises.{Opening, one_record};
+ghost use Rattle.checks.specs.Tables.{table_of};
+ghost use Rattle.records.specs.Records.{no_nodes, record_at, layout};
+ghost use Rattle.dtree.specs.Promises.{root_figures, Opening};
 
-use checks::table::table_number;
-use clauses::staying::staying_rows;
+use chances::weights::Weights;
+use checks::accepted::Table;
+use clauses::Clauses;
 use node::leaf_record;
-use records::Node;
-use rules::{Answer, Figures};
-use store::{Words, clear, put_record, put_used};
+use records::{Node, Tree};
+use rules::{Figures, Refusal};
 
 /// The record of the root leaf of an accepted table.
-pub fn root_leaf(weights: &[u32], present: &[u64], absent: &[u64]) -> Node
-    requires { Accepted (table weights.now present.now absent.now) }
-    ensures { result ≡ record_at (table weights.now present.now absent.now) [] [] }
+pub fn root_leaf(table: Table) -> Node
+    ensures { result ≡ record_at (table_of table.entry) [] [] }
 {
-    leaf_record(weights, present, absent, staying_rows(present, absent), 0)
+    leaf_record(Clauses::staying_rows(table.rows()), Weights::from(table), 0)
 }
 
-/// Makes a tree without nodes one with a single record in use.
-pub fn put_alone(tree: &mut Words, x: Node)
-    requires { tree_of tree.old ≡ no_nodes }
-    ensures { tree_of tree.new ≡ one_record x }
+/// Makes a tree without nodes one that is the root leaf alone: no refinement is made yet.
+pub fn put_root(table: Table, tree: &mut Tree)
+    requires { tree.old ≡ no_nodes }
+    ensures { tree.new ≡ layout (table_of table.entry) [] }
 {
-    put_record(tree, 0, x);
-    put_used(tree, 1);
+    tree.nodes[0] = root_leaf(table);
+    tree.used = 1;
 }
 
-/// Opens a table. What the tree held before does not matter.
-pub fn open(weights: &[u32], present: &[u64], absent: &[u64], tree: &mut Words) -> Answer
-    ensures promise { Opening (table weights.now present.now absent.now) (tree_of tree.new) result }
+/// What an accepted call hands back that made so many refinements: the interval then at the root, and their number.
+pub fn figures(tree: &Tree, count: u64) -> Figures
+    ensures { result ≡ root_figures tree.now count }
 {
-    clear(tree);
-    let number = table_number(weights, present, absent);
-    if number != 0 {
-        return Answer::Refused(number);
-    }
-    let root = root_leaf(weights, present, absent);
-    put_alone(tree, root);
-    Answer::Accepted(Figures {
+    let root = &tree.nodes[0];
+    Figures {
         low: root.low,
         high: root.high,
-        count: 0,
-    })
+        count,
+    }
+}
+
+// The three lists come one by one, here and in the other calls, as C lends them: a struct would be made for one call and taken apart in it.
+/// Opens a table. What the tree held before does not matter.
+pub fn open(
+    weights: &[u32],
+    present: &[u64],
+    absent: &[u64],
+    tree: &mut Tree,
+) -> Result<Figures, Refusal>
+    ensures promise { Opening (table weights.now present.now absent.now) tree.new result }
+{
+    tree.clear();
+    let table = Table::accept(weights, present, absent)?;
+    put_root(table, tree);
+    Ok(figures(tree, 0))
 }

@@ -1,64 +1,42 @@
 //! A run: the refinements that its rule picks, at most as many as the budget, or the call is refused by the first number that applies.
 //! Rests on `checks` for 9 to 15, on the module `sixteen` for 16 and on `running` for the refinements.
-ghost use Rattle.std.specs.Prelude.{◌≡◌, false};
+ghost use Rattle.std.specs.Prelude.{◌≡◌, Ok};
 ghost use Rattle.rules.specs.Run;
-ghost use Rattle.rules.specs.Calls.{run_number};
-ghost use Rattle.records.specs.Records.{Good};
-ghost use Rattle.store.specs.Lent.{tree_of};
-ghost use Rattle.store.specs.Safe.{Safe};
-ghost use Rattle.dtree.specs.Promises.{Running};
+ghost use Rattle.rules.specs.Refusals.{first, limit_refusals};
 ghost use Rattle.rules.specs.Table.{table};
+ghost use Rattle.checks.specs.Tables.{table_of};
+ghost use Rattle.records.specs.Records.{Good};
+ghost use Rattle.dtree.specs.Promises.{Running};
 
+use super::opening::figures;
 use super::sixteen::is_good;
-use checks::limits::limit_number;
-use checks::table::table_number;
-use node::told::width;
-use records::Node;
-use rules::{Figures, Limits, RunAnswer};
+use checks::accepted::Table;
+use records::{Node, Tree};
+use rules::{Ended, Limits, Refusal};
+use running::Task;
 use running::run::run_on;
-use store::{Words, record_at};
-
-/// The first of 9 to 15 that applies to a run, or 0.
-pub fn run_number(weights: &[u32], present: &[u64], absent: &[u64], limits: Limits) -> u8
-    ensures { result ≡ run_number (table weights.now present.now absent.now) false limits }
-{
-    let table = table_number(weights, present, absent);
-    if table != 0 {
-        return table;
-    }
-    limit_number(limits)
-}
 
 /// The figure of a record's interval: low plus half the width, rounded down. Whatever the ends are, that is at most the larger of them.
+#[tactic(auto, unfolding(rules::specs::Run::figure))]
 fn figure(n: Node) -> u64
     ensures { result ≡ Run.figure n.low n.high }
 {
-    n.low + width(n) / 2
+    n.low + n.width() / 2
 }
 
-/// The run itself, on a good tree where none of 9 to 15 applies.
-pub fn run_good(
-    weights: &[u32],
-    present: &[u64],
-    absent: &[u64],
-    tree: &mut Words,
-    limits: Limits,
-) -> RunAnswer
-    requires limits_value { run_number (table weights.now present.now absent.now) false limits ≡ 0 }
-    requires good { Good (table weights.now present.now absent.now) (tree_of tree.old) }
-    requires safe { Safe (tree_of tree.old).nodes }
-    ensures promise { Running (table weights.now present.now absent.now)
-        (tree_of tree.old) limits (tree_of tree.new) result }
+// Clauses: `Good` for the reason at `run_on` (running); `accepted` since `run_on` makes its run for any budget, and a `Task` bounds the allowance alone.
+/// The run itself, on a good tree, where neither 14 nor 15 applies.
+pub fn run_good(table: Table, tree: &mut Tree, task: Task) -> Ended
+    requires accepted { first (limit_refusals task.limits) ≡ 0 }
+    requires good { Good (table_of table) tree.old }
+    ensures promise { Running (table_of table.entry) tree.old task.limits tree.new (Ok result) }
 {
-    let e = run_on(weights, present, absent, tree, limits);
-    let verdict = e.verdict;
-    let root = record_at(tree, 0);
-    let figures = Figures {
-        low: root.low,
-        high: root.high,
-        count: e.count,
-    };
-    RunAnswer::Ended(verdict, figures, figure(root))
+    let stopped = run_on(table, tree, task);
+    Ended {
+        verdict: stopped.verdict,
+        figures: figures(tree, stopped.made),
+        figure: figure(tree.nodes[0]),
+    }
 }
 
 /// Refines the widest open leaf, again and again, until the root is narrow enough, nothing is open, or no more may be made. Refused, the
@@ -67,18 +45,15 @@ pub fn run(
     weights: &[u32],
     present: &[u64],
     absent: &[u64],
-    tree: &mut Words,
+    tree: &mut Tree,
     limits: Limits,
-) -> RunAnswer
+) -> Result<Ended, Refusal>
     ensures promise { Running (table weights.now present.now absent.now)
-        (tree_of tree.old) limits (tree_of tree.new) result }
+        tree.old limits tree.new result }
 {
-    let number = run_number(weights, present, absent, limits);
-    if number != 0 {
-        return RunAnswer::Refused(number);
-    }
-    if !is_good(weights, present, absent, tree) {
-        return RunAnswer::Refused(16);
-    }
-    run_good(weights, present, absent, tree, limits)
+    let table = Table::accept(weights, present, absent)?;
+    let task = Task::accept(limits)?;
+    let good = is_good(table, tree);
+    Refusal::NotGood.test(!good)?;
+    Ok(run_good(table, tree, task))
 }

@@ -1,5 +1,5 @@
 -- The walk of `find`, byte by byte: what one byte does, and the loop's invariant, that the rest of the place leads on to the answer.
--- Rests on specs/Finds.antt and on `store`, Safe.
+-- Rests on specs/Finds.antt and on `records`, Safe.
 use mathlib.Core.Path.{◌≡◌, refl, sym, ap, ◌∙◌}
 use mathlib.Core.List.{List, ◌∷◌}
 use mathlib.Core.Option.{Option, none, some}
@@ -9,12 +9,12 @@ use native.Mathlib.Omega.{arith}
 use lib.ListN.{length, get_or, drop, drop_of_length-le}
 use lib.Seq.{drop-cons}
 use borrow.Author.Tests.{eq-eqb, ne_eqb}
+use Rattle.std.specs.Prelude.{Some, None}
 use Rattle.rules.specs.Tree.{Side, left, right, Place}
 use Rattle.rules.specs.Calls.{step_to, place_of}
 use Rattle.records.specs.Records.{tree_records, blank, record_in, child_record, walk}
 use Rattle.records.specs.declared.Node.{Node}
-use Rattle.store.specs.Safe.{Safe}
-use Rattle.find.specs.declared.Reached.TheVariants.{At, Nowhere}
+use Rattle.records.specs.Safe.{Safe}
 use Rattle.find.specs.Finds.{led, found, reached_of}
 
 -- A byte above 1 names no place.
@@ -65,7 +65,7 @@ start xs bs = record { inside = omega arith; rest = refl }
 
 module _ {xs : List Node} {bs : List ℕ} {j i : ℕ} (w : Walk xs bs j i) where
   -- With no byte left the walk is there.
-  pub there : length bs ≤ i → At j ≡ reached_of (found xs bs)
+  pub there : length bs ≤ i → Some j ≡ reached_of (found xs bs)
   unfolding led place_of walk
   there h = ap reached_of (ap (λ (cs : List ℕ). led xs j (place_of cs)) (sym (drop_of_length-le bs h)) ∙ w.rest)
 
@@ -73,22 +73,18 @@ module _ {xs : List Node} {bs : List ℕ} {j i : ℕ} (w : Walk xs bs j i) where
     next : led xs j (place_of (get_or bs i 0 ∷ drop (suc i) bs)) ≡ found xs bs
     next = ap (λ (cs : List ℕ). led xs j (place_of cs)) (sym (drop-cons bs i 0 h)) ∙ w.rest
 
-    -- With a byte left it ends at a byte that is no step, and at a record n without children.
-    pub no_step : 1 < get_or bs i 0 → Nowhere ≡ reached_of (found xs bs)
+    -- With a byte left it ends at a byte that is no step, and at a record without children.
+    pub no_step : 1 < get_or bs i 0 → None ≡ reached_of (found xs bs)
     unfolding led
     no_step g = ap reached_of (sym (ap (led xs j) (place_none (get_or bs i 0) (drop (suc i) bs) g)) ∙ next)
 
-    module _ (n : Node) (e : n ≡ record_in xs j) where
-      link : n.left ≡ (record_in xs j).left
-      link = ap (λ (x : Node). x.left) e
+    pub at_leaf : (record_in xs j).left ≡ 0 → None ≡ reached_of (found xs bs)
+    at_leaf z = ap reached_of (sym (byte_none xs j (get_or bs i 0) (drop (suc i) bs) z) ∙ next)
 
-      pub at_leaf : n.left ≡ 0 → Nowhere ≡ reached_of (found xs bs)
-      at_leaf z = ap reached_of (sym (byte_none xs j (get_or bs i 0) (drop (suc i) bs) (sym link ∙ z)) ∙ next)
-
-      -- Else it goes on to the child.
-      pub turn : Safe xs → (n.left ≡ 0 → ⊥) → get_or bs i 0 ≤ 1 → Walk xs bs (n.left + get_or bs i 0) (i + 1)
-      turn k q g =
-          record {
-            inside = omega (arith, (k.each j).children_inside, link, g);
-            rest = rw (link, add-one) (sym (byte_some xs j (get_or bs i 0) (drop (suc i) bs) g (λ z. q (link ∙ z))) ∙ next);
-          }
+    -- Else it goes on to the child.
+    pub turn : Safe xs → ((record_in xs j).left ≡ 0 → ⊥) → get_or bs i 0 ≤ 1 → Walk xs bs ((record_in xs j).left + get_or bs i 0) (i + 1)
+    turn k q g =
+        record {
+          inside = omega (arith, (k.each j).children_inside, g);
+          rest = rw add-one (sym (byte_some xs j (get_or bs i 0) (drop (suc i) bs) g q) ∙ next);
+        }

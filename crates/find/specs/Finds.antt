@@ -1,20 +1,19 @@
 -- The record that a place's bytes lead to, and which of 17 to 20 refuses a hand refinement there, all told from the records alone.
--- Rests on the records and on the rules' list of refusals; proofs/ByHand.antt shows that on a layout these are the rules' numbers.
-use Rattle.std.specs.Prelude.{◌≡◌, true, false, not, List, [], ◌∷◌, ℕ, ◌<◌, length, eqb, ltb}
+-- Rests on the records and on the rules' list of refusals; proofs/ByHand.antt shows that on a layout these are the rules' refusals.
+use Rattle.std.specs.Prelude.{◌≡◌, true, not, Result, Ok, Err, List, [], ◌∷◌, ℕ, ◌<◌, length, eqb, ltb, Some, None}
+use Rattle.std.specs.Prelude.{Option as Reached}
 use Rattle.std.proofs.Math.Option.{Option, none, some}
 use Rattle.rules.specs.Table.{Table}
 use Rattle.rules.specs.Tree.{Place, possible}
-use Rattle.rules.specs.Refusals.{Refusal, refusal, first}
+use Rattle.rules.specs.Refusals.{Test, test, answered}
 use Rattle.rules.specs.Calls.{place_of}
 use Rattle.rules.specs.declared.Kind.{Kind}
+use Rattle.rules.specs.declared.Refusal.{Refusal}
 use Rattle.records.specs.Records.{tree_records, record_in, is_live, record_ways, walk}
+use Rattle.records.specs.Growing.{may_at}
 use Rattle.records.specs.declared.Node.{Node}
 use Rattle.records.specs.declared.Tree.{Tree}
 use Rattle.formula.specs.Leaves.{FaultFits}
-use Rattle.find.specs.declared.Reached.{Reached}
-use Rattle.find.specs.declared.Reached.TheVariants.{At, Nowhere}
-use Rattle.find.specs.declared.Named.{Named}
-use Rattle.find.specs.declared.Named.TheVariants.{Leaf, Refused}
 
 -- The record to which the links lead from record i, if there is such a place.
 unfoldable pub led : List Node → ℕ → Option Place → Option ℕ
@@ -25,52 +24,50 @@ led xs i (some p) = walk xs p i
 abbrev pub found : List Node → List ℕ → Option ℕ
 found xs bs = led xs 0 (place_of bs)
 
--- As the code says it.
-abbrev pub reached_of : Option ℕ → Reached
-reached_of none = Nowhere
-reached_of (some j) = At j
-
--- A table of which only the ways count: nothing here reads a weight.
-abbrev pub word_table : List ℕ → List ℕ → Table
-word_table ps qs = record { weights = []; present = ps; absent = qs }
+-- As Rust has it.
+abbrev pub reached_of : Option ℕ → Reached ℕ
+reached_of none = None
+reached_of (some j) = Some j
 
 -- ---- 17 to 20
 
+-- A table of these words. The weights do not matter here.
+abbrev pub word_table : List ℕ → List ℕ → Table
+word_table ps qs = record { weights = []; present = ps; absent = qs }
+
 -- Those of a refinement at this record.
-unfoldable pub record_refusals : Table → ℕ → Kind → Node → List Refusal
+unfoldable pub record_refusals : Table → ℕ → Kind → Node → List Test
 record_refusals t used k n =
-    refusal 17 (not (eqb n.left 0))
-    ∷ refusal 18 (not (is_live n))
-    ∷ refusal 19 (not (ltb used tree_records))
-    ∷ refusal 20 (not (possible k (record_ways t n)))
+    test Refusal.NoLeaf (not (eqb n.left 0))
+    ∷ test Refusal.Closed (not (is_live n))
+    ∷ test Refusal.Full (not (ltb used tree_records))
+    ∷ test Refusal.Impossible (not (possible k (record_ways t n)))
     ∷ []
 
--- The first of these that applies, 0 if none does.
-unfoldable pub record_number : Table → ℕ → Kind → Node → ℕ
-record_number t used k n = first (record_refusals t used k n)
+-- Those at the record that a place leads to; 17 if it leads to none.
+unfoldable pub refusals_at : Table → Tree → Kind → Option ℕ → List Test
+refusals_at t x k none = test Refusal.NoLeaf true ∷ []
+refusals_at t x k (some j) = record_refusals t x.used k (record_in x.nodes j)
 
--- The number at the record that a place leads to, if it leads to one.
-unfoldable pub number_at : Table → Tree → Kind → Option ℕ → ℕ
-number_at t x k none = 17
-number_at t x k (some j) = record_number t x.used k (record_in x.nodes j)
+-- 17 TO 20 of a refinement of kind k at the place that the bytes name.
+unfoldable pub told_refusals : Table → Tree → List ℕ → Kind → List Test
+told_refusals t x bs k = test Refusal.NoLeaf (ltb 64 (length bs)) ∷ refusals_at t x k (found x.nodes bs)
 
--- WHICH OF 17 TO 20 REFUSES a refinement of kind k at the place that the bytes name, 0 if none does.
-unfoldable pub leaf_number : Table → Tree → List ℕ → Kind → ℕ
-leaf_number t x bs k = elim (ltb 64 (length bs)) as (λ b. ℕ) [ true ↦ 17 | false ↦ number_at t x k (found x.nodes bs) ]
+-- What they come to: the first that applies, or that none does.
+abbrev pub told : Table → Tree → List ℕ → Kind → Result (Unit {0}) Refusal
+told t x bs k = answered (told_refusals t x bs k) tt
 
 -- ---- what an answer tells
 
 -- The bytes lead to record j, and the refinement can be made there.
 pub record Refinable (t : Table) (x : Tree) (bs : List ℕ) (k : Kind) (j : ℕ) : Type 0 where
-  pub unrefused : leaf_number t x bs k ≡ 0
+  pub unrefused : told t x bs k ≡ Ok tt
   pub leads : found x.nodes bs ≡ some j
   pub inside : j < tree_records
-  pub live : (record_in x.nodes j).live ≡ 1
-  pub room : x.used < tree_records
-  pub fitting : possible k (record_ways t (record_in x.nodes j)) ≡ true
+  pub may : may_at t x.nodes x.used j k ≡ true
   pub fault : FaultFits k
 
--- The leaf's record where nothing refuses it, and else the number.
-unfoldable pub Tells : Table → Tree → List ℕ → Kind → Named → Type 0
-Tells t x bs k (Leaf j) = Refinable t x bs k j
-Tells t x bs k (Refused n) = (leaf_number t x bs k ≡ n) × (n ≡ 0 → ⊥)
+-- The leaf's record where nothing refuses the refinement, and else the first of 17 to 20 that applies.
+unfoldable pub Tells : Table → Tree → List ℕ → Kind → Result ℕ Refusal → Type 0
+Tells t x bs k (Ok j) = Refinable t x bs k j
+Tells t x bs k (Err r) = told t x bs k ≡ Err r

@@ -1,45 +1,99 @@
--- The faults of ways, counted by set bits: the lowest bit of a word m adds one to its fault's count, and m goes on without it.
--- Rests on `clauses`, First, for the lowest bit, and on `rules`, Run.
+-- The faults of ways, counted by set bits: each set bit of a word adds one to its fault's count, and each way its word.
+-- Rests on `chances`, Bits, and on `rules`, Run.
 use mathlib.Core.Path.{◌≡◌, refl, ap, ◌∙◌}
-use mathlib.Core.Bool.{Bool, true, false, ◌||◌, true≢false}
+use mathlib.Core.Bool.{Bool, true, false}
 use mathlib.Core.List.{List, [], ◌∷◌}
-use Prim.Native.Nat.{ℕ, suc, ◌+◌, ◌-◌, ◌^◌, ◌≤◌, ◌<◌}
+use Prim.Native.Nat.{ℕ, zero, suc, ◌+◌, ◌≤◌, ◌<◌}
 use native.Mathlib.Decide.{ℕ_discrete}
 use native.Mathlib.Omega.{arith}
 use lib.ListN.{length, get_or, set, replicate, length-set, get_or-replicate}
 use lib.Seq.{get_or-set_same, get_or-set_other}
-use lib.Bits.{bit_and, and_le_l}
-use lib.Count.{count_trailing_zeros}
 use lib.Dec.{eqb}
-use borrow.Author.Tests.{eqb-true, eq-eqb, ne_eqb}
+use borrow.Author.Tests.{eq-eqb, ne_eqb}
+use Rattle.std.specs.Prelude.{cond}
+use Rattle.std.specs.List.{filter, range_with_len}
 use Rattle.rules.specs.declared.Way.{Way}
 use Rattle.rules.specs.Table.{bit, faults, indicator}
 use Rattle.rules.specs.Run.{named}
-use Rattle.rules.proofs.Bits.{bit-zero, lowest-below}
-use Rattle.clauses.proofs.First.{First, lowest}
+use Rattle.chances.specs.Bits.{set_bits}
 
--- The word has the bit of its lowest fault, and those that are left without it.
-lowest-one : (k m f : ℕ) → 0 < m → m < 2 ^ k → indicator (bit f m) ≡ indicator (bit f (bit_and m (m - 1))) + indicator (eqb f (count_trailing_zeros k m))
-lowest-one k m f pos fits = ap indicator (l.numbers f) ∙ by (eqb f t) (bit f rest) (λ e. ap (λ (i : ℕ). bit i rest) (eqb-true f t e) ∙ l.gone)
+-- ---- how often a number stands in a list
+
+abbrev pub times_in : ℕ → List ℕ → ℕ
+times_in f [] = 0
+times_in f (i ∷ is) = indicator (eqb f i) + times_in f is
+
+-- Of numbers from i on, those that pass a test: not one below i, and each other one as the test says.
+times-passing : (P : ℕ → Bool) (f i k : ℕ) → (f < i → times_in f (filter P (range_with_len i k)) ≡ 0)
+    × (i ≤ f → f < i + k → times_in f (filter P (range_with_len i k)) ≡ indicator (P f))
+times-passing P f i zero = (λ l. refl, λ l h. absurd (omega arith))
+times-passing P f i (suc k) = by (P i) refl (ℕ_discrete f i) (times-passing P f (i + 1) k)
   where
-    t : ℕ
-    t = count_trailing_zeros k m
+    rest : List ℕ
+    rest = filter P (range_with_len (i + 1) k)
 
-    rest : ℕ
-    rest = bit_and m (m - 1)
+    by : (b : Bool) → P i ≡ b → Dec (f ≡ i) → (f < i + 1 → times_in f rest ≡ 0) × (i + 1 ≤ f → f < i + 1 + k → times_in f rest ≡ indicator (P f))
+        → (f < i → times_in f (cond b (i ∷ rest) rest) ≡ 0) × (i ≤ f → f < i + suc k → times_in f (cond b (i ∷ rest) rest) ≡ indicator (P f))
+    by true e (yes q) ih = (
+      λ l. absurd (omega arith),
+      λ l h. omega (arith, ih.0 (omega arith), ap indicator (eq-eqb f i q), ap indicator (ap P q ∙ e)),
+    )
+    by true e (no q) ih = (
+      λ l. omega (arith, ih.0 (omega arith), ap indicator (ne_eqb f i q)),
+      λ l h. omega (arith, ih.1 (omega arith) (omega arith), ap indicator (ne_eqb f i q)),
+    )
+    by false e (yes q) ih = (λ l. absurd (omega arith), λ l h. omega (arith, ih.0 (omega arith), ap indicator (ap P q ∙ e)))
+    by false e (no q) ih = (λ l. ih.0 (omega arith), λ l h. ih.1 (omega arith) (omega arith))
 
-    l : First (λ j. bit j m) (λ j. bit j rest) t
-    l = lowest k m pos fits
+-- A fault stands once among the set bits of a word that has it.
+pub times-set : (f w : ℕ) → f < 64 → times_in f (set_bits w) ≡ indicator (bit f w)
+unfolding set_bits
+times-set f w l = (times-passing (λ i. bit i w) f 0 64).1 (omega arith) (omega arith)
 
-    by : (x y : Bool) → (x ≡ true → y ≡ false) → indicator (x || y) ≡ indicator y + indicator x
-    by true true h = absurd (true≢false (h refl))
-    by true false h = refl
-    by false y h = omega arith
+-- Every set bit is below 64.
+below : (P : ℕ → Bool) (i k f : ℕ) (fs : List ℕ) → filter P (range_with_len i k) ≡ f ∷ fs → f < i + k
+below P i zero f fs e = cc
+below P i (suc k) f fs e = by (P i) e (λ q. below P (i + 1) k f fs q)
+  where
+    by : (b : Bool) → cond b (i ∷ filter P (range_with_len (i + 1) k)) (filter P (range_with_len (i + 1) k)) ≡ f ∷ fs
+        → (filter P (range_with_len (i + 1) k) ≡ f ∷ fs → f < i + 1 + k) → f < i + suc k
+    by true q ih = let same : i ≡ f = cc in omega arith
+    by false q ih = omega (arith, ih q)
 
--- ---- the counts
+pub set-small : (w f : ℕ) (fs : List ℕ) → set_bits w ≡ f ∷ fs → f < 64
+unfolding set_bits
+set-small w f fs e = below (λ i. bit i w) 0 64 f fs e
+
+-- ---- one word
+
+-- Each count, with the bits to come, makes what it was with all bits of the word.
+pub record Adding (old : List ℕ) (w : ℕ) (n fs : List ℕ) : Type 0 where
+  pub long : length n ≡ 64
+  pub sum : (f : ℕ) → f < 64 → get_or n f 0 + times_in f fs ≡ get_or old f 0 + indicator (bit f w)
+
+-- At first all are to come.
+pub begun : (old : List ℕ) (w : ℕ) → length old ≡ 64 → Adding old w old (set_bits w)
+begun old w l = record { long = l; sum = λ f h. ap (λ (x : ℕ). get_or old f 0 + x) (times-set f w h) }
+
+-- One is counted.
+pub added : (old : List ℕ) (w : ℕ) (n : List ℕ) (i : ℕ) (fs : List ℕ) → i < 64 → Adding old w n (i ∷ fs) → Adding old w (set n i (get_or n i 0 + 1)) fs
+added old w n i fs l a = record { long = simp length-set a.long; sum = λ f h. by f h (ℕ_discrete f i) }
+  where
+    by : (f : ℕ) → f < 64 → Dec (f ≡ i) → get_or (set n i (get_or n i 0 + 1)) f 0 + times_in f fs ≡ get_or old f 0 + indicator (bit f w)
+    by f h (yes e) =
+        omega (
+          arith,
+          a.sum f h,
+          ap indicator (eq-eqb f i e),
+          ap (λ (j : ℕ). get_or (set n i (get_or n i 0 + 1)) j 0) e ∙ get_or-set_same n i (get_or n i 0 + 1) 0 (omega (arith, a.long)),
+          ap (λ (j : ℕ). get_or n j 0) e,
+        )
+    by f h (no q) = omega (arith, a.sum f h, ap indicator (ne_eqb f i q), get_or-set_other n i f (get_or n i 0 + 1) 0 q)
+
+-- ---- all ways
 
 -- One way more.
-named_step : (f : ℕ) (v : Way) (vs : List Way) → named f (v ∷ vs) ≡ indicator (bit f (faults v)) + named f vs
+pub named_step : (f : ℕ) (v : Way) (vs : List Way) → named f (v ∷ vs) ≡ indicator (bit f (faults v)) + named f vs
 unfolding named
 named_step f v vs = by (bit f (faults v))
   where
@@ -53,72 +107,31 @@ one_at_most true = omega arith
 one_at_most false = omega arith
 
 -- No fault is named in more ways than there are.
-named-le : (f : ℕ) (vs : List Way) → named f vs ≤ length vs
+pub named-le : (f : ℕ) (vs : List Way) → named f vs ≤ length vs
 unfolding named
 named-le f [] = omega arith
 named-le f (v ∷ vs) = omega (arith, named_step f v vs, one_at_most (bit f (faults v)), named-le f vs)
 
--- Each fault's count, with its bit in m and its count in the ways left, makes its count in all ways.
-pub record Counting (all left : List Way) (n : List ℕ) (m : ℕ) : Type 0 where
-  pub long : length n ≡ 64
-  pub fits : m < 2 ^ 64
-  pub sum : (f : ℕ) → f < 64 → get_or n f 0 + indicator (bit f m) + named f left ≡ named f all
+-- Each count, with that of the ways to come, makes the count in all ways.
+abbrev pub Counting : List Way → List Way → List ℕ → Type 0
+Counting all left n = (f : ℕ) → f < 64 → get_or n f 0 + named f left ≡ named f all
 
--- At the start every count is 0.
-pub begun : (vs : List Way) → Counting vs vs (replicate 64 0) 0
-begun vs = record { long = refl; fits = omega arith; sum = λ f h. omega (arith, get_or-replicate {A = ℕ} 64 f 0 0 h, ap indicator (bit-zero f)) }
+-- At first every count is 0, and all ways are to come.
+pub none_counted : (all left : List Way) → left ≡ all → Counting all left (replicate 64 0)
+none_counted all left e f h = omega (arith, get_or-replicate {A = ℕ} 64 f 0 0 h, ap (named f) e)
 
-module _ (all left : List Way) (n : List ℕ) where
+module _ (all left : List Way) (n : List ℕ) (c : Counting all left n) where
   -- Every count is small.
-  pub small : (m : ℕ) → length all ≤ 128 → Counting all left n m → (f : ℕ) → f < 64 → get_or n f 0 ≤ 128
-  small m l inv f h = omega (arith, inv.sum f h, named-le f all)
+  pub small : length all ≤ 128 → (f : ℕ) → f < 64 → get_or n f 0 ≤ 128
+  small few f h = omega (arith, c f h, named-le f all)
 
-  -- No way is left.
-  pub all_counted : left ≡ [] → Counting all left n 0 → (f : ℕ) → f < 64 → get_or n f 0 ≡ named f all
+  -- One turn: the next way's faults are added.
+  pub one_counted : (v : Way) (vs : List Way) → left ≡ v ∷ vs → (w : ℕ) → w ≡ faults v → (k : List ℕ)
+      → ((f : ℕ) → f < 64 → get_or k f 0 ≡ get_or n f 0 + indicator (bit f w)) → Counting all vs k
+  one_counted v vs e w q k a f h =
+      omega (arith, c f h, a f h, ap (named f) e, named_step f v vs, ap (λ (x : ℕ). indicator (bit f x)) q)
+
+  -- At the end none is to come.
+  pub all_counted : left ≡ [] → (f : ℕ) → f < 64 → get_or n f 0 ≡ named f all
   unfolding named
-  all_counted e inv f h = omega (arith, inv.sum f h, ap (named f) e, ap indicator (bit-zero f))
-
-  -- The word of the next way is taken up.
-  pub taken_up : (v : Way) (m : ℕ) → m ≡ faults v → m < 2 ^ 64 → Counting all (v ∷ left) n 0 → Counting all left n m
-  taken_up v m e fit inv =
-      record {
-        long = inv.long;
-        fits = fit;
-        sum = λ f h. omega (arith, inv.sum f h, named_step f v left, ap indicator (bit-zero f), ap (λ (x : ℕ). indicator (bit f x)) e);
-      }
-
-  -- The lowest bit of the word is counted.
-  module _ (m : ℕ) (pos : 0 < m) (inv : Counting all left n m) where
-    abbrev t : ℕ
-    t = count_trailing_zeros 64 m
-
-    pub counted : Counting all left (set n t (get_or n t 0 + 1)) (bit_and m (m - 1))
-    counted =
-        record {
-          long = simp length-set inv.long;
-          fits = omega (arith, inv.fits, and_le_l m (m - 1));
-          sum = λ f h. by f h (ℕ_discrete f t);
-        }
-      where
-        inside : t < length n
-        inside = omega (arith, inv.long, lowest-below 64 m pos inv.fits)
-
-        by : (f : ℕ) → f < 64 → Dec (f ≡ t)
-            → get_or (set n t (get_or n t 0 + 1)) f 0 + indicator (bit f (bit_and m (m - 1))) + named f left ≡ named f all
-        by f h (yes e) =
-            omega (
-              arith,
-              inv.sum f h,
-              lowest-one 64 m f pos inv.fits,
-              ap indicator (eq-eqb f t e),
-              ap (λ (i : ℕ). get_or (set n t (get_or n t 0 + 1)) i 0) e ∙ get_or-set_same n t (get_or n t 0 + 1) 0 inside,
-              ap (λ (i : ℕ). get_or n i 0) e,
-            )
-        by f h (no q) =
-            omega (
-              arith,
-              inv.sum f h,
-              lowest-one 64 m f pos inv.fits,
-              ap indicator (ne_eqb f t q),
-              get_or-set_other n t f (get_or n t 0 + 1) 0 q,
-            )
+  all_counted e f h = omega (arith, c f h, ap (named f) e)

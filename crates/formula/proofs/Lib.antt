@@ -3,5 +3,4 @@
 mod Counted
 mod Meeting
 mod Picking
-mod Some
 mod Sweeping

@@ -4,19 +4,21 @@
 use mathlib.Core.Path.{◌≡◌, refl, sym, ap, ap₂, ◌∙◌}
 use mathlib.Core.Bool.{Bool, true, false, not, ◌&&◌, ◌||◌, true≢false}
 use mathlib.Core.List.{List, [], ◌∷◌, ◌++◌}
-use Prim.Native.Nat.{ℕ, zero, suc, ◌+◌, ◌-◌, min}
+use Prim.Native.Nat.{ℕ, ◌+◌, ◌-◌, min}
 use native.Mathlib.Nat.{mul-zero, zero-mul}
 use native.Mathlib.Omega.{arith}
 use lib.Bits.{bit_and, bit_or, and_zero_l, and_zero_r, or_zero_l, or_zero_r, and_comm}
 use lib.Dec.{eqb}
-use borrow.Author.Tests.{eqb-true, ne_eqb}
+use borrow.Author.Tests.{eqb-true}
 use Rattle.rules.specs.declared.Way.{Way}
-use Rattle.rules.specs.Rounding.{S, down, up, over}
+use Rattle.rules.specs.Rounding.{S, over}
+use Rattle.rules.specs.declared.Direction.TheVariants.{Down, Up}
 use Rattle.rules.specs.Table.{bit, faults}
 use Rattle.rules.specs.Leaf.{any, shares_any, shares, keep, kept, chance, chance_from, either, either_all, leaf_low, chances, leaf_high, is_empty}
 use Rattle.rules.specs.Group.{touches}
 use Rattle.rules.proofs.Bits.{bit-zero, bit-and, bit-or, bits-ext, or_assoc, or-zero}
 use Rattle.rules.proofs.Booleans.{and-false, or_cases}
+use Rattle.rules.proofs.Remaining.{nonzero-or}
 use Rattle.formula.specs.declared.Picked.{Picked}
 use Rattle.formula.specs.Picking.{union, held, picked}
 
@@ -30,13 +32,6 @@ and-or x y w = bits-ext _ _ (λ i. simp (bit-and, bit-or) (both (bit i x) (bit i
     both true y true = refl
     both true y false = sym (and-false y)
     both false y w = refl
-
--- Two words joined are empty just if both are.
-nonzero-or : (x y : ℕ) → not (eqb (bit_or x y) 0) ≡ not (eqb x 0) || not (eqb y 0)
-nonzero-or zero y = ap (λ (w : ℕ). not (eqb w 0)) (or_zero_l y)
-nonzero-or (suc x) y =
-    ap not (ne_eqb (bit_or (suc x) y) 0 (λ e. absurd (omega (arith, (or-zero (suc x) y e).0))))
-    ∙ sym (ap (λ (b : Bool). not b || not (eqb y 0)) (ne_eqb (suc x) 0 (λ e. absurd (omega (arith, e)))))
 
 -- Two words joined touch what one of them touches.
 touches-or : (x y : ℕ) (v : Way) → touches (bit_or x y) v ≡ touches x v || touches y v
@@ -101,7 +96,8 @@ pub kept_if : (us : List Way) (v : Way) → kept (us ++ (v ∷ [])) ≡ kept us 
 kept_if us v = keep-more [] us v ∙ ap (λ (b : Bool). kept us ++ unless b v) (shares-word v (kept us))
 
 -- SO ONE WAY MORE LEAVES THE WORD AS IT IS, WHERE IT IS PASSED OVER, OR ADDS ITS FAULTS.
-pub held-is : (us : List Way) (v : Way) → held (us ++ (v ∷ [])) ≡ elim (touches (held us) v) as (λ b. ℕ) [ true ↦ held us | false ↦ bit_or (held us) (faults v) ]
+pub held-is : (us : List Way) (v : Way)
+    → held (us ++ (v ∷ [])) ≡ elim (touches (held us) v) as (λ b. ℕ) [ true ↦ held us | false ↦ bit_or (held us) (faults v) ]
 held-is us v = ap union (kept_if us v) ∙ union_more (kept us) (unless (touches (held us) v) v) ∙ go (touches (held us) v)
   where
     go : (t : Bool) → bit_or (held us) (union (unless t v)) ≡ elim t as (λ b. ℕ) [ true ↦ held us | false ↦ bit_or (held us) (faults v) ]
@@ -114,10 +110,10 @@ module _ (ws : List ℕ) where
   -- Leaf low, made of ways and more ways.
   either_more : (us vs : List Way) (a : ℕ) → either_all ws (us ++ vs) a ≡ either_all ws vs (either_all ws us a)
   either_more [] vs a = refl
-  either_more (u ∷ us) vs a = either_more us vs (either down a (chance down ws u))
+  either_more (u ∷ us) vs a = either_more us vs (either Down a (chance Down ws u))
 
   -- The sum of the high chances of ways and one more.
-  chances_more : (us : List Way) (v : Way) → chances ws (us ++ (v ∷ [])) ≡ chances ws us + chance up ws v
+  chances_more : (us : List Way) (v : Way) → chances ws (us ++ (v ∷ [])) ≡ chances ws us + chance Up ws v
   chances_more [] v = omega arith
   chances_more (u ∷ us) v = omega (arith, chances_more us v)
 
@@ -130,15 +126,15 @@ module _ (ws : List ℕ) where
     low-passed : touches (held us) v ≡ true → leaf_low ws (us ++ (v ∷ [])) ≡ leaf_low ws us
     low-passed h = ap (λ (ks : List Way). either_all ws ks 0) (kept_if us v ∙ ap (λ (b : Bool). kept us ++ unless b v) h) ∙ either_more (kept us) [] 0
 
-    low-kept : touches (held us) v ≡ false → leaf_low ws (us ++ (v ∷ [])) ≡ either down (leaf_low ws us) (chance down ws v)
+    low-kept : touches (held us) v ≡ false → leaf_low ws (us ++ (v ∷ [])) ≡ either Down (leaf_low ws us) (chance Down ws v)
     low-kept h = ap (λ (ks : List Way). either_all ws ks 0) (kept_if us v ∙ ap (λ (b : Bool). kept us ++ unless b v) h) ∙ either_more (kept us) (v ∷ []) 0
 
     -- The high end.
-    high-more : leaf_high ws (us ++ (v ∷ [])) ≡ min S (leaf_high ws us + chance up ws v)
+    high-more : leaf_high ws (us ++ (v ∷ [])) ≡ min S (leaf_high ws us + chance Up ws v)
     high-more = omega (arith, chances_more us v)
 
     -- The word and both ends, where the way is passed over: the high end alone rises, to h.
-    pub passed : (p : Picked) (h : ℕ) → p ≡ picked ws us → touches p.held v ≡ true → h ≡ min S (p.high + chance up ws v)
+    pub passed : (p : Picked) (h : ℕ) → p ≡ picked ws us → touches p.held v ≡ true → h ≡ min S (p.high + chance Up ws v)
         → ◌≡◌ {A = Picked} (record { held = p.held; low = p.low; high = h }) (picked ws (us ++ (v ∷ [])))
     passed p h e t q =
         let t' : touches (held us) v ≡ true = rw e at t in
@@ -146,8 +142,8 @@ module _ (ws : List ℕ) where
         (λ i. record { held = sym (held-is us v ∙ ap by-test t') i; low = sym (low-passed t') i; high = sym high-more i })
 
     -- And where it is kept: m is the word with its faults, x its low chance, y the low end with it.
-    pub taken_up : (p : Picked) (h m x y : ℕ) → p ≡ picked ws us → touches p.held v ≡ false → h ≡ min S (p.high + chance up ws v)
-        → m ≡ bit_or p.held (faults v) → x ≡ chance down ws v → y ≡ either down p.low x
+    pub taken_up : (p : Picked) (h m x y : ℕ) → p ≡ picked ws us → touches p.held v ≡ false → h ≡ min S (p.high + chance Up ws v)
+        → m ≡ bit_or p.held (faults v) → x ≡ chance Down ws v → y ≡ either Down p.low x
         → ◌≡◌ {A = Picked} (record { held = m; low = y; high = h }) (picked ws (us ++ (v ∷ [])))
     taken_up p h m x y e t q f k l =
         let t' : touches (held us) v ≡ false = rw e at t in
@@ -157,38 +153,38 @@ module _ (ws : List ℕ) where
 -- ---- a way that names no fault
 
 -- Its chance is S.
-chance-empty : (ws : List ℕ) (c : ℕ) → chance_from down ws 0 0 c ≡ c
+chance-empty : (ws : List ℕ) (c : ℕ) → chance_from Down ws 0 0 c ≡ c
 chance-empty [] c = refl
 chance-empty (w ∷ ws) c = chance-empty ws c
 
 module _ (ws : List ℕ) where
   -- Either of an event and a certain one is certain.
-  certain_second : (a : ℕ) → either down a S ≡ S
-  certain_second a = ap (λ (x : ℕ). S - over up x) (mul-zero (S - a))
+  certain_second : (a : ℕ) → either Down a S ≡ S
+  certain_second a = ap (λ (x : ℕ). S - over Up x) (mul-zero (S - a))
 
-  certain_first : (y : ℕ) → either down S y ≡ S
-  certain_first y = ap (λ (x : ℕ). S - over up x) (zero-mul (S - y))
+  certain_first : (y : ℕ) → either Down S y ≡ S
+  certain_first y = ap (λ (x : ℕ). S - over Up x) (zero-mul (S - y))
 
   -- So a low end of S stays.
   low_full : (vs : List Way) → either_all ws vs S ≡ S
   low_full [] = refl
-  low_full (v ∷ vs) = ap (either_all ws vs) (certain_first (chance down ws v)) ∙ low_full vs
+  low_full (v ∷ vs) = ap (either_all ws vs) (certain_first (chance Down ws v)) ∙ low_full vs
 
   module _ (v : Way) (e : faults v ≡ 0) where
     -- It is kept, whatever was kept before.
     never-shares : (before : List Way) → shares_any v before ≡ false
     never-shares before = shares-word v before ∙ ap (λ (w : ℕ). not (eqb w 0)) (ap (bit_and (union before)) e ∙ and_zero_r (union before))
 
-    certain : chance down ws v ≡ S
+    certain : chance Down ws v ≡ S
     certain =
         let z = or-zero v.present v.absent e in
-        ap₂ (λ (p q : ℕ). chance_from down ws p q S) z.0 z.1 ∙ chance-empty ws S
+        ap₂ (λ (p q : ℕ). chance_from Down ws p q S) z.0 z.1 ∙ chance-empty ws S
 
     -- And then the low end is S.
     keeps-full : (before vs : List Way) (a : ℕ) → either_all ws (keep before (v ∷ vs)) a ≡ S
     keeps-full before vs a =
         ap (λ (b : Bool). either_all ws (elim b as (λ b. List Way) [ true ↦ keep before vs | false ↦ v ∷ keep (v ∷ before) vs ]) a) (never-shares before)
-        ∙ ap (either_all ws (keep (v ∷ before) vs)) (ap (either down a) certain ∙ certain_second a) ∙ low_full (keep (v ∷ before) vs)
+        ∙ ap (either_all ws (keep (v ∷ before) vs)) (ap (either Down a) certain ∙ certain_second a) ∙ low_full (keep (v ∷ before) vs)
 
   -- With such a way among those that are picked after `before`, the low end is S.
   keep_full : (before vs : List Way) (a : ℕ) → any is_empty vs ≡ true → either_all ws (keep before vs) a ≡ S
@@ -196,9 +192,9 @@ module _ (ws : List ℕ) where
   keep_full before [] a h = absurd (true≢false (sym h))
   keep_full before (v ∷ vs) a h =
       or_cases (is_empty v) (any is_empty vs) (λ e. keeps-full v (eqb-true (faults v) 0 e) before vs a)
-      (λ e. go (shares_any v before) (keep_full before vs a e) (keep_full (v ∷ before) vs (either down a (chance down ws v)) e)) h
+      (λ e. go (shares_any v before) (keep_full before vs a e) (keep_full (v ∷ before) vs (either Down a (chance Down ws v)) e)) h
     where
-      go : (t : Bool) → either_all ws (keep before vs) a ≡ S → either_all ws (keep (v ∷ before) vs) (either down a (chance down ws v)) ≡ S
+      go : (t : Bool) → either_all ws (keep before vs) a ≡ S → either_all ws (keep (v ∷ before) vs) (either Down a (chance Down ws v)) ≡ S
           → either_all ws (elim t as (λ b. List Way) [ true ↦ keep before vs | false ↦ v ∷ keep (v ∷ before) vs ]) a ≡ S
       go true p q = p
       go false p q = q

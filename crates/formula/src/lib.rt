@@ -1,5 +1,5 @@
 //! A leaf's formula, computed: its two ends, its groups, its common part, its children, and the fault that a run fixes.
-//! Each function returns what the definition of the crate `rules` that its contract names says; numbers are billionths, in u64.
+//! Each function returns what the definition of the crate `rules` that its contract names says; numbers are billionths.
 #![tactic(auto)]
 
 pub mod child;
@@ -8,27 +8,28 @@ pub mod common;
 pub mod group;
 pub mod leaf;
 
+use chances::rounding::Chance;
 use clauses::Clauses;
 
-/// A leaf's two ends, and 1 in `live` if the leaf is open, 0 if it is closed.
+/// A leaf's two ends, and whether the leaf is open.
 #[derive(Clone, Copy)]
 pub struct Ends {
-    pub low: u64,
-    pub high: u64,
-    pub live: u64,
+    pub low: Chance,
+    pub high: Chance,
+    pub open: bool,
 }
 
 /// What picking has made of some ways of a leaf: the faults that the kept ones name, as a word, and the leaf's two ends with these ways.
 #[derive(Clone, Copy)]
 struct Picked {
     held: u64,
-    low: u64,
-    high: u64,
+    low: Chance,
+    high: Chance,
 }
 
 /// The ways of the two children of a refined leaf.
 #[derive(Clone, Copy)]
-pub struct Children {
-    pub left: Clauses,
-    pub right: Clauses,
+pub struct Children<'a> {
+    pub left: Clauses<'a>,
+    pub right: Clauses<'a>,
 }

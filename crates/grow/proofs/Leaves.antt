@@ -1,12 +1,12 @@
 -- The records that a refinement writes: those of the two new leaves, and all three in their places.
--- Rests on `store`, SafeLaws, on `rules`, LeafEnds, on the definitions of Branched.antt, and on that of `records`, refined_at.
+-- Rests on `records`, SafeLaws, on `rules`, LeafEnds, on the definitions of Branched.antt, and on that of `records`, refined_at.
 use mathlib.Core.Path.{◌≡◌, ap, ap₂, ◌∙◌}
 use mathlib.Core.List.{List, []}
 use Prim.Native.Nat.{ℕ, ◌+◌, ◌<◌}
 use native.Mathlib.Numerals.{add-one}
 use native.Mathlib.Omega.{arith}
-use lib.ListN.{length, get_or, set, length-set}
-use Rattle.rules.specs.Rounding.{down, up}
+use lib.ListN.{get_or}
+use Rattle.rules.specs.declared.Direction.TheVariants.{Down, Up}
 use Rattle.rules.specs.Table.{Table}
 use Rattle.rules.specs.Tree.{Side, left, right, child_node, end}
 use Rattle.rules.specs.declared.Kind.{Kind}
@@ -15,13 +15,13 @@ use Rattle.rules.proofs.LeafEnds.{leaf-le}
 use Rattle.records.specs.Records.{tree_records, blank, record_ways}
 use Rattle.records.specs.Growing.{refined_record, fresh_record, spot_of, refined_at}
 use Rattle.records.specs.declared.Node.{Node}
-use Rattle.store.specs.Safe.{SafeNode, Safe}
+use Rattle.records.specs.Safe.{SafeNode, Safe}
 use Rattle.clauses.specs.declared.Clauses.{Clauses}
-use Rattle.clauses.specs.declared.Gone.{Gone}
+use Rattle.clauses.specs.declared.lost.Gone.{Gone}
 use Rattle.clauses.specs.Leaves.{ways_of}
 use Rattle.formula.specs.Leaves.{child_gone, Part}
-use Rattle.store.proofs.SafeLaws.{safe-set}
-use Rattle.node.specs.Told.{gone_in, spot_with, LeafWays}
+use Rattle.records.proofs.SafeLaws.{safe-set}
+use Rattle.node.specs.Told.{gone_in, spot_with}
 use Rattle.grow.specs.Branched.{leaf_below, three}
 
 -- A table of weights alone: a leaf's record depends on no more of it.
@@ -29,11 +29,11 @@ abbrev only : List ℕ → Table
 only ws = record { weights = ws; present = []; absent = [] }
 
 -- The leaf with the ways of a child, and the faults gone there, is the child.
-pub as-child : (ps qs ws : List ℕ) (x : Node) (c d : Clauses) (k : Kind) (b : Side) (j : ℕ) (n : Node) → LeafWays ps qs x c → Part ps qs c k b d
-    → n ≡ fresh_record (only ws) (spot_with d.gone (ways_of ps qs d)) j → n ≡ leaf_below ws x (ways_of ps qs c) k j b
-as-child ps qs ws x c d k b j n l p h =
+pub as-child : (ws : List ℕ) (x : Node) (c d : Clauses) (k : Kind) (b : Side) (j : ℕ) (n : Node) → c.gone ≡ gone_in x → Part c k b d
+    → n ≡ fresh_record (only ws) (spot_with d.gone (ways_of d)) j → n ≡ leaf_below ws x (ways_of c) k j b
+as-child ws x c d k b j n l p h =
     h ∙ ap₂ (λ (g : Gone) (vs : List Way). fresh_record (only ws) (spot_with g vs) j)
-    (p.gone_is ∙ ap (λ (g : Gone). child_gone k b g (ways_of ps qs c)) l.gone_is) p.ways_are
+    (p.gone_is ∙ ap (λ (g : Gone). child_gone k b g (ways_of c)) l) p.ways_are
 
 -- The record of a new leaf is safe.
 pub safe-fresh : (ws : List ℕ) (g : Gone) (vs : List Way) (j : ℕ) (n : Node) → j < tree_records → n ≡ fresh_record (only ws) (spot_with g vs) j → SafeNode n
@@ -43,19 +43,15 @@ safe-fresh ws g vs j n h e =
     (record {
       parent_inside = h;
       children_inside = omega arith;
-      low_le = leaf-le down ws vs;
-      high_le = leaf-le up ws vs;
-      ownlow_le = leaf-le down ws vs;
-      ownhigh_le = leaf-le up ws vs;
+      low_le = leaf-le Down ws vs;
+      high_le = leaf-le Up ws vs;
+      ownlow_le = leaf-le Down ws vs;
+      ownhigh_le = leaf-le Up ws vs;
     })
 
 -- The three records in their places are safe.
-pub safe-three : (xs : List Node) (used j : ℕ) (n l r : Node) → length xs ≡ tree_records → j < tree_records → used + 1 < tree_records → Safe xs
-    → SafeNode n → SafeNode l → SafeNode r → Safe (three xs used j n l r)
-safe-three xs used j n l r long h g s a b c =
-    let one : length (set xs j n) ≡ tree_records = length-set xs j n ∙ long in
-    let two : length (set (set xs j n) used l) ≡ tree_records = length-set (set xs j n) used l ∙ one in
-    safe-set (set (set xs j n) used l) (used + 1) r (omega arith) (safe-set (set xs j n) used l (omega arith) (safe-set xs j n (omega arith) s a) b) c
+pub safe-three : (xs : List Node) (used j : ℕ) (n l r : Node) → Safe xs → SafeNode n → SafeNode l → SafeNode r → Safe (three xs used j n l r)
+safe-three xs used j n l r s a b c = safe-set _ (used + 1) r (safe-set _ used l (safe-set xs j n s a) b) c
 
 -- The ways vs are those of record j of the table t.
 module _ (t : Table) (xs : List Node) (used j : ℕ) (k : Kind) (vs : List Way) (e : vs ≡ record_ways t (get_or xs j blank)) where

@@ -1,12 +1,12 @@
 -- The three records that a refinement writes, as `records`, Growing, has them.
--- Rests on `records`, Growing, and on `store`, Safe. Of the table only the weights count once the leaf's ways are known.
+-- Rests on `records`, Growing, and on its Safe. Of the table only the weights count once the leaf's ways are known.
 use Rattle.std.specs.Prelude.{◌≡◌, List, [], ℕ, ◌+◌, set}
 use Rattle.rules.specs.Tree.{Side, left, right, child_node}
 use Rattle.rules.specs.declared.Kind.{Kind}
 use Rattle.rules.specs.declared.Way.{Way}
 use Rattle.records.specs.Growing.{refined_record, fresh_record}
 use Rattle.records.specs.declared.Node.{Node}
-use Rattle.store.specs.Safe.{SafeNode}
+use Rattle.records.specs.Safe.{SafeNode}
 use Rattle.node.specs.Told.{gone_in, spot_with}
 use Rattle.grow.specs.declared.refine.Branch.{Branch}
 

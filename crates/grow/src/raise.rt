@@ -1,34 +1,35 @@
 //! The intervals from a record up to the root, joined anew by the links to the parents. Rests on `records`, Growing.
-//! At most 64 records: a leaf that can be refined lies above level 64.
-ghost use Rattle.std.specs.Prelude.{◌≡◌, false, ◌<◌};
-ghost use Rattle.rules.specs.Refusals.{overweight};
+//! A leaf that can be refined lies above level 64, so that 64 records are enough.
+ghost use Rattle.std.specs.Prelude.{◌≡◌, ◌<◌};
 ghost use Rattle.records.specs.Records.{tree_records};
 ghost use Rattle.records.specs.Growing;
-ghost use Rattle.store.specs.Lent.{tree_of};
-ghost use Rattle.store.specs.Safe.{Safe};
+ghost use Rattle.records.specs.Safe.{Safe};
 
+use chances::weights::Weights;
 use node::join::joined;
-use store::{Words, put_record, record_at};
+use records::Tree;
 
-/// Joins all intervals from record j up to the root anew.
-pub fn raise(weights: &[u32], tree: &mut Words, j: usize)
-    requires weights_value { overweight weights.now ≡ false }
-    requires safe { Safe (tree_of tree.old).nodes }
+/// The most records from one that is refined up to the root.
+const HIGHEST: usize = 64;
+
+// `Safe` is a clause, for the reason that stands at `grow`.
+/// Joins the intervals from record j up to the root anew.
+pub fn raise(weights: Weights, tree: &mut Tree, j: usize)
+    requires safe { Safe tree.old.nodes }
     requires j_lt_tree_records { j < tree_records }
-    ensures { ((tree_of tree.new).nodes ≡ Growing.raise weights.now 64 (tree_of tree.old).nodes j)
-        × ((tree_of tree.new).used ≡ (tree_of tree.old).used) × Safe (tree_of tree.new).nodes }
+    ensures { (tree.new.nodes ≡ Growing.raise weights.entry.list.now 64 tree.old.nodes j)
+        × (tree.new.used ≡ tree.old.used) × Safe tree.new.nodes }
 {
     let mut i = j;
-    let mut left: usize = 64;
-    while 0 < left {
-        let x = record_at(tree, i);
-        let l = record_at(tree, x.left);
-        let r = record_at(tree, x.left + 1);
-        put_record(tree, i, joined(weights, x, l, r));
+    for _ in 0..HIGHEST {
+        let x = tree.nodes[i];
+        let left = tree.nodes[x.left];
+        let right = tree.nodes[x.left + 1];
+        let n = joined(weights, &x, &left, &right);
+        tree.nodes[i] = n;
         if i == 0 {
             return;
         }
         i = x.parent;
-        left -= 1;
     }
 }

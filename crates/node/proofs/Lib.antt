@@ -1,2 +1,3 @@
--- No law is needed here: each function's proof stands in its own directory.
--- They rest on the contracts of `formula` and `chances`, on `clauses`, Loops, and on `store`, SafeLaws.
+-- A law on the ways of a record, for the proofs of callers. Each function's proof stands in its own directory.
+-- They rest on the contracts of `formula` and `chances`, on `clauses`, Leaf, and on `records`, SafeLaws.
+pub mod Words

@@ -3,9 +3,12 @@
 #![tactic(auto)]
 
 ghost use Rattle.std.specs.Prelude.{◌≡◌, ◌+◌, ◌-◌, ◌*◌, ◌^◌, ◌<◌, ◌≤◌, IfOk, vec_len};
+ghost use Rattle.std.specs.Io.Iter.{bytes_remaining};
+ghost use Rattle.std.specs.Io.Buffered.{reader_remaining};
 
 use std::alloc::{AllocError, Global};
-use std::io::{Bytes, Read};
+use std::io;
+use std::io::{BufReader, Bytes, Read};
 
 /// The most digits of a number.
 const DIGITS: usize = 20;
@@ -13,12 +16,23 @@ const DIGITS: usize = 20;
 /// The numbers that are left of an input, and the memory for lists of them.
 #[derive(Drop)]
 pub struct Numbers<R> {
-    pub bytes: Bytes<R>,
+    bytes: Bytes<R>,
     pub alloc: Global,
 }
 
+impl<R: Read + Drop> Numbers<BufReader<R>> {
+    /// The numbers of an input, which is read through a buffer.
+    #[tactic(auto, using(crate::proofs::Whole::whole))]
+    pub fn new(alloc: Global, reader: R) -> io::Result<Self>
+        ensures { IfOk result (λ numbers. bytes_remaining (reader_remaining R.remaining) numbers.bytes ≡ R.remaining reader) }
+    {
+        let bytes = BufReader::new(alloc, reader)?.bytes();
+        Ok(Numbers { bytes, alloc })
+    }
+}
+
 impl<R: Read + Drop> Numbers<R> {
-    /// The next byte; 0 past the end.
+    /// The next byte; 0 past the end, which both callers take for one that is no digit and no colon: by an `Option` they would be no plainer.
     pub fn byte(&mut self) -> u8 {
         match self.bytes.next() {
             Some(Ok(byte)) => byte,

@@ -30,7 +30,7 @@ use Rattle.records.proofs.InPlace.{few-places, records-long, record_of, record-a
 use Rattle.records.proofs.History.{history-layout}
 use Rattle.records.proofs.Sixteen.{sixteen}
 use Rattle.records.proofs.Live.{Holds, refined, unrefined, holds}
-use Rattle.page.specs.declared.Spot.TheVariants.{At, Nothing}
+use Rattle.std.specs.Prelude.{Some, None}
 use Rattle.page.specs.Widest.{widest_of, Counts, FirstWidest, NoneCounts}
 use Rattle.page.proofs.Finds.{widest-told}
 
@@ -47,9 +47,9 @@ pub record WidestLeaf (t : Table) (s : DTree) (p : Place) : Type 0 where
 
 -- What is told of the records of a series: the record of a widest open leaf; none exactly if no leaf is open, and exactly if a run picks none.
 pub record Drawn (t : Table) (xs : List Node) (ns : List Refinement) : Type 0 where
-  pub found : (i : ℕ) → widest_of xs ≡ At i → (i < length (places ns)) × WidestLeaf t (tree ns) (get_or (places ns) i [])
-  pub nothing : (widest_of xs ≡ Nothing) ↔ ((p : Place) → OpenLeaf t (tree ns) p → ⊥)
-  pub done : (widest_of xs ≡ Nothing) ↔ (next t (tree ns) ≡ none)
+  pub found : (i : ℕ) → widest_of xs ≡ Some i → (i < length (places ns)) × WidestLeaf t (tree ns) (get_or (places ns) i [])
+  pub nothing : (widest_of xs ≡ None) ↔ ((p : Place) → OpenLeaf t (tree ns) p → ⊥)
+  pub done : (widest_of xs ≡ None) ↔ (next t (tree ns) ≡ none)
 
 -- ---- records and leaves
 

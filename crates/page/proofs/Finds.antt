@@ -1,22 +1,20 @@
 -- THE SEARCH FINDS THE FIRST OF THE WIDEST: told a position exactly if it is that, told that there is none exactly if no record counts.
--- By what the first n records give, on their widths alone. Rests on specs/Widest.antt.
-use mathlib.Core.Path.{◌≡◌, refl, sym, ap, ◌∙◌}
-use mathlib.Core.Bool.{Bool, true, false, true≢false}
-use mathlib.Core.List.{List}
-use Prim.Native.Nat.{ℕ, zero, suc, ◌<◌, ◌≤◌}
-use native.Mathlib.Omega.{arith}
+-- By the kit's laws of the first best of a list, on the records' widths alone. Rests on specs/Widest.antt.
+use Rattle.std.proofs.Common.{◌≡◌, refl, sym, ap, ◌∙◌, arith, Bool, true, false, List, [], ◌∷◌, map, Option, Some, None}
+use Rattle.std.proofs.Common.{ℕ, zero, suc, ◌+◌, ◌<◌, ◌≤◌, eqb, ltb, length, get_or, zero-add}
 use native.Mathlib.Decide.{dec_lt}
-use lib.ListN.{length}
-use lib.Dec.{eqb, ltb}
-use borrow.Author.Tests.{ltb-true, ltb-false, lt-ltb, eqb-true, eqb-false, eq-eqb}
-use Rattle.records.specs.Records.{record_in}
+use borrow.Author.Tests.{ltb-true, ltb-false, lt-ltb, eqb-true, eq-eqb}
+use Rattle.std.specs.Prelude.{unwrap_or}
+use Rattle.std.specs.Cmp.{IsStrictWeakOrder}
+use Rattle.std.specs.List.{fold, enumerate_from, IsFirstBest, best_of}
+use Rattle.std.proofs.lemmas.List.MinMax.{IsStrictWeakOrder-by_number, IsStrictWeakOrder-flip, IsFirstBest-from_best_of}
 use Rattle.rules.proofs.Booleans.{and_left, and_right, and_both}
+use Rattle.records.specs.Records.{record_in}
 use Rattle.records.specs.Growing.{record_width}
+use Rattle.records.specs.Found.{wider}
 use Rattle.records.specs.declared.Node.{Node}
-use Rattle.page.specs.declared.Best.{Best}
-use Rattle.page.specs.declared.Spot.{Spot}
-use Rattle.page.specs.declared.Spot.TheVariants.{At, Nothing}
-use Rattle.page.specs.Widest.{counts, counted_width, better_of, widest_up_to, answer_of, widest_of, Counts, FirstWidest, NoneCounts, WidestLaw}
+use Rattle.records.specs.declared.Found.{Found}
+use Rattle.page.specs.Widest.{counts, counted_width, counted, widest_found, told, widest_of, Counts, FirstWidest, NoneCounts, WidestLaw}
 
 -- ---- the test and its words
 
@@ -50,80 +48,107 @@ wide-counts x = by (counts x) refl
     by true e h = counts-sure x e
     by false e h = absurd (omega arith)
 
--- ---- the first n records
+-- ---- the best of the records
+
+-- One record beats another if it is wider.
+abbrev beats : Found → Found → Bool
+beats x y = ltb y.width x.width
+
+beats-orders : IsStrictWeakOrder beats
+beats-orders = IsStrictWeakOrder-flip _ (IsStrictWeakOrder-by_number (λ (x : Found). x.width))
+
+-- Each record stands at its position.
+placed : (xs : List Node) (n k : ℕ) (d : Found) → k < length xs
+    → get_or (map counted (enumerate_from n xs)) k d ≡ record { at = n + k; width = counted_width (record_in xs k) }
+placed [] n k d h = absurd (omega arith)
+placed (x ∷ xs) n zero d h = ap (λ i. record { at = i; width = counted_width x }) (omega arith)
+placed (x ∷ xs) n (suc k) d h =
+    placed xs (n + 1) k d (omega arith) ∙ ap (λ i. record { at = i; width = counted_width (record_in xs k) }) (omega arith)
+
+enumerated-long : (xs : List Node) (n : ℕ) → length (map counted (enumerate_from n xs)) ≡ length xs
+enumerated-long [] n = refl
+enumerated-long (x ∷ xs) n = ap suc (enumerated-long xs (n + 1))
 
 module _ (xs : List Node) where
   abbrev width : ℕ → ℕ
   width j = counted_width (record_in xs j)
 
-  -- The widest of the first n records and its position, or width 0.
-  record Top (n : ℕ) (best : Best) : Type 0 where
-    all : (j : ℕ) → j < n → width j ≤ best.width
-    hit : 0 < best.width → (best.at < n) × (width best.at ≡ best.width)
+  -- The widest of all records stands at its position, no record is wider, and every earlier one is narrower.
+  record Top (best : Found) : Type 0 where
+    inside : best.at < length xs
+    is : best.width ≡ width best.at
+    all : (j : ℕ) → j < length xs → width j ≤ best.width
     earlier : (j : ℕ) → j < best.at → width j < best.width
 
-  -- Position j, where it is below suc n and not below n.
-  at_last : (P : ℕ → Type 0) (j n : ℕ) → j < suc n → (j < n → P j) → P n → P j
-  at_last P j n h f last = by (dec_lt j n)
-    where
-      by : Dec (j < n) → P j
-      by (yes l) = f l
-      by (no q) = let e : j ≡ n = omega arith in rw e last
+-- Found is the widest of all records.
+top : (xs : List Node) (best : Found) → widest_found xs ≡ Some best → Top xs best
+top [] best e = cc
+top (x ∷ ys) best e = rw at (record { inside = inside; is = refl; all = all; earlier = earlier })
+  where
+    xs : List Node
+    xs = x ∷ ys
 
-  next_top : (n : ℕ) (best : Best) → Top n best → Top (suc n) (better_of best (record_in xs n) n)
-  unfolding better_of
-  next_top n best w = by (ltb best.width (width n)) refl
-    where
-      by : (b : Bool) → ltb best.width (width n) ≡ b
-          → Top (suc n) (elim b as (λ b. Best) [ true ↦ record { at = n; width = width n } | false ↦ best ])
-      by true e =
-          let l = ltb-true best.width (width n) e in
-          record {
-            all = λ j h. at_last (λ (k : ℕ). width k ≤ width n) j n h (λ m. omega (arith, w.all j m, l)) (omega arith);
-            hit = λ h. (omega arith, refl);
-            earlier = λ j h. omega (arith, w.all j h, l);
-          }
-      by false e =
-          record {
-            all = λ j h. at_last (λ (k : ℕ). width k ≤ best.width) j n h (w.all j) (ltb-false best.width (width n) e);
-            hit = λ h. (omega (arith, (w.hit h).0), (w.hit h).1);
-            earlier = w.earlier;
-          }
+    first : Found
+    first = counted (0, x)
 
-  top : (n : ℕ) → Top n (widest_up_to xs n)
-  unfolding widest_up_to
-  top zero = record { all = λ j h. absurd (omega arith); hit = λ h. absurd (omega arith); earlier = λ j h. absurd (omega arith) }
-  top (suc n) = next_top n (widest_up_to xs n) (top n)
+    rest : List Found
+    rest = map counted (enumerate_from (0 + 1) ys)
 
-  -- ---- what the answer says
+    best-at : (b : ℕ) × IsFirstBest beats (first ∷ rest) (length (first ∷ rest)) b × (get_or (first ∷ rest) b first ≡ best_of beats first rest)
+    best-at = IsFirstBest-from_best_of beats-orders first rest
 
-  abbrev Says : Spot → Type 0
-  Says (At i) = FirstWidest xs i
-  Says Nothing = NoneCounts xs
+    b : ℕ
+    b = best-at.0
+
+    inside : b < length xs
+    inside = omega (arith, best-at.1.0, enumerated-long xs 0)
+
+    at : best ≡ record { at = b; width = width xs b }
+    at =
+        let last : best ≡ fold wider first rest = cc in
+        last ∙ sym best-at.2 ∙ placed xs 0 b first inside ∙ ap (λ i. record { at = i; width = width xs b }) (zero-add b)
+
+    wide : (k : ℕ) → k < length xs → (get_or (first ∷ rest) k first).width ≡ width xs k
+    wide k h = ap (λ (f : Found). f.width) (placed xs 0 k first h)
+
+    all : (j : ℕ) → j < length xs → width xs j ≤ width xs b
+    all j h = omega (arith, wide j h, wide b inside, ltb-false _ _ (best-at.1.1 j first (omega (arith, enumerated-long xs 0))))
+
+    earlier : (j : ℕ) → j < b → width xs j < width xs b
+    earlier j h = omega (arith, wide j (omega (arith, inside)), wide b inside, ltb-true _ _ (best-at.1.2 j first h))
+
+-- Nothing is found where there is no record.
+nothing : (xs : List Node) → widest_found xs ≡ None → NoneCounts xs
+nothing [] e j h k = absurd (omega arith)
+nothing (x ∷ ys) e j h k = cc
+
+-- ---- what the answer says
+
+module _ (xs : List Node) where
+  abbrev Says : Option ℕ → Type 0
+  Says (Some i) = FirstWidest xs i
+  Says None = NoneCounts xs
 
   says : Says (widest_of xs)
-  unfolding widest_of answer_of
-  says = by (eqb best.width 0) refl
+  unfolding widest_of
+  says = by (widest_found xs) refl
     where
-      best : Best
-      best = widest_up_to xs (length xs)
-
-      w : Top (length xs) best
-      w = top (length xs)
-
-      by : (b : Bool) → eqb best.width 0 ≡ b → Says (elim b as (λ b. Spot) [ true ↦ Nothing | false ↦ At best.at ])
-      by true e = λ j h k. omega (arith, w.all j h, width_of (record_in xs j) k, k.below, eqb-true best.width 0 e)
-      by false e =
-          let positive : 0 < best.width = omega (arith, eqb-false best.width 0 e) in
-          let hit = w.hit positive in
-          let k : Counts (record_in xs best.at) = wide-counts (record_in xs best.at) (omega (arith, positive, hit.1)) in
-          let is : best.width ≡ record_width (record_in xs best.at) = sym hit.1 ∙ width_of (record_in xs best.at) k in
+      by-width : (best : Found) → Top xs best → (b : Bool) → ltb 0 best.width ≡ b → Says (elim b as (λ b. Option ℕ) [ true ↦ Some best.at | false ↦ None ])
+      by-width best w false e = λ j h k. omega (arith, w.all j h, width_of (record_in xs j) k, k.below, ltb-false 0 best.width e)
+      by-width best w true e =
+          let positive = ltb-true 0 best.width e in
+          let k : Counts (record_in xs best.at) = wide-counts (record_in xs best.at) (omega (arith, positive, w.is)) in
+          let is : best.width ≡ record_width (record_in xs best.at) = w.is ∙ width_of (record_in xs best.at) k in
           record {
-            inside = hit.0;
+            inside = w.inside;
             counted = k;
             widest = λ j h m. rw (← is) (rw (width_of (record_in xs j) m) at (w.all j h));
             first = λ j h m. rw (← is) (rw (width_of (record_in xs j) m) at (w.earlier j h));
           }
+
+      by : (o : Option Found) → widest_found xs ≡ o → Says (told o)
+      by None e = nothing xs e
+      by (Some best) e = by-width best (top xs best e) (ltb 0 best.width) refl
 
   -- There is one first of the widest.
   only_one : (i j : ℕ) → FirstWidest xs i → FirstWidest xs j → i ≡ j
@@ -134,28 +159,19 @@ module _ (xs : List Node) where
       by (no p) (yes l) = absurd (omega (arith, f.first j l g.counted, g.widest i f.inside f.counted))
       by (no p) (no q) = omega arith
 
--- The position of an answer, and whether it has one.
-abbrev position : Spot → ℕ
-position (At i) = i
-position Nothing = 0
-
-abbrev is_at : Spot → Bool
-is_at (At i) = true
-is_at Nothing = false
-
 -- An answer that says what holds is exactly that.
-told : (xs : List Node) (r : Spot) → Says xs r → WidestLaw xs r
-told xs (At i) f =
+lawful : (xs : List Node) (r : Option ℕ) → Says xs r → WidestLaw xs r
+lawful xs (Some i) f =
     record {
-      found = λ j. (λ e. rw (ap position e) at f, λ g. ap At (only_one xs i j f g));
-      nothing = (λ e. absurd (true≢false (ap is_at e)), λ none. absurd (none i f.inside f.counted));
+      found = λ j. (λ e. rw (ap (λ o. unwrap_or o 0) e) at f, λ g. ap Some (only_one xs i j f g));
+      nothing = (λ e. cc, λ none. absurd (none i f.inside f.counted));
     }
-told xs Nothing none =
+lawful xs None none =
     record {
-      found = λ j. (λ e. absurd (true≢false (sym (ap is_at e))), λ g. absurd (none j g.inside g.counted));
+      found = λ j. (λ e. cc, λ g. absurd (none j g.inside g.counted));
       nothing = (λ e. none, λ n. refl);
     }
 
 -- THE LAW.
 pub widest-told : (xs : List Node) → WidestLaw xs (widest_of xs)
-widest-told xs = told xs (widest_of xs) (says xs)
+widest-told xs = lawful xs (widest_of xs) (says xs)

@@ -1,12 +1,12 @@
 -- At which position the widest open leaf stands, in any list of records (RULES 10).
 -- First the search, then the law that it obeys, which speaks of no search. Rests on the records.
-use Rattle.std.specs.Prelude.{◌≡◌, Bool, true, false, ◌&&◌, List, ◌↔◌, ℕ, zero, suc, ◌<◌, ◌≤◌, length, eqb, ltb}
+use Rattle.std.specs.Prelude.{◌≡◌, Bool, true, false, ◌&&◌, Option, Some, None, List, map, ◌↔◌, ℕ, ◌<◌, ◌≤◌, length, eqb, ltb}
+use Rattle.std.specs.List.{enumerate_from, reduce}
 use Rattle.records.specs.Records.{record_in, is_live}
 use Rattle.records.specs.Growing.{record_width}
+use Rattle.records.specs.Found.{wider}
 use Rattle.records.specs.declared.Node.{Node}
-use Rattle.page.specs.declared.Best.{Best}
-use Rattle.page.specs.declared.Spot.{Spot}
-use Rattle.page.specs.declared.Spot.TheVariants.{At, Nothing}
+use Rattle.records.specs.declared.Found.{Found}
 
 -- ---- the search
 
@@ -18,26 +18,26 @@ counts x = eqb x.kind 1 && (is_live x && ltb x.low x.high)
 unfoldable pub counted_width : Node → ℕ
 counted_width x = elim (counts x) as (λ b. ℕ) [ true ↦ record_width x | false ↦ 0 ]
 
--- None found yet.
-abbrev pub none_yet : Best
-none_yet = record { at = 0; width = 0 }
+-- What a record at its position is to the code's search: itself, if it counts.
+unfoldable pub counting : ℕ × Node → Option Found
+counting p = elim (counts p.1) as (λ b. Option Found) [ true ↦ Some (record { at = p.0; width = record_width p.1 }) | false ↦ None ]
 
--- The wider of the widest so far and record x at position i, the earlier one if they are equally wide.
-unfoldable pub better_of : Best → Node → ℕ → Best
-better_of best x i = elim (ltb best.width (counted_width x)) as (λ b. Best) [ true ↦ record { at = i; width = counted_width x } | false ↦ best ]
+-- A record at its position, with the width that counts.
+abbrev pub counted : ℕ × Node → Found
+counted p = record { at = p.0; width = counted_width p.1 }
 
--- The widest of the first n records.
-unfoldable pub widest_up_to : List Node → ℕ → Best
-widest_up_to xs zero = none_yet
-widest_up_to xs (suc n) = better_of (widest_up_to xs n) (record_in xs n) n
+-- The widest of all records, the first if several are equally wide.
+abbrev pub widest_found : List Node → Option Found
+widest_found xs = reduce wider (map counted (enumerate_from 0 xs))
 
--- What the page is told of it.
-unfoldable pub answer_of : Best → Spot
-answer_of best = elim (eqb best.width 0) as (λ b. Spot) [ true ↦ Nothing | false ↦ At best.at ]
+-- What the page is told of it: its position, if its width is above 0.
+abbrev pub told : Option Found → Option ℕ
+told None = None
+told (Some best) = elim (ltb 0 best.width) as (λ b. Option ℕ) [ true ↦ Some best.at | false ↦ None ]
 
 -- THE SEARCH over all records.
-unfoldable pub widest_of : List Node → Spot
-widest_of xs = answer_of (widest_up_to xs (length xs))
+unfoldable pub widest_of : List Node → Option ℕ
+widest_of xs = told (widest_found xs)
 
 -- ---- what it finds
 
@@ -59,6 +59,6 @@ abbrev pub NoneCounts : List Node → Type 0
 NoneCounts xs = (j : ℕ) → j < length xs → Counts (record_in xs j) → ⊥
 
 -- THE LAW: told a position exactly if it is the first of the widest, told that there is none exactly if no record counts.
-pub record WidestLaw (xs : List Node) (r : Spot) : Type 0 where
-  pub found : (i : ℕ) → (r ≡ At i) ↔ FirstWidest xs i
-  pub nothing : (r ≡ Nothing) ↔ NoneCounts xs
+pub record WidestLaw (xs : List Node) (r : Option ℕ) : Type 0 where
+  pub found : (i : ℕ) → (r ≡ Some i) ↔ FirstWidest xs i
+  pub nothing : (r ≡ None) ↔ NoneCounts xs

@@ -1,27 +1,31 @@
 //! The records of trees, lent to the search while they grow. Rests on `page` and `dtree`.
+use super::lent::{OPEN, record};
 use super::print;
 use dtree::opening::open;
 use dtree::runs::run;
-use page::{Spot, widest_of};
+use page::widest;
+use records::{LEAF, RECORDS, Tree};
 use rules::Limits;
 use std::io;
 use std::io::Write;
-use store::{WORDS, Words, loaded};
 
-/// A table and its tree.
+/// A table, in three lists as the calls take them, and its tree.
 #[derive(Drop)]
 struct Drawn<'a> {
     weights: &'a [u32],
     present: &'a [u64],
     absent: &'a [u64],
-    tree: Words,
+    tree: Tree,
 }
 
 impl<'a> Drawn<'a> {
-    /// Opens a table. What the tree held before does not matter.
+    /// Opens a table. What the tree held before does not matter: here each record is an open leaf's. Of a refused table the tree has no nodes.
     fn open(weights: &'a [u32], present: &'a [u64], absent: &'a [u64]) -> Self {
-        let mut tree = [1; WORDS];
-        open(weights, present, absent, &mut tree);
+        let mut tree = Tree {
+            nodes: [record((LEAF, OPEN, 0, 1000000000)); RECORDS],
+            used: RECORDS,
+        };
+        let _ = open(weights, present, absent, &mut tree);
         Drawn {
             weights,
             present,
@@ -31,17 +35,17 @@ impl<'a> Drawn<'a> {
     }
 
     /// What the page is told of the tree.
-    fn widest(&self) -> Spot {
-        widest_of(loaded(&self.tree))
+    fn widest(&self) -> Option<usize> {
+        widest(&self.tree.nodes)
     }
 
     /// One refinement more by a run, and what the page is then told.
-    fn grown(&mut self) -> Spot {
+    fn grown(&mut self) -> Option<usize> {
         let once = Limits {
             allowance: 0,
             budget: 1,
         };
-        run(
+        let _ = run(
             self.weights,
             self.present,
             self.absent,

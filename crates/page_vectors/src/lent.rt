@@ -1,51 +1,61 @@
 //! Records that no tree has, lent to the search. Rests on `page` and the records of `records`.
 use super::print;
-use page::{widest, widest_in};
-use records::{Node, RECORDS};
+use page::widest;
+use records::{INDEPENDENT_AND, INDEPENDENT_OR, LEAF, NO_NODES, Node, RECORDS, SHANNON};
 use std::alloc::Global;
 use std::io;
 use std::io::Write;
 
-/// What a case says of a record: its kind, its mark, its low and its high.
-type Fields = (u64, u64, u64, u64);
+/// What a case says of a record: its kind, its mark, its low and its high. A tuple: no call may stand in a constant, and rows of field names are no
+/// plainer.
+pub type Fields = (u64, u64, u64, u64);
+
+/// The kind of a blank.
+const BLANK: u64 = 0;
+
+/// The mark of an open leaf.
+pub const OPEN: u64 = 1;
+
+/// The mark of a closed leaf, and of a blank.
+const CLOSED: u64 = 0;
 
 /// Records that are all the same, and how many are lent.
 const ALIKE: [(Fields, usize); 14] = [
     // None counts, `none` each time. No record is lent.
-    ((1, 1, 5, 7), 0),
+    ((LEAF, OPEN, 5, 7), 0),
     // Blanks.
-    ((0, 0, 0, 0), 600),
+    ((BLANK, CLOSED, 0, 0), 600),
     // Closed leaves, though they are wide.
-    ((1, 0, 0, 1000000000), 511),
+    ((LEAF, CLOSED, 0, 1000000000), 511),
     // A mark that is neither 0 nor 1.
-    ((1, 2, 0, 1000000000), 600),
-    // The mark of an open leaf on records that are no leaves: a blank, two kinds of inner nodes, and a kind that there is not.
-    ((0, 1, 0, 1000000000), 600),
-    ((2, 1, 0, 1000000000), 600),
-    ((3, 1, 0, 1000000000), 600),
-    ((4, 1, 0, 1000000000), 600),
+    ((LEAF, 2, 0, 1000000000), 600),
+    // The mark of an open leaf on records that are no leaves: a blank, and the three kinds of inner nodes.
+    ((BLANK, OPEN, 0, 1000000000), 600),
+    ((INDEPENDENT_OR, OPEN, 0, 1000000000), 600),
+    ((SHANNON, OPEN, 0, 1000000000), 600),
+    ((INDEPENDENT_AND, OPEN, 0, 1000000000), 600),
     // Low equal to high, and above it.
-    ((1, 1, 7, 7), 600),
-    ((1, 1, 8, 7), 600),
-    ((1, 1, u64::MAX, 0), 600),
+    ((LEAF, OPEN, 7, 7), 600),
+    ((LEAF, OPEN, 8, 7), 600),
+    ((LEAF, OPEN, u64::MAX, 0), 600),
     // All are equally wide: the first, 0 each time.
-    ((1, 1, 5, 7), 1),
-    ((1, 1, 0, 1), 511),
-    ((1, 1, 0, u64::MAX), 600),
+    ((LEAF, OPEN, 5, 7), 1),
+    ((LEAF, OPEN, 0, 1), 511),
+    ((LEAF, OPEN, 0, u64::MAX), 600),
 ];
 
 /// Records among 600 of which some count, and where they stand; the others are blanks.
 const MIXED: [(usize, Fields); 10] = [
-    (0, (2, 1, 0, 1000000000)),
-    (1, (1, 0, 0, 1000000000)),
-    (2, (1, 1, 1000000000, 0)),
-    (3, (1, 1, 10, 20)),
-    (5, (1, 1, 0, 9)),
-    (7, (1, 1, 990, 1000)),
-    (510, (1, 1, 3, 14)),
-    (511, (1, 1, 0, 11)),
-    (598, (1, 1, 0, 12)),
-    (599, (1, 1, 0, u64::MAX)),
+    (0, (INDEPENDENT_OR, OPEN, 0, 1000000000)),
+    (1, (LEAF, CLOSED, 0, 1000000000)),
+    (2, (LEAF, OPEN, 1000000000, 0)),
+    (3, (LEAF, OPEN, 10, 20)),
+    (5, (LEAF, OPEN, 0, 9)),
+    (7, (LEAF, OPEN, 990, 1000)),
+    (510, (LEAF, OPEN, 3, 14)),
+    (511, (LEAF, OPEN, 0, 11)),
+    (598, (LEAF, OPEN, 0, 12)),
+    (599, (LEAF, OPEN, 0, u64::MAX)),
 ];
 
 /// How many of them are lent.
@@ -61,22 +71,13 @@ const FRONTS: [usize; 9] = [
 ];
 
 /// A record with these fields and zeros besides.
-fn record((kind, live, low, high): Fields) -> Node {
+pub fn record((kind, live, low, high): Fields) -> Node {
     Node {
         kind,
-        fault: 0,
         live,
-        parent: 0,
-        left: 0,
-        waysa: 0,
-        waysb: 0,
-        present: 0,
-        absent: 0,
-        out: 0,
         low,
         high,
-        ownlow: 0,
-        ownhigh: 0,
+        ..NO_NODES.nodes[0]
     }
 }
 
@@ -91,7 +92,7 @@ pub fn alike<W: Write>(alloc: Global, out: &mut W) -> io::Result<()> {
 
 /// Some of the records count; more and more of them are lent.
 pub fn mixed<W: Write>(out: &mut W) -> io::Result<()> {
-    let mut records = [record((0, 0, 0, 0)); 600];
+    let mut records = [record((BLANK, CLOSED, 0, 0)); 600];
     for &(at, fields) in &MIXED {
         records[at] = record(fields);
     }
@@ -101,15 +102,15 @@ pub fn mixed<W: Write>(out: &mut W) -> io::Result<()> {
     Ok(())
 }
 
-/// As many records as a tree has, by value.
+/// As many records as a tree has.
 pub fn as_many_as_a_tree<W: Write>(out: &mut W) -> io::Result<()> {
-    let mut records = [record((0, 0, 0, 0)); RECORDS];
+    let mut records = [record((BLANK, CLOSED, 0, 0)); RECORDS];
     // none: blanks.
-    print(widest_in(records), out)?;
+    print(widest(&records), out)?;
     // 510: the one that counts.
-    records[510] = record((1, 1, 0, 1));
-    print(widest_in(records), out)?;
+    records[510] = record((LEAF, OPEN, 0, 1));
+    print(widest(&records), out)?;
     // 0: as wide and earlier.
-    records[0] = record((1, 1, 999999999, 1000000000));
-    print(widest_in(records), out)
+    records[0] = record((LEAF, OPEN, 999999999, 1000000000));
+    print(widest(&records), out)
 }

@@ -1,8 +1,6 @@
--- Theorems about the search. Next.antt is where to look first: on a layout it finds the rules' next leaf.
--- Order and Walk say in which order the records are entered and how far that has come; Searching says it of the code's steps.
-mod Wider
-mod Order
-mod Walk
-mod Searching
+-- Theorems about the search. Next.antt is where to look first: on a layout the search finds what the rules refine next.
 pub mod Layouts
+pub mod LeftToRight
+pub mod Wider
+pub mod Picking
 pub mod Next

@@ -1,9 +1,11 @@
 -- WHAT THE SEARCH FINDS ON A LAYOUT IS WHAT THE RULES REFINE NEXT, and it finds nothing exactly where they pick none.
 -- By induction on the tree below a place: the search below its record is the rules' search there. Rests on Layouts.antt and the records' Live.antt.
 use mathlib.Core.Path.{◌≡◌, refl, sym, ap, ap₂, ◌∙◌}
-use mathlib.Core.Bool.{Bool, true, false}
+use mathlib.Core.Bool.{Bool, true, false, cond}
 use mathlib.Core.List.{List, [], ◌∷◌, ◌++◌, append_assoc, append-nil}
 use mathlib.Core.Option.{Option, none, some, none-ne-some, some-injective}
+use Rattle.std.specs.Prelude.{Some, None}
+use Rattle.std.specs.Prelude.{Option as Answer}
 use Prim.Native.Nat.{ℕ, zero, suc, ◌<◌, ◌≤◌}
 use native.Mathlib.Omega.{arith}
 use lib.ListN.{length, get_or}
@@ -27,23 +29,22 @@ use Rattle.records.proofs.Positions.{Held, position-lt, position-get, has-held, 
 use Rattle.records.proofs.InPlace.{record-at}
 use Rattle.records.proofs.Seen.{left_link}
 use Rattle.records.proofs.Live.{Holds, refined, unrefined, holds}
-use Rattle.pick.specs.declared.Found.{Found}
-use Rattle.pick.specs.declared.Found.TheVariants.{At, Nothing}
+use Rattle.records.specs.declared.Found.{Found}
 use Rattle.pick.specs.Picks.{own_found, wider_of, pick_from, pick_of}
 use Rattle.pick.proofs.Layouts.{child-at}
 
 -- ---- a candidate of the rules as the search would show it
 
 -- A candidate below place p, by its record.
-unfoldable shown : List Refinement → Place → Option Candidate → Found
-shown ns p none = Nothing
-shown ns p (some x) = At (position (p ++ x.place) (places ns)) x.width
+unfoldable shown : List Refinement → Place → Option Candidate → Answer Found
+shown ns p none = None
+shown ns p (some x) = Some (record { at = position (p ++ x.place) (places ns); width = x.width })
 
 -- A child's candidate, shown from the child or from its parent.
 shown-from : (ns : List Refinement) (p : Place) (b : Side) (o : Option Candidate) → shown ns (p ++ (b ∷ [])) o ≡ shown ns p (from b o)
 unfolding shown from
 shown-from ns p b none = refl
-shown-from ns p b (some x) = ap (λ (q : Place). At (position q (places ns)) x.width) (append_assoc p (b ∷ []) x.place)
+shown-from ns p b (some x) = ap (λ (q : Place). Some (record { at = position q (places ns); width = x.width })) (append_assoc p (b ∷ []) x.place)
 
 -- The wider of two candidates is shown as the wider of the two.
 shown-wider : (ns : List Refinement) (p : Place) (o o' : Option Candidate) → wider_of (shown ns p o) (shown ns p o') ≡ shown ns p (Run.wider o o')
@@ -53,12 +54,9 @@ shown-wider ns p (some x) none = refl
 shown-wider ns p (some x) (some y) = by (ltb x.width y.width)
   where
     by : (b : Bool)
-        → (elim b as (λ b. Found) [
-          | true ↦ At (position (p ++ y.place) (places ns)) y.width
-          | false ↦ At (position (p ++ x.place) (places ns))
-              x.width
-        ])
-        ≡ shown ns p (elim b as (λ b. Option Candidate) [ true ↦ some y | false ↦ some x ])
+        → ◌≡◌ {A = Answer Found} (Some (cond b (record { at = position (p ++ y.place) (places ns); width = y.width })
+        (record { at = position (p ++ x.place) (places ns); width = x.width })))
+        (shown ns p (elim b as (λ b. Option Candidate) [ true ↦ some y | false ↦ some x ]))
     by true = refl
     by false = refl
 
@@ -88,10 +86,10 @@ module _ (t : Table) (ns : List Refinement) (whole : series t ns ≡ true) where
       there = (undone-leaf p (root t) (tree ns) (record { node = y; below = leaf }) e d).0
 
       on : (b : Bool) (w : ℕ) → w ≡ leaf_width t.weights y.ways
-          → (elim b as (λ b. Found) [ true ↦ At (position p (places ns)) w | false ↦ Nothing ])
+          → (elim b as (λ b. Answer Found) [ true ↦ Some (record { at = position p (places ns); width = w }) | false ↦ None ])
           ≡ shown ns p (elim b as (λ b. Option Candidate)
           [ true ↦ some (record { width = leaf_width t.weights y.ways; place = []; ways = y.ways }) | false ↦ none ])
-      on true w q = ap₂ (λ (r : Place) (v : ℕ). At (position r (places ns)) v) (sym (append-nil p)) q
+      on true w q = ap₂ (λ (r : Place) (v : ℕ). Some (record { at = position r (places ns); width = v })) (sym (append-nil p)) q
       on false w q = refl
 
       by : Holds t ns p → own_found (position p (places ns)) (record_at t ns p) ≡ shown ns p (widest t.weights y.ways leaf)
@@ -146,9 +144,9 @@ pub record Picked (t : Table) (ns : List Refinement) (j : ℕ) : Type 0 where
   pub taken : next t (tree ns) ≡ some (record { place = get_or (places ns) j []; kind = choice t.weights (record_ways t (record_in (records_of t ns) j)) })
 
 -- What the search's answer says of the rules' next refinement.
-abbrev pub Meant : Table → List Refinement → Found → Type 0
-Meant t ns (At j w) = Picked t ns j
-Meant t ns Nothing = next t (tree ns) ≡ none
+abbrev pub Meant : Table → List Refinement → Answer Found → Type 0
+Meant t ns (Some x) = Picked t ns x.at
+Meant t ns None = next t (tree ns) ≡ none
 
 module _ (t : Table) (ns : List Refinement) (whole : series t ns ≡ true) where
   -- The record of the rules' widest leaf.
@@ -176,7 +174,7 @@ module _ (t : Table) (ns : List Refinement) (whole : series t ns ≡ true) where
           }
 
   -- THE SEARCH PICKS THE RULES' NEXT: for the answer r of a search on a layout.
-  pub picks_next : (r : Found) → r ≡ pick_of (layout t ns).nodes → Meant t ns r
+  pub picks_next : (r : Answer Found) → r ≡ pick_of (layout t ns).nodes → Meant t ns r
   unfolding layout next shown
   picks_next r e = rw (e ∙ pick_widest t ns whole) (by (widest t.weights (root_ways t) (tree ns)) refl (widest-law t.weights (root_ways t) (tree ns)))
     where

@@ -1,4 +1,5 @@
--- The search that picks a leaf, on records, as the contracts cite it.
+-- The search that picks a leaf, and the leaves that it goes over, as the contracts cite them.
 -- Rests on the definitions of `records`.
 pub mod Picks
-pub mod Steps
+pub mod Leaves
+pub mod Going

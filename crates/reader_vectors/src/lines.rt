@@ -1,58 +1,21 @@
 //! The printed line of a reader's answer: number, 1 past the last, cue, ways and start of the body.
-//! Rests on the answers of `rules`. Refused or past the last, it is cue 0 with 0 ways.
-ghost use Rattle.std.specs.Prelude.{◌≡◌};
-ghost use Rattle.reader_vectors.specs.Lines.{shown};
-
-use rules::EntryAnswer;
+//! Rests on `cue_numbers`, whose contracts say which numbers an answer is told by.
+use cue_numbers::CueEntry;
 use std::fmt;
 
-/// The figures of a line.
+/// An answer as it is printed.
 #[derive(Clone, Copy)]
-pub struct Line {
-    pub number: u64,
-    pub past: u64,
-    pub cue: u64,
-    pub ways: u64,
-    pub start: u64,
-}
-
-/// Cue 0 with 0 ways.
-const NO_CUE: Line = Line {
-    number: 0,
-    past: 0,
-    cue: 0,
-    ways: 0,
-    start: 0,
-};
-
-/// What an answer says in the rules' terms.
-pub fn figures(a: EntryAnswer) -> Line
-    ensures { result ≡ shown a }
-{
-    match a {
-        EntryAnswer::Cue(e) => Line {
-            cue: u64::from(e.cue),
-            ways: u64::from(e.ways),
-            start: u64::from(e.start),
-            ..NO_CUE
-        },
-        EntryAnswer::Past => Line { past: 1, ..NO_CUE },
-        EntryAnswer::Refused(n) => Line {
-            number: u64::from(n),
-            ..NO_CUE
-        },
-    }
-}
+pub struct Line(pub CueEntry);
 
 impl fmt::Display for Line {
     fn fmt<W: fmt::Write>(&self, f: &mut fmt::Formatter<W>) -> fmt::Result {
-        let Line {
+        let CueEntry {
             number,
             past,
             cue,
             ways,
             start,
-        } = self;
+        } = self.0;
         write!(f, "{number} {past} {cue} {ways} {start}")
     }
 }

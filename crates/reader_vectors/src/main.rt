@@ -4,15 +4,17 @@
 
 mod lines;
 
-use cue_reader::{next, open_reader};
-use lines::figures;
+use cue_numbers::CueEntry;
+use cue_reader::Reader;
+use lines::Line;
 use std::io;
-use std::io::{BufWriter, ErrorKind, Read, Write};
+use std::io::{BufWriter, Read, Write};
+use streams::only_for_memory;
 
 /// The length of the sheet.
 const WHOLE: usize = 72;
 
-/// How many of its bytes a case has, and a byte that it changes: where, and to what.
+/// How many of its bytes a case has, and a byte that it changes: where, and to what. A tuple: 14 rows of field names would be no plainer.
 type Case = (usize, Option<(usize, u8)>);
 
 /// The sheets that are refused. The second call gives the number again.
@@ -51,9 +53,9 @@ const REFUSED: [Case; 14] = [
 
 /// Prints the answers of the first calls of a reader opened on the bytes.
 fn drive<W: Write>(sheet: &[u8], calls: usize, out: &mut W) -> io::Result<()> {
-    let mut reader = open_reader(sheet);
+    let mut reader = Reader::open(sheet);
     for _ in 0..calls {
-        writeln!(out, "{}", figures(next(&mut reader)))?;
+        writeln!(out, "{}", Line(CueEntry::from(reader.next())))?;
     }
     Ok(())
 }
@@ -76,10 +78,7 @@ fn sheets(rt: &(impl Input + Print + AllocGlobal)) -> io::Result<()> {
     out.flush()
 }
 
-/// Fails only for want of memory: output that cannot be written is missed where it is compared.
+/// Output that cannot be written is missed where it is compared.
 fn main(rt: HostRuntime) -> io::Result<()> {
-    match sheets(&rt) {
-        Err(why) if why.kind() == ErrorKind::OutOfMemory => Err(why),
-        _ => Ok(()),
-    }
+    only_for_memory(sheets(&rt))
 }

@@ -40,7 +40,8 @@ pub record Shared (t : Table) (cs cs' : List Call) : Type 0 where
   pub reported' : tree_count (after t cs) ≡ reports (said t cs')
   -- the outcome of every further run, refused ones included (RULES 5.13): its answer, and then every place with its kind and its interval
   pub answers : (m : Limits) → call_outcome t (after t cs) (by_run m) ≡ call_outcome t (after t cs') (by_run m)
-  pub then_intervals : (m : Limits) (p : Place) → tree_interval (call_tree t (after t cs) (by_run m)) p ≡ tree_interval (call_tree t (after t cs') (by_run m)) p
+  pub then_intervals : (m : Limits) (p : Place)
+      → tree_interval (call_tree t (after t cs) (by_run m)) p ≡ tree_interval (call_tree t (after t cs') (by_run m)) p
   pub then_kinds : (m : Limits) (p : Place) → tree_kind (call_tree t (after t cs) (by_run m)) p ≡ tree_kind (call_tree t (after t cs') (by_run m)) p
 
 -- Both trees have an interval at the root, and that of the second lies within that of the first.

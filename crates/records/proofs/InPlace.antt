@@ -39,7 +39,8 @@ get-map f (x ∷ l) zero a b h = refl
 get-map f (x ∷ l) (suc i) a b h = get-map f l i a b (omega arith)
 
 -- Each position in use holds the record of its place.
-pub record_of : (t : Table) (ns : List Refinement) (i : ℕ) → i < length (places ns) → get_or (records_of t ns) i blank ≡ record_at t ns (get_or (places ns) i [])
+pub record_of : (t : Table) (ns : List Refinement) (i : ℕ) → i < length (places ns)
+    → get_or (records_of t ns) i blank ≡ record_at t ns (get_or (places ns) i [])
 unfolding records_of
 record_of t ns i l =
     get_or-append (map (record_at t ns) (places ns)) (replicate (tree_records - length (places ns)) blank) blank i
@@ -47,7 +48,8 @@ record_of t ns i l =
     ∙ get-map (record_at t ns) (places ns) i [] blank l
 
 -- So the record at a place's position is that place's.
-pub record-at : (t : Table) (ns : List Refinement) (p : Place) → Held p (places ns) → get_or (records_of t ns) (position p (places ns)) blank ≡ record_at t ns p
+pub record-at : (t : Table) (ns : List Refinement) (p : Place) → Held p (places ns)
+    → get_or (records_of t ns) (position p (places ns)) blank ≡ record_at t ns p
 record-at t ns p h = record_of t ns (position p (places ns)) (position-lt ns p h) ∙ ap (record_at t ns) (position-get ns p h)
 
 -- The others are blank.

@@ -9,7 +9,7 @@ use native.Mathlib.Decide.{dec_lt}
 use native.Mathlib.Omega.{arith}
 use lib.ListN.{length, get_or}
 use lib.Dec.{eqb}
-use Rattle.rules.specs.Rounding.{down, up}
+use Rattle.rules.specs.declared.Direction.TheVariants.{Down, Up}
 use Rattle.rules.specs.Table.{Table, ways}
 use Rattle.rules.specs.declared.Way.{Way}
 use Rattle.rules.specs.Leaf.{has_number, remaining, drop_all, sift, minimal, Lean, leaf_width, is_open}
@@ -52,9 +52,9 @@ holds t ns h p i = by (has-subtree p (root t) (tree ns) (held-has t ns h p i)) (
         (ap₂ (λ (o : Option Kind) (y : Option Subtree). eqb (live_code t.weights o (subtree_or y).node.ways) 1) d x.1
         ∙ open_code (is_open t.weights x.0.node.ways))
         (record-ways t ns h p x.0 x.1)
-        (ap (λ (y : Option Subtree). end up t.weights (subtree_or y).node.ways (subtree_or y).below - end down t.weights (subtree_or y).node.ways
+        (ap (λ (y : Option Subtree). end Up t.weights (subtree_or y).node.ways (subtree_or y).below - end Down t.weights (subtree_or y).node.ways
         (subtree_or y).below) x.1
-        ∙ ap (λ (s : DTree). end up t.weights x.0.node.ways s - end down t.weights x.0.node.ways s) l.1)
+        ∙ ap (λ (s : DTree). end Up t.weights x.0.node.ways s - end Down t.weights x.0.node.ways s) l.1)
 
 -- ---- the ways of a record are lean
 

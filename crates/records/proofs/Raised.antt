@@ -12,7 +12,8 @@ use native.Mathlib.Decide.{dec_lt, ℕ_discrete}
 use lib.ListN.{length, get_or, length-set}
 use lib.Seq.{get_or-set_same, get_or-set_other, ext_get_or}
 use borrow.Author.Tests.{ne_eqb}
-use Rattle.rules.specs.Rounding.{Dir, down, up}
+use Rattle.rules.specs.declared.Direction.{Direction}
+use Rattle.rules.specs.declared.Direction.TheVariants.{Down, Up}
 use Rattle.rules.specs.Table.{Table}
 use Rattle.rules.specs.declared.Way.{Way}
 use Rattle.rules.specs.Leaf.{leaf_end}
@@ -32,7 +33,7 @@ use Rattle.records.proofs.InPlace.{few-places, records-long, record_of, record-r
 -- ---- local agreement
 
 -- The end of an inner node is the overlap of its own with those of its two branches.
-end-inner : (d : Dir) (ws : List ℕ) (vs : List Way) (s : DTree) (k : Kind) → kind_at [] s ≡ some k
+end-inner : (d : Direction) (ws : List ℕ) (vs : List Way) (s : DTree) (k : Kind) → kind_at [] s ≡ some k
     → end d ws vs s ≡ overlap d (leaf_end d ws vs) (combine k d ws (end d ws (child k left vs) (branch left s)) (end d ws (child k right vs) (branch right s)))
 unfolding kind_at end
 end-inner d ws vs leaf k e = absurd (none-ne-some _ e)
@@ -44,12 +45,12 @@ end-inner d ws vs (inner j l r) k e =
 pub agrees : (t : Table) (ns : List Refinement) (q : Place) (k : Kind) → kind_at q (tree ns) ≡ some k
     → joined t.weights (record_at t ns q) (record_at t ns (q ++ (left ∷ []))) (record_at t ns (q ++ (right ∷ []))) ≡ record_at t ns q
 unfolding joined record_at subtree_or subtree
-agrees t ns q k d = λ i. with_ends (record_at t ns q) (ends down i) (ends up i)
+agrees t ns q k d = λ i. with_ends (record_at t ns q) (ends Down i) (ends Up i)
   where
     there : Place → Subtree
     there p = subtree_or (subtree t p (tree ns))
 
-    end_at : Dir → Subtree → ℕ
+    end_at : Direction → Subtree → ℕ
     end_at d x = end d t.weights x.node.ways x.below
 
     found : (x : Subtree) × (descend q (root t) (tree ns) ≡ some x)
@@ -61,7 +62,7 @@ agrees t ns q k d = λ i. with_ends (record_at t ns q) (ends down i) (ends up i)
     side : (b : Side) → there (q ++ (b ∷ [])) ≡ record { node = child_node k b found.0.node; below = branch b found.0.below }
     side b = ap subtree_or (subtree-child q b k (root t) (tree ns) found.0 d found.1)
 
-    ends : (d : Dir)
+    ends : (d : Direction)
         → overlap d (leaf_end d t.weights (there q).node.ways)
         (combine (kind_of (record_at t ns q)) d t.weights (end_at d (there (q ++ (left ∷ [])))) (end_at d (there (q ++ (right ∷ [])))))
         ≡ end_at d (there q)

@@ -126,7 +126,8 @@ module _ (t : Table) (ok : Accepted t) where
   -- One refinement more on the records of a series, which the records say can be made.
   record Next (before : List Refinement) (j : ℕ) (k : Kind) : Type 0 where
     fits : acceptable t (tree before) (record { place = get_or (places before) j []; kind = k }) ≡ true
-    grown : grown_at t (records_of t before) (length (places before)) j k ≡ records_of t (before ++ (record { place = get_or (places before) j []; kind = k } ∷ []))
+    grown : grown_at t (records_of t before) (length (places before)) j k
+        ≡ records_of t (before ++ (record { place = get_or (places before) j []; kind = k } ∷ []))
 
   next : (before : List Refinement) → series t before ≡ true → (j : ℕ) (k : Kind)
       → ltb j (length (places before)) && may_at t (records_of t before) (length (places before)) j k ≡ true → Next before j k

@@ -2,7 +2,7 @@
 -- And 16 as code tests it: build the tree again by such refinements, and compare. Rests on Records.antt; proofs/ shows what both come to.
 use Rattle.std.specs.Prelude.{Bool, true, false, ◌&&◌, List, [], ℕ, zero, suc, ◌+◌, ◌-◌, ◌*◌, min, max, get_or, set, eqb, ltb}
 use Rattle.std.proofs.Math.Option.{Option, none, some}
-use Rattle.rules.specs.Rounding.{down, up}
+use Rattle.rules.specs.declared.Direction.TheVariants.{Down, Up}
 use Rattle.rules.specs.Table.{Table}
 use Rattle.rules.specs.Tree.{left, right, leaf, possible, combine, child_node}
 use Rattle.rules.specs.Tree.{Node as Spot}
@@ -40,7 +40,7 @@ with_ends x lo hi = changed x x.kind x.fault x.live x.left lo hi
 -- An inner record with the interval from its own as a leaf and from its children's records.
 unfoldable pub joined : List ℕ → Node → Node → Node → Node
 joined ws x l r =
-    with_ends x (max x.ownlow (combine (kind_of x) down ws l.low r.low)) (min x.ownhigh (combine (kind_of x) up ws l.high r.high))
+    with_ends x (max x.ownlow (combine (kind_of x) Down ws l.low r.low)) (min x.ownhigh (combine (kind_of x) Up ws l.high r.high))
 
 -- Record i joined with its children's records.
 unfoldable pub join_at : List ℕ → List Node → ℕ → List Node

@@ -1,9 +1,10 @@
 -- What the records of a tree hold: `layout` of a series of refinements, and `history`, the series read back off any records.
 -- RULES 6: which record holds a place, the blank, and the codes. Rests on the rules alone.
-use Rattle.std.specs.Prelude.{◌≡◌, Bool, true, false, not, ◌&&◌, List, [], ◌∷◌, ◌++◌, map, ℕ, zero, suc, ◌-◌, ◌/◌, ◌^◌, length, get_or, drop, replicate, eqb, ltb}
+use Rattle.std.specs.Prelude.{◌≡◌, Bool, true, false, not, ◌&&◌, List, [], ◌∷◌, ◌++◌, map, length, get_or, drop, replicate}
+use Rattle.std.specs.Prelude.{ℕ, zero, suc, ◌-◌, ◌/◌, ◌^◌, eqb, ltb}
 use Rattle.std.proofs.Math.Option.{Option, none, some}
 use Rattle.std.specs.Int.Bits.{bit_or}
-use Rattle.rules.specs.Rounding.{down, up}
+use Rattle.rules.specs.declared.Direction.TheVariants.{Down, Up}
 use Rattle.rules.specs.Table.{bit, Table, ways}
 use Rattle.rules.specs.declared.Way.{Way}
 use Rattle.rules.specs.Leaf.{select, remaining, drop_all, leaf_low, leaf_high, is_open}
@@ -141,8 +142,8 @@ record_from t o x up-link down-link =
       present = x.node.present;
       absent = x.node.absent;
       out = x.node.out;
-      low = end down t.weights x.node.ways x.below;
-      high = end up t.weights x.node.ways x.below;
+      low = end Down t.weights x.node.ways x.below;
+      high = end Up t.weights x.node.ways x.below;
       ownlow = leaf_low t.weights x.node.ways;
       ownhigh = leaf_high t.weights x.node.ways;
     }

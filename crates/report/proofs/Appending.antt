@@ -1,94 +1,104 @@
--- Bytes appended to a text: a full one stays as it is, two pieces are one piece, and in the end the text holds them all.
--- Rests on `sheet`, Sized, for lists as arrays of fixed length.
-use mathlib.Core.Path.{◌≡◌, refl, sym, ap, ◌∙◌}
-use mathlib.Core.List.{List, [], ◌∷◌, ◌++◌, append_assoc, append-nil}
-use Prim.Native.Nat.{ℕ, ◌+◌, ◌≤◌, ◌<◌}
-use native.Mathlib.Omega.{arith}
-use native.Mathlib.Numerals.{add-one}
-use borrow.Author.Tests.{lt-ltb, le-ltb}
-use lib.ListN.{length, drop, set, get_or, length-append, drop_of_length-le}
-use lib.Seq.{drop-cons, append_snoc}
-use Rattle.sheet.proofs.Sized.{sized-next}
-use Rattle.report.specs.declared.text.Report.{Report}
-use Rattle.report.specs.Appended.{held, appended_byte, appended}
+-- Bytes appended to a text: two pieces are one piece, and where there is room for all, all are there.
+-- Rests on the kit's laws of `take`.
+use Rattle.std.proofs.Common.{◌≡◌, ℕ, zero, suc, ◌+◌, ◌-◌, ◌≤◌, List, [], ◌∷◌, ◌++◌, length}
+use Rattle.std.proofs.Common.{take, drop, replicate, min, length-take, refl, sym, ap, ◌∙◌, arith, append_assoc, append-nil, length-append}
+use Rattle.std.proofs.lemmas.Grind.{common_steps}
+use Rattle.std.proofs.lemmas.List.{take_all, drop-drop, drop-replicate, length-drop, take-append-drop}
+use Rattle.std.proofs.lemmas.Slice.{take-put_mid, drop-put_mid}
+use borrow.Rule.Slice.PartMut.{put_mid}
+use lib.Seq.{take-nil}
+use native.Mathlib.Decide.{dec_le}
+use Rattle.sheet.proofs.Stated.{reading}
+use Rattle.report.specs.Appended.{appended}
 
--- ---- one byte
-
--- A byte for which there is room.
-byte_put : (r : Report) (b : ℕ) → r.length < 939 → appended_byte r b ≡ record { text = set r.text r.length b; length = r.length + 1 }
-unfolding appended_byte
-byte_put r b h = rw (lt-ltb r.length 939 h, appended_byte)
-
--- One for which there is none.
-byte-lost : (r : Report) (b : ℕ) → 939 ≤ r.length → appended_byte r b ≡ r
-unfolding appended_byte
-byte-lost r b h = rw (le-ltb r.length 939 h, appended_byte)
-
--- ---- many
-
--- A full text stays as it is.
-full : (r : Report) (bs : List ℕ) → 939 ≤ r.length → appended r bs ≡ r
-unfolding appended
-full r [] h = refl
-full r (b ∷ bs) h = ap (λ (x : Report). appended x bs) (byte-lost r b h) ∙ full r bs h
+-- The front of two lists is that of the first, and as much of the second as is left.
+take-both : (k : ℕ) (xs ys : List ℕ) → take k (xs ++ ys) ≡ take k xs ++ take (k - length xs) ys
+take-both k [] ys =
+    let all : k ≡ k - 0 = omega arith in
+    ap (λ n. take n ys) all ∙ ap (λ zs. zs ++ take (k - 0) ys) (sym (take-nil k))
+take-both zero (x ∷ xs) ys = let no : 0 ≡ 0 - suc (length xs) = omega arith in ap (λ n. take n ys) no
+take-both (suc k) (x ∷ xs) ys =
+    let less : k - length xs ≡ suc k - suc (length xs) = omega arith in
+    ap (λ r. x ∷ r) (take-both k xs ys ∙ ap (λ n. take k xs ++ take n ys) less)
 
 -- Two pieces, the second behind the first, are one.
-appended-both : (r : Report) (xs ys : List ℕ) → appended r (xs ++ ys) ≡ appended (appended r xs) ys
+pub appended_both : (text xs ys : List ℕ) → appended (appended text xs) ys ≡ appended text (xs ++ ys)
 unfolding appended
-appended-both r [] ys = refl
-appended-both r (x ∷ xs) ys = appended-both (appended_byte r x) xs ys
+appended_both text xs ys =
+    let k : ℕ = 939 - length text in
+    let left : 939 - length (text ++ take k xs) ≡ k - length xs = omega (arith, length-append text (take k xs), length-take k xs) in
+    ap (λ n. (text ++ take k xs) ++ take n ys) left
+    ∙ append_assoc text (take k xs) (take (k - length xs) ys)
+    ∙ ap (λ zs. text ++ zs) (sym (take-both k xs ys))
 
--- The same bytes, said in another way.
-pub said : (r : Report) {xs ys : List ℕ} {u : Report} → xs ≡ ys → u ≡ appended r ys → u ≡ appended r xs
-said r e f = f ∙ ap (appended r) (sym e)
-
--- What code does: a piece, and another one behind it.
-pub then : (r : Report) (xs ys : List ℕ) {u v : Report} → u ≡ appended r xs → v ≡ appended u ys → v ≡ appended r (xs ++ ys)
-then r xs ys e f = f ∙ ap (λ (x : Report). appended x ys) e ∙ sym (appended-both r xs ys)
-
--- A piece, and two behind it that were appended as one.
-pub then-two : (r : Report) (xs ys zs : List ℕ) {u v : Report} → u ≡ appended r xs → v ≡ appended u (ys ++ zs) → v ≡ appended r (xs ++ ys ++ zs)
-then-two r xs ys zs e f = said r (append_assoc xs ys zs) (then r xs (ys ++ zs) e f)
-
--- ---- a loop over a list
-
--- What is left to append to u gives what the whole list gives appended to r.
-pub record Left (r : Report) (bs : List ℕ) (u : Report) (i : ℕ) : Type 0 where
-  pub rest : appended u (drop i bs) ≡ appended r bs
-
-module _ {r : Report} {bs : List ℕ} {u : Report} {i : ℕ} (l : Left r bs u i) where
-  -- No room is left.
-  pub left_full : 939 ≤ u.length → u ≡ appended r bs
-  left_full h = sym (full u (drop i bs) h) ∙ l.rest
-
-  -- No byte is left.
-  pub left_none : length bs ≤ i → u ≡ appended r bs
-  unfolding appended
-  left_none h = ap (appended u) (sym (drop_of_length-le bs {i = i} h)) ∙ l.rest
-
-  -- One byte more.
-  pub left_next : i < length bs → u.length < 939 → Left r bs (record { text = set u.text u.length (get_or bs i 0); length = u.length + 1 }) (i + 1)
-  unfolding appended
-  left_next h room =
-      let b : ℕ = get_or bs i 0 in
-      let next : drop i bs ≡ b ∷ drop (i + 1) bs = rw add-one (drop-cons bs i 0 h) in
-      record { rest = ap (λ (x : Report). appended x (drop (i + 1) bs)) (sym (byte_put u b room)) ∙ ap (appended u) (sym next) ∙ l.rest }
-
--- ---- the whole text
-
--- One byte more behind those that a text holds.
-held-byte : (bs : List ℕ) (b : ℕ) → length bs < 939 → appended_byte (held bs) b ≡ held (bs ++ b ∷ [])
-unfolding held
-held-byte bs b h =
-    let more : length bs + 1 ≡ length (bs ++ b ∷ []) = omega (arith, length-append bs (b ∷ [])) in
-    byte_put (held bs) b h ∙ (λ j. record { text = sized-next 939 bs b h j; length = more j })
-
--- Bytes for which there is room are held behind the others.
-pub held_both : (xs ys : List ℕ) → length xs + length ys ≤ 939 → appended (held xs) ys ≡ held (xs ++ ys)
+-- Where there is room for all, all are there.
+pub appended_room : (text xs : List ℕ) → length (text ++ xs) ≤ 939 → appended text xs ≡ text ++ xs
 unfolding appended
-held_both xs [] h = ap held (sym (append-nil xs))
-held_both xs (y ∷ ys) h =
-    let room : length (xs ++ y ∷ []) + length ys ≤ 939 = omega (arith, length-append xs (y ∷ [])) in
-    ap (λ (x : Report). appended x ys) (held-byte xs y (omega arith))
-    ∙ held_both (xs ++ y ∷ []) ys room
-    ∙ ap held (append_snoc xs y ys)
+appended_room text xs h = ap (λ zs. text ++ zs) (take_all (939 - length text) xs (omega (arith, h, length-append text xs)))
+
+-- Of nothing, nothing.
+pub appended_none : (text : List ℕ) → appended text [] ≡ text
+unfolding appended
+appended_none text = ap (λ zs. text ++ zs) (take-nil (939 - length text)) ∙ append-nil text
+
+-- ---- a piece written behind the first n bytes of a text, up to the e-th
+
+module _ (bytes piece : List ℕ) (n e : ℕ) (room : length bytes ≡ 939) (within : n ≤ 939) (end : e ≡ min (n + length piece) 939) where
+  as_many : length (take (e - n) piece) ≡ e - n
+  as_many = omega (arith, length-take (e - n) piece, end)
+
+  -- The array stays as long,
+  pub as_long : {ys : List ℕ} → ys ≡ take (e - n) piece → length (put_mid n (e - n) bytes ys) ≡ 939
+  as_long {ys} same =
+      let z : List ℕ = put_mid n (e - n) bytes ys in
+      let long : length ys ≡ e - n = ap length same ∙ as_many in
+      let front : length (take e z) ≡ length (take n bytes ++ ys)
+      = ap length (take-put_mid n (e - n) bytes ys e (omega (arith, end, long)) (omega (arith, room))) in
+      let rest : length (drop e z) ≡ length (drop e bytes) = ap length (drop-put_mid n (e - n) bytes ys e (omega (arith, end)) (omega (arith, room)) long) in
+      omega (
+        arith,
+        room,
+        end,
+        long,
+        front,
+        rest,
+        length-append (take n bytes) ys,
+        length-take n bytes,
+        length-drop e bytes,
+        length-append (take e z) (drop e z),
+        ap length (take-append-drop e z),
+      )
+
+  -- and behind the piece there are the zeros that were there before.
+  pub behind : {ys : List ℕ} → ys ≡ take (e - n) piece → drop n bytes ≡ replicate (939 - n) 0
+      → drop e (put_mid n (e - n) bytes ys) ≡ replicate (939 - e) 0
+  behind {ys} same zeros =
+      let long : length ys ≡ e - n = ap length same ∙ as_many in
+      let there : n + (e - n) ≡ e = omega (arith, end) in
+      let left : 939 - n - (e - n) ≡ 939 - e = omega (arith, end) in
+      drop-put_mid n (e - n) bytes ys e (omega arith) (omega arith) long
+      ∙ ap (λ k. drop k bytes) (sym there) ∙ sym (drop-drop (e - n) n bytes)
+      ∙ ap (drop (e - n)) zeros ∙ drop-replicate (e - n) (939 - n) 0 ∙ ap (λ k. replicate k 0) left
+
+  -- What fits of it.
+  fitting : take (e - n) piece ≡ take (939 - n) piece
+  fitting = split (dec_le (length piece) (939 - n))
+    where
+      split : Dec (length piece ≤ 939 - n) → take (e - n) piece ≡ take (939 - n) piece
+      split (yes h) = take_all (e - n) piece (omega (arith, h, end, within)) ∙ sym (take_all (939 - n) piece h)
+      split (no h) = let full : e - n ≡ 939 - n = omega (arith, h, end, within) in ap (λ k. take k piece) full
+
+  -- The text is longer by what fits of the piece.
+  pub grown : {ys : List ℕ} → ys ≡ take (e - n) piece → take e (put_mid n (e - n) bytes ys) ≡ appended (take n bytes) piece
+  unfolding appended
+  grown {ys} same =
+      let long : length ys ≡ e - n = ap length same ∙ as_many in
+      let left : 939 - n ≡ 939 - length (take n bytes) = omega (arith, length-take n bytes, room, within) in
+      take-put_mid n (e - n) bytes ys e (omega (arith, end, long)) (omega (arith, room))
+      ∙ ap (λ zs. take n bytes ++ zs) (same ∙ fitting ∙ ap (λ k. take k piece) left)
+
+-- What code that appends knows.
+pub ruleset appending = (common_steps, appended_both, appended_none, append_assoc)
+
+-- What code that appends the lines of a sheet knows.
+pub ruleset line_by_line = (appending, reading)

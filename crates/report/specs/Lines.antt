@@ -1,28 +1,17 @@
--- The table that is taken from the arrays of an entry, and the text of a line.
--- Rests on `rules`, Text, for numbers and words as text, and on `sheet`, Handed, for the arrays.
-use Rattle.std.specs.Prelude.{List, ◌++◌, ℕ, min, take}
-use Rattle.rules.specs.Sheet.{faults_in, weights_in}
-use Rattle.rules.specs.Table.{Table}
+-- The text of a line, and that of the lines of a sheet's entries.
+-- Rests on `rules`, Text, for numbers and words as text, and on `sheet`, Handed, for the table of an entry.
+use Rattle.std.specs.Prelude.{Result, Ok, Err, false, List, [], ◌∷◌, ◌++◌, ℕ}
+use Rattle.rules.specs.Calls.{run_answer}
+use Rattle.rules.specs.Refusals.{number}
 use Rattle.rules.specs.Text.{bytes, decimal, word}
+use Rattle.rules.specs.Tree.{leaf}
+use Rattle.rules.specs.declared.Ended.{Ended}
 use Rattle.rules.specs.declared.Entry.{Entry}
 use Rattle.rules.specs.declared.Figures.{Figures}
-use Rattle.rules.specs.declared.RunAnswer.{RunAnswer}
+use Rattle.rules.specs.declared.Limits.{Limits}
+use Rattle.rules.specs.declared.Refusal.{Refusal}
 use Rattle.rules.specs.declared.Verdict.{Verdict}
-use Rattle.sheet.specs.Handed.{sized, table_at}
-use Rattle.report.specs.declared.lines.Line.{Line}
-
--- The weights of the sheet: the part of the array that is in use.
-unfoldable pub weights_of : List ℕ → List ℕ
-weights_of bs = take (min (faults_in bs) 64) (sized 64 (weights_in bs))
-
--- The table of an entry: the parts of the arrays that are in use.
-abbrev pub table_in : List ℕ → Entry → Table
-table_in bs e =
-    record {
-      weights = take (table_at bs e).faults (table_at bs e).weights;
-      present = take (table_at bs e).ways (table_at bs e).present;
-      absent = take (table_at bs e).ways (table_at bs e).absent;
-    }
+use Rattle.sheet.specs.Handed.{table_at}
 
 -- The line of a refusal.
 unfoldable pub refused_text : ℕ → List ℕ
@@ -43,10 +32,15 @@ ended_text n v f =
     ++ bytes "\n"
 
 -- A cue's number with a run's answer; its figure is not printed.
-unfoldable pub answer_text : ℕ → RunAnswer → List ℕ
-answer_text n (RunAnswer.Ended v f g) = ended_text n v f
-answer_text n (RunAnswer.Refused k) = refused_text k
+unfoldable pub answer_text : ℕ → Result Ended Refusal → List ℕ
+answer_text n (Ok e) = ended_text n e.verdict e.figures
+answer_text n (Err r) = refused_text (number r)
 
--- The text of a line: its cue's number with its answer.
-abbrev pub line_text : Line → List ℕ
-line_text l = answer_text l.cue l.answer
+-- The line of an entry of the bytes: its cue's number, and what one run on its table answers.
+abbrev pub entry_text : Limits → List ℕ → Entry → List ℕ
+entry_text m bs e = answer_text e.cue (run_answer (table_at bs e) false leaf m)
+
+-- The lines of entries, one behind the other.
+unfoldable pub entries_text : Limits → List ℕ → List Entry → List ℕ
+entries_text m bs [] = []
+entries_text m bs (e ∷ es) = entry_text m bs e ++ entries_text m bs es

@@ -1,61 +1,51 @@
-//! The report on a sheet: from its bytes to the whole text that is printed for them, by value.
-//! `lines` finds what stands in a cue's line, `pieces` appends it to the `text`. Rests on `sheet`, `dtree` and the definitions of `rules`, Text.
+//! The report on a sheet: from its bytes to the whole text that is printed for them.
+//! `text` is a text that grows, `pieces` has its lines. Rests on `sheet`, `dtree` and the definitions of `rules`, Text.
 #![tactic(auto)]
 
-mod lines;
 mod pieces;
 pub mod text;
 
 ghost use Rattle.std.specs.Prelude.{◌≡◌};
-ghost use Rattle.rules.specs.Sheet.{read_number, cues_in, limits_in, decode};
-ghost use Rattle.rules.specs.Text.{lines};
-ghost use Rattle.report.specs.Appended.{text_of, appended};
+ghost use Rattle.rules.specs.Sheet.{limits_in};
+ghost use Rattle.sheet.specs.Reading.{entries_in};
+ghost use Rattle.report.specs.Appended.{appended};
+ghost use Rattle.report.specs.Lines.{entries_text};
 ghost use Rattle.report.specs.Reported.{Reported};
 
-use lines::line_at;
-use pieces::{append_heading, append_line, append_refused};
-use rules::{Limits, ReadAnswer};
-use sheet::arrays::{at_most, weights};
-use sheet::head::faults_in;
-use sheet::reader::read;
-use text::{Report, Room};
+use dtree::afresh::run_afresh;
+use sheet::accepted::Sheet;
+use sheet::table::TableArrays;
+use text::Report;
 
-/// The lines of an accepted sheet, whose number of cues and limits are handed over with it.
-fn append_lines(text: &mut Room, length: usize, s: &[u8], cues: u16, limits: Limits) -> usize
-    requires s_value { read_number s.now ≡ 0 }
-    requires cues_value { cues ≡ cues_in s.now }
-    requires limits_value { limits ≡ limits_in s.now }
-    ensures { text_of text.new result
-        ≡ appended (text_of text.old length) (lines limits (decode s.now).weights (decode s.now).cues) }
+// Each table is judged again, by `run_afresh`: a call for tables known to be accepted would be a second one in `dtree`, for this loop alone, no plainer.
+/// The lines of an accepted sheet, one for each cue: its number, and what one run on its table answers. The weights are read once for all.
+#[tactic(auto, using(crate::proofs::Appending::line_by_line), unfolding(sheet::specs::Handed::table_at, crate::specs::Lines::entries_text))]
+fn append_lines(text: &mut Report, sheet: Sheet<'_>)
+    ensures { text.new ≡ appended text.old
+        (entries_text (limits_in sheet.entry.bytes.now) sheet.entry.bytes.now (entries_in sheet.entry.bytes.now)) }
 {
-    let w = weights(s);
-    let n = at_most(faults_in(s), 64);
-    let last = cues as usize;
-    let mut at = length;
-    let mut i: usize = 0;
-    while i < last {
-        at = append_line(text, at, line_at(&w[..n], s, i, limits));
-        i += 1;
+    let raw = sheet.raw();
+    let limits = raw.limits();
+    let mut table = TableArrays::default();
+    table.set_weights(raw.weights());
+    for entry in sheet.entries() {
+        table.set_ways(raw.ways(entry));
+        let answer = run_afresh(&table.weights, &table.present, &table.absent, limits);
+        text.append_line(entry.cue, answer);
     }
-    at
 }
 
 /// The text that is printed for any bytes, read as a sheet.
-pub fn report(s: &[u8]) -> Report
-    ensures promise { Reported s.now result }
+pub fn report(bytes: &[u8]) -> Report
+    ensures promise { Reported bytes.now result }
 {
-    let mut text = [0u8; 939];
-    let a = read(s);
-    match a {
-        ReadAnswer::Sheet(h) => {
-            let limits = h.limits;
-            let at = append_heading(&mut text, 0);
-            let length = append_lines(&mut text, at, s, h.cues, limits);
-            Report { text, length }
+    let mut text = Report::new();
+    match Sheet::read(bytes) {
+        Ok(sheet) => {
+            text.append_heading();
+            append_lines(&mut text, sheet);
         }
-        ReadAnswer::Refused(n) => {
-            let length = append_refused(&mut text, 0, n);
-            Report { text, length }
-        }
+        Err(refusal) => text.append_refused(refusal),
     }
+    text
 }

@@ -1,45 +1,70 @@
-//! A text that is lent, to which bytes and numbers are appended where it is. Rests on the definitions of Appended and on `decimal`.
-//! A byte for which there is no room is left out; the text of a sheet has room for all (`rules`, TextLength).
-ghost use Rattle.std.specs.Prelude.{◌≡◌, [], ◌∷◌, ◌++◌};
-ghost use Rattle.rules.specs.Text.{decimal};
-ghost use Rattle.report.specs.Appended.{text_of, appended};
+//! The printed text of a sheet, to which pieces are appended where it is. It is seen as the list of its bytes.
+//! Rests on the definition of Appended. A byte for which there is no room is left out; the text of a sheet has room for all (`rules`, TextLength).
+#![tactic(auto, using(crate::proofs::Appending::appending), unfolding(crate::specs::Appended::appended))]
 
-use decimal::digits_of;
+use std::marker::Model;
 
-/// Room for the printed text: a heading of 27 bytes and 24 lines of at most 38 make 939.
-pub type Room = [u8; 939];
+/// Room for a heading of 27 bytes and 24 lines of at most 38.
+const ROOM: usize = 939;
 
-/// The printed text, and how many bytes it has; behind them there are zeros.
+/// A printed text. Behind it there are zeros, so that the text gives the fields back.
+/// No `ArrayVec`, which would be as plain: that a report is `Copy` was promised, and callers may copy it.
 #[derive(Clone, Copy)]
 pub struct Report {
-    pub text: [u8; 939],
-    pub length: usize,
+    bytes: [u8; ROOM],
+    used: usize,
 }
 
-/// A piece behind the first `length` bytes of the text; how many it has then.
-pub fn append(text: &mut Room, length: usize, piece: &[u8]) -> usize
-    ensures { text_of text.new result ≡ appended (text_of text.old length) piece.now }
-{
-    let mut at = length;
-    let mut i: usize = 0;
-    while i < piece.len() {
-        if 939 <= at {
-            return at;
+impl Model for Report {
+    ghost use Rattle.std.specs.Prelude.{◌≡◌, ◌++◌, ◌-◌, ◌≤◌, List, ℕ, length, take, drop, replicate};
+    ghost use Rattle.std.proofs.Common.{arith, length-take-le, take-append-drop};
+
+    ghost Value = { List ℕ };
+
+    ghost view = { λ r. take r.used r.bytes };
+
+    ghost invariant = { λ r. (r.used ≤ 939) × (length r.bytes ≡ 939) × (drop r.used r.bytes ≡ replicate (939 - r.used) 0) };
+
+    ghost inverse = { λ v. record { bytes = v ++ replicate (939 - length v) 0; used = length v } };
+
+    ghost inverse_ok = { λ r h i.
+        let long : length (take r.used r.bytes) ≡ r.used = length-take-le r.used r.bytes (omega (arith, h.0, h.1)) in
+        let bytes : take r.used r.bytes ++ replicate (939 - length (take r.used r.bytes)) 0 ≡ r.bytes
+        = rw (long, ← h.2) (take-append-drop r.used r.bytes) in
+        record {
+          bytes = bytes i;
+          used = long i;
+        } };
+}
+
+impl Report {
+    ghost use Rattle.std.specs.Prelude.{◌≡◌, ◌≤◌, [], length};
+    ghost use Rattle.report.specs.Appended.{appended};
+
+    /// A text without a byte.
+    pub fn new() -> Report
+        ensures { result ≡ [] }
+    {
+        Report {
+            bytes: [0; ROOM],
+            used: 0,
         }
-        text[at] = piece[i];
-        at += 1;
-        i += 1;
     }
-    at
-}
 
-/// A number in decimal, and a byte behind it.
-pub fn append_decimal(text: &mut Room, length: usize, n: u64, end: u8) -> usize
-    ensures { text_of text.new result ≡ appended (text_of text.old length) (decimal n ++ end ∷ []) }
-{
-    let d = digits_of(n);
-    let digits = d.bytes;
-    let from = d.from;
-    let at = append(text, length, &digits[from..]);
-    append(text, at, &[end; 1])
+    /// Its bytes.
+    pub fn as_slice(&self) -> &[u8]
+        ensures bytes { result.now ≡ self.now }
+        ensures within { length result.now ≤ 939 }
+    {
+        &self.bytes[..self.used]
+    }
+
+    /// A piece behind the bytes that are there.
+    pub fn append(&mut self, piece: &[u8])
+        ensures { self.new ≡ appended self.old piece.now }
+    {
+        let end = (self.used + piece.len()).min(ROOM);
+        self.bytes[self.used..end].copy_from_slice(&piece[..end - self.used]);
+        self.used = end;
+    }
 }

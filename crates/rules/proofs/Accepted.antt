@@ -50,7 +50,7 @@ record Passes (t : Table) : Type 0 where
 passes : (t : Table) → Accepted t → Passes t
 unfolding table_number table_refusals way_refusals
 passes t ok =
-    let n = none-applies (table_refusals t) refl ok in
+    let n = none-applies (table_refusals t) ok in
     record { nine = n.0; ten = n.1.0; eleven = n.1.1.0; twelve = n.1.1.1.0; thirteen = n.1.1.1.1.0 }
 
 module _ (t : Table) (ok : Accepted t) where

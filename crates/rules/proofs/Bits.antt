@@ -11,7 +11,7 @@ use lib.Arith.{bin_ind}
 use lib.Dec.{eqb, eqb-zero-suc, eqb-suc-zero, eqb-suc-suc}
 use lib.Bits.{bit_and, bit_or, and_step, or_step, and_le_l, and_self, or_comm}
 use lib.Count.{count_trailing_zeros, under}
-use borrow.Author.Tests.{eqb-true, ne_eqb}
+use borrow.Author.Tests.{eqb-true, ne_eqb, not-false}
 use Rattle.rules.specs.Table.{odd, bit}
 use Rattle.rules.specs.Leaf.{without}
 use Rattle.rules.proofs.Booleans.{and_second, or_left, or_right}
@@ -213,11 +213,7 @@ bit-nonzero i w h = ne_eqb w 0 (λ e. true≢false (sym h ∙ ap (bit i) e ∙ b
 -- Two words without a common bit: where one has a bit, the other has not.
 pub apart-bit : (x y i : ℕ) → not (eqb (bit_and x y) 0) ≡ false → bit i x ≡ true → bit i y ≡ false
 apart-bit x y i h b =
-    and_second (bit i x) (bit i y) b (sym (bit-and i x y) ∙ ap (bit i) (eqb-true (bit_and x y) 0 (yes-zero (eqb (bit_and x y) 0) h)) ∙ bit-zero i)
-  where
-    yes-zero : (b : Bool) → not b ≡ false → b ≡ true
-    yes-zero true e = refl
-    yes-zero false e = sym e
+    and_second (bit i x) (bit i y) b (sym (bit-and i x y) ∙ ap (bit i) (eqb-true (bit_and x y) 0 (not-false (eqb (bit_and x y) 0) h)) ∙ bit-zero i)
 
 -- The other way: words of which no bit is common have no common bit, as a test.
 pub apart-test : (x y : ℕ) → ((i : ℕ) → bit i x ≡ true → bit i y ≡ false) → not (eqb (bit_and x y) 0) ≡ false

@@ -9,7 +9,9 @@ use native.Mathlib.Omega.{arith}
 use lib.ListN.{length}
 use lib.Dec.{eqb}
 use lib.Bits.{bit_and, and_step}
-use Rattle.rules.specs.Rounding.{S, Dir, down, up, Le}
+use Rattle.rules.specs.Rounding.{S, Le}
+use Rattle.rules.specs.declared.Direction.{Direction}
+use Rattle.rules.specs.declared.Direction.TheVariants.{Down, Up}
 use Rattle.rules.specs.Table.{odd, Way, Assignment, fits, fits_all, satisfies}
 use Rattle.rules.specs.Leaf.{step, chance_from, chance}
 use Rattle.rules.proofs.Sum.{expect, mass, Weights, sides, mass-never}
@@ -45,15 +47,15 @@ way-mass (w ∷ ws) k p q =
 
 -- ---- the low and the high chance
 
-step-bound : (d : Dir) (w : ℕ) (P Q : Bool) → P && Q ≡ false → (c : ℕ) → Le d (S * step d w P Q c) (c * factor w P Q)
+step-bound : (d : Direction) (w : ℕ) (P Q : Bool) → P && Q ≡ false → (c : ℕ) → Le d (S * step d w P Q c) (c * factor w P Q)
 step-bound d w true true e c = absurd (true≢false e)
 step-bound d w true false e c = over-bound d (c * w)
 step-bound d w false true e c = over-bound d (c * (S - w))
 step-bound d w false false e c = le-self d (omega arith)
 
-chain : (d : Dir) (x N c' P c f : ℕ) → Le d (x * N) (c' * P) → Le d (S * c') (c * f) → Le d (x * (N * S)) (c * (f * P))
-chain down x N c' P c f p q = omega (arith, mul-le-mul_right P q)
-chain up x N c' P c f p q = omega (arith, mul-le-mul_right P q)
+chain : (d : Direction) (x N c' P c f : ℕ) → Le d (x * N) (c' * P) → Le d (S * c') (c * f) → Le d (x * (N * S)) (c * (f * P))
+chain Down x N c' P c f p q = omega (arith, mul-le-mul_right P q)
+chain Up x N c' P c f p q = omega (arith, mul-le-mul_right P q)
 
 -- Words without a common bit have none in their lowest digit, nor in the rest.
 apart-digit : (p q : ℕ) → bit_and p q ≡ 0 → odd p && odd q ≡ false
@@ -69,7 +71,7 @@ apart-digit p q e = go (p % 2) (q % 2) (omega arith) (omega arith) (omega (arith
 apart-rest : (p q : ℕ) → bit_and p q ≡ 0 → bit_and (p / 2) (q / 2) ≡ 0
 apart-rest p q e = omega (arith, and_step p q, e)
 
-chance-bound : (d : Dir) (ws : List ℕ) (p q c : ℕ) → bit_and p q ≡ 0 → Le d (chance_from d ws p q c * S ^ length ws) (c * factors ws p q)
+chance-bound : (d : Direction) (ws : List ℕ) (p q c : ℕ) → bit_and p q ≡ 0 → Le d (chance_from d ws p q c * S ^ length ws) (c * factors ws p q)
 chance-bound d [] p q c e = le-self d refl
 chance-bound d (w ∷ ws) p q c e =
     rw pow-suc
@@ -79,6 +81,6 @@ chance-bound d (w ∷ ws) p q c e =
     (step-bound d w (odd p) (odd q) (apart-digit p q e) c))
 
 -- A way that names no fault in both senses: its low and its high chance bound its exact sum.
-pub way-bound : (d : Dir) (ws : List ℕ) → Weights ws → (v : Way) → bit_and v.present v.absent ≡ 0
+pub way-bound : (d : Direction) (ws : List ℕ) → Weights ws → (v : Way) → bit_and v.present v.absent ≡ 0
     → Le d (chance d ws v * S ^ length ws) (S * mass ws (satisfies v))
 way-bound d ws k v e = rw (way-mass ws k v.present v.absent) (chance-bound d ws v.present v.absent S e)

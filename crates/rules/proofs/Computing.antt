@@ -44,7 +44,7 @@ of-refusals = tt
 -- Calls: their numbers and answers.
 unfoldable pub of_calls : Unit {0}
 unfolding of-runs of-refusals Calls.step_to Calls.place_of Calls.leaf_named Calls.no_leaf Calls.of_leaf Calls.leaf_refusals Calls.hand_refusals Calls.run_refusals
-    Calls.hand_number Calls.run_number Calls.hand_makes Calls.run_makes Calls.figures Calls.answer_by Calls.run_answer_by
+    Calls.hand_number Calls.run_number Calls.hand_makes Calls.run_makes Calls.figures Refusals.answered
     Calls.open_answer Calls.hand_answer Calls.run_answer Calls.outcome
 of_calls = tt
 

@@ -4,7 +4,7 @@ use mathlib.Core.Path.{◌≡◌, refl, sym, ap, ◌∙◌, subst}
 use mathlib.Core.Bool.{Bool, true, false, not, ◌&&◌, true≢false}
 use mathlib.Core.List.{List, [], ◌∷◌, ◌++◌}
 use mathlib.Core.Option.{Option, none, some}
-use Prim.Native.Nat.{ℕ, zero, suc, ◌+◌, ◌-◌, ◌≤◌}
+use Prim.Native.Nat.{ℕ, zero, suc, ◌+◌, ◌-◌, ◌≤◌, ◌<◌}
 use native.Mathlib.Omega.{arith}
 use lib.ListN.{length, length-append}
 use borrow.Author.Tests.{not-false, le-ltb, lt-ltb}
@@ -14,14 +14,17 @@ use Rattle.rules.specs.Leaf.{is_open}
 use Rattle.rules.specs.Tree.{root_ways, left, right, Place, DTree, leaf, possible, low, high, inners, Refinement}
 use Rattle.rules.specs.Tree.{grow, tree, kind_at, leaf_ways, roomy, interval_at, acceptable, series_from, series}
 use Rattle.rules.specs.Run.{aim_of, picks, verdict}
-use Rattle.rules.specs.Refusals.{Refusal, refusal, first, table_refusals, table_number, way_refusals, limit_refusals, Accepted}
+use Rattle.rules.specs.Refusals.{Test, test, number, first, table_refusals, table_number, way_refusals, limit_refusals, Accepted}
 use Rattle.rules.specs.Calls.{step_to, place_of, place_bytes, leaf_named, no_leaf, of_leaf, leaf_refusals, hand_refusals, run_refusals, hand_number, run_number}
-use Rattle.rules.specs.Calls.{hand_makes, run_makes, figures, answer_by, run_answer_by, hand_answer, run_answer, makes_by, Call, by_hand, by_run, handed}
-use Rattle.rules.specs.Calls.{ran, reply, call_number, outcome, would_make, makes, noted_from, noted, outcomes_from, outcomes, reports}
+use Rattle.rules.specs.Calls.{hand_makes, run_makes, figures, ended, hand_answer, run_answer, makes_by, Call, by_hand, by_run}
+use Rattle.rules.specs.Calls.{reply, call_number, outcome, would_make, makes, noted_from, noted, outcomes_from, outcomes, reports}
 use Rattle.rules.specs.declared.Kind.{Kind}
 use Rattle.rules.specs.declared.Limits.{Limits}
+use Rattle.rules.specs.declared.Refusal.{Refusal}
 use Rattle.rules.proofs.Booleans.{and_both}
-use Rattle.rules.proofs.First.{none-applies, first-after, first-later, first-end}
+use Rattle.rules.specs.Answers.{answer_reply, run_reply}
+use Rattle.rules.proofs.First.{number-above, none-applies, first-after, first-later, first-end}
+use Rattle.rules.proofs.Answering.{by-number, answered-free}
 use Rattle.rules.proofs.Series.{Same, acceptable-found, grow-append, series-append, same-tree, series-inners, grown-inners}
 use Rattle.rules.proofs.Enclosure.{root-encloses, enclosing-order, end-le}
 use Rattle.rules.proofs.Levels.{refined-above}
@@ -32,19 +35,19 @@ use Rattle.rules.proofs.Narrowing.{NoWider, refined-within, grown-within}
 
 module _ (t : Table) (ok : Accepted t) where
   -- 9 to 13 do not apply, so a call's number is that of its own refusals.
-  table_passed : (xs : List Refusal) → first (table_refusals t ++ xs) ≡ first xs
+  table_passed : (xs : List Test) → first (table_refusals t ++ xs) ≡ first xs
   unfolding table_number table_refusals way_refusals
-  table_passed xs = first-after (table_refusals t) xs (none-applies (table_refusals t) refl ok)
+  table_passed xs = first-after (table_refusals t) xs (none-applies (table_refusals t) ok)
 
   pub hand-number : (s : DTree) (bs : List ℕ) (k : Kind) → hand_number t false s bs k ≡ first (leaf_refusals t s bs k (leaf_named t s bs))
   unfolding hand_number hand_refusals
   hand-number s bs k =
-      let rest : List Refusal = leaf_refusals t s bs k (leaf_named t s bs) in
-      table_passed (refusal 16 false ∷ rest) ∙ first-later (refusal 16 false) rest refl
+      let rest : List Test = leaf_refusals t s bs k (leaf_named t s bs) in
+      table_passed (test Refusal.NotGood false ∷ rest) ∙ first-later (test Refusal.NotGood false) rest refl
 
   pub run-number : (m : Limits) → run_number t false m ≡ first (limit_refusals m)
   unfolding run_number run_refusals first
-  run-number m = table_passed (limit_refusals m ++ refusal 16 false ∷ []) ∙ first-end (limit_refusals m) (refusal 16 false ∷ []) refl
+  run-number m = table_passed (limit_refusals m ++ test Refusal.NotGood false ∷ []) ∙ first-end (limit_refusals m) (test Refusal.NotGood false ∷ []) refl
 
 -- A hand refinement that none of 17 to 20 refuses is acceptable.
 leaf-acceptable : (t : Table) (s : DTree) (bs : List ℕ) (k : Kind) (p : Place) → place_of bs ≡ some p → first (leaf_refusals t s bs k (leaf_named t s bs)) ≡ 0
@@ -54,9 +57,9 @@ leaf-acceptable t s bs k p e h = by (leaf_ways p (root_ways t) s) (rw (e, leaf_n
   where
     by : (o : Option (List Way)) → first (leaf_refusals t s bs k o) ≡ 0
         → (elim o as (λ o. Bool) [ none ↦ false | some vs ↦ is_open t.weights vs && (roomy s && possible k vs) ]) ≡ true
-    by none h = absurd (true≢false (none-applies (leaf_refusals t s bs k none) refl h).0)
+    by none h = absurd (true≢false (none-applies (leaf_refusals t s bs k none) h).0)
     by (some vs) h =
-        let n = none-applies (leaf_refusals t s bs k (some vs)) refl h in
+        let n = none-applies (leaf_refusals t s bs k (some vs)) h in
         and_both (is_open t.weights vs) _ (not-false _ n.1.0) (and_both (roomy s) _ (not-false _ n.1.1.0) (not-false _ n.1.1.1.0))
 
 -- Bytes that name no place name no leaf, and 17 refuses that.
@@ -66,9 +69,9 @@ unnamed t s bs e = rw (e, leaf_named)
 
 no-leaf : (t : Table) (s : DTree) (bs : List ℕ) (k : Kind) (o : Option (List Way)) → o ≡ none → first (leaf_refusals t s bs k o) ≡ 0 → ⊥
 unfolding leaf_refusals no_leaf
-no-leaf t s bs k o e h = true≢false (none-applies (leaf_refusals t s bs k none) refl (rw e at h)).0
+no-leaf t s bs k o e h = true≢false (none-applies (leaf_refusals t s bs k none) (rw e at h)).0
 
-all-clear : first (refusal 17 false ∷ refusal 18 (not true) ∷ refusal 19 (not true) ∷ refusal 20 (not true) ∷ []) ≡ 0
+all-clear : first (test Refusal.NoLeaf false ∷ test Refusal.Closed (not true) ∷ test Refusal.Full (not true) ∷ test Refusal.Impossible (not true) ∷ []) ≡ 0
 unfolding first
 all-clear = refl
 
@@ -150,20 +153,22 @@ module _ (t : Table) (ok : Accepted t) where
   unfolding series_from
   noted_series cs = noted_from_series cs [] refl
 
+  -- A refused call makes nothing.
+  refused-makes : (ms : List Refinement) (r : Refusal) → 0 ≡ length (makes_by (number r) ms)
+  unfolding makes_by
+  refused-makes ms r = by (number r) (number-above r)
+    where
+      by : (n : ℕ) → 0 < n → 0 ≡ length (makes_by n ms)
+      by zero h = absurd (omega (arith, h))
+      by (suc n) h = refl
+
   -- Each call reports the number of refinements that it makes: 0 if it is refused.
   pub report_is : (s : DTree) (c : Call) → (reply (outcome t s c)).count ≡ length (makes t s c)
-  unfolding outcome hand_answer run_answer makes makes_by call_number would_make answer_by run_answer_by figures
-  report_is s (by_hand bs k) = by (hand_number t false s bs k)
-    where
-      by : (n : ℕ) → (reply (handed (answer_by n (figures t s (hand_makes bs k))))).count ≡ length (makes_by n (hand_makes bs k))
-      by zero = refl
-      by (suc n) = refl
-  report_is s (by_run m) = by (run_number t false m)
-    where
-      by : (n : ℕ) → (reply (ran (run_answer_by n (verdict t (aim_of m) m.budget s) (figures t s (run_makes t s m))))).count
-          ≡ length (makes_by n (run_makes t s m))
-      by zero = refl
-      by (suc n) = refl
+  unfolding outcome hand_answer run_answer makes makes_by call_number hand_number run_number would_make figures
+  report_is s (by_hand bs k) =
+      by-number (λ a. (answer_reply a).count) (λ n. length (makes_by n (hand_makes bs k))) (hand_refusals t false s bs k) _ refl (refused-makes (hand_makes bs k))
+  report_is s (by_run m) =
+      by-number (λ a. (run_reply a).count) (λ n. length (makes_by n (run_makes t s m))) (run_refusals t false m) _ refl (refused-makes (run_makes t s m))
 
   reports_from : (cs : List Call) (ns : List Refinement) → length ns + reports (outcomes_from t ns cs) ≡ length (noted_from t ns cs)
   unfolding reports outcomes_from noted_from
@@ -241,14 +246,16 @@ pub record HandsBack (t : Table) (s : DTree) (c : Call) : Type 0 where
 
 -- The interval of an accepted call is the one then at the root.
 accepted-low : (t : Table) (s : DTree) (c : Call) → call_number t s c ≡ 0 → (reply (outcome t s c)).low ≡ low t (grow s (makes t s c))
-unfolding outcome hand_answer run_answer makes makes_by call_number would_make answer_by run_answer_by figures
-accepted-low t s (by_hand bs k) e = rw e
-accepted-low t s (by_run m) e = rw e
+unfolding outcome hand_answer run_answer makes makes_by call_number hand_number run_number would_make figures
+accepted-low t s (by_hand bs k) e = rw (answered-free (hand_refusals t false s bs k) (figures t s (hand_makes bs k)) e, e) refl
+accepted-low t s (by_run m) e =
+    rw (answered-free (run_refusals t false m) (ended (verdict t (aim_of m) m.budget s) (figures t s (run_makes t s m))) e, e) refl
 
 accepted-high : (t : Table) (s : DTree) (c : Call) → call_number t s c ≡ 0 → (reply (outcome t s c)).high ≡ high t (grow s (makes t s c))
-unfolding outcome hand_answer run_answer makes makes_by call_number would_make answer_by run_answer_by figures
-accepted-high t s (by_hand bs k) e = rw e
-accepted-high t s (by_run m) e = rw e
+unfolding outcome hand_answer run_answer makes makes_by call_number hand_number run_number would_make figures
+accepted-high t s (by_hand bs k) e = rw (answered-free (hand_refusals t false s bs k) (figures t s (hand_makes bs k)) e, e) refl
+accepted-high t s (by_run m) e =
+    rw (answered-free (run_refusals t false m) (ended (verdict t (aim_of m) m.budget s) (figures t s (run_makes t s m))) e, e) refl
 
 pub hands-back : (t : Table) → Accepted t → (ns : List Refinement) → series t ns ≡ true → (c : Call) → call_number t (tree ns) c ≡ 0 → HandsBack t (tree ns) c
 unfolding high

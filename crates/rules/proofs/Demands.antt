@@ -9,7 +9,8 @@ use Prim.Native.Nat.{ℕ, suc, ◌+◌, ◌-◌, ◌*◌, ◌≤◌, ◌<◌}
 use native.Mathlib.Omega.{arith}
 use lib.ListN.{length, take}
 use lib.Dec.{eqb}
-use Rattle.rules.specs.Rounding.{Dir, over}
+use Rattle.rules.specs.Rounding.{over}
+use Rattle.rules.specs.declared.Direction.{Direction}
 use Rattle.rules.specs.Table.{bit, Way, Table, ways, Assignment, happens, Encloses}
 use Rattle.rules.specs.Leaf.{drop_all, is_open, Lean}
 use Rattle.rules.specs.Common.{shared, lowest}
@@ -94,7 +95,7 @@ pub record TakenOut (v : Way) (vs : List Way) : Type 0 where
   -- The ways happen where both children do.
   pub both : (a : Assignment) → happens (v ∷ vs) a ≡ happens (child IndependentAnd left (v ∷ vs)) a && happens (child IndependentAnd right (v ∷ vs)) a
   -- An end is the product of the children's, rounded outwards.
-  pub product : (d : Dir) (ws : List ℕ) (x y : ℕ) → combine IndependentAnd d ws x y ≡ over d (x * y)
+  pub product : (d : Direction) (ws : List ℕ) (x y : ℕ) → combine IndependentAnd d ws x y ≡ over d (x * y)
 
 pub taken_out : (v : Way) (vs : List Way) → names_both (v ∷ vs) ≡ false → TakenOut v vs
 unfolding possible child combine lowest drop_all is_open

@@ -4,7 +4,7 @@ use mathlib.Core.Path.{◌≡◌, refl, ap}
 use mathlib.Core.Bool.{Bool, true, false}
 use mathlib.Core.List.{List, [], ◌∷◌}
 use mathlib.Core.Logic.{◌↔◌}
-use mathlib.Core.Option.{none, some, some-injective}
+use mathlib.Core.Option.{none, some}
 use Prim.Native.Nat.{ℕ, zero, suc, ◌+◌, ◌-◌, ◌*◌, ◌/◌, ◌^◌, ◌≤◌, ◌<◌}
 use native.Mathlib.Nat.{mul-le-mul_right}
 use native.Mathlib.Omega.{arith}
@@ -17,12 +17,15 @@ use Rattle.rules.specs.Tree.{DTree, tree, low, high, roomy, Refinement, refine, 
 use Rattle.rules.specs.Run.{next, aim_of, narrow, Turn, stop, go, turn, picks, verdict, ran, figure}
 use Rattle.rules.specs.Refusals.{Accepted}
 use Rattle.rules.specs.Answers.{run_reply, run_verdict, run_figure}
-use Rattle.rules.specs.Calls.{run_number, run_answer, run_answer_by, run_makes, figures, by_run, call_number, outcome}
+use Rattle.rules.specs.Calls.{run_number, run_answer, run_refusals, ended, run_makes, figures, by_run, call_number, outcome}
 use Rattle.rules.specs.declared.Limits.{Limits}
 use Rattle.rules.specs.declared.Aim.{Aim}
 use Rattle.rules.specs.declared.Verdict.{Verdict}
 use Rattle.rules.specs.declared.Verdict.TheVariants.{Met, Done, Full, Spent}
-use Rattle.rules.specs.declared.RunAnswer.{RunAnswer}
+use Rattle.std.specs.Prelude.{Result, Some}
+use Rattle.rules.specs.declared.Ended.{Ended}
+use Rattle.rules.specs.declared.Refusal.{Refusal}
+use Rattle.rules.proofs.Answering.{Comes, accepts, refuses, comes, answered-free}
 use Rattle.rules.proofs.Enclosure.{enclosing-order}
 use Rattle.rules.proofs.Runs.{verdict-exactly}
 use Rattle.rules.proofs.Demand3.{HandsBack, hands-back}
@@ -68,33 +71,34 @@ near-met ws vs a lo hi e h =
 
 -- What the figure of a run's answer is, and what it is worth: it lies in the interval, and at met the exact chance of the table's ways is within the
 -- allowance of it.
-pub record FigureHanded (t : Table) (m : Limits) (a : RunAnswer) : Type 0 where
+pub record FigureHanded (t : Table) (m : Limits) (a : Result Ended Refusal) : Type 0 where
   pub is_middle : run_figure a ≡ (run_reply a).low + ((run_reply a).high - (run_reply a).low) / 2
   pub inside : ((run_reply a).low ≤ run_figure a) × (run_figure a ≤ (run_reply a).high)
-  pub near : run_verdict a ≡ some Met → Near t.weights (ways t) (run_figure a) m.allowance
+  pub near : run_verdict a ≡ Some Met → Near t.weights (ways t) (run_figure a) m.allowance
 
 -- So it is of every accepted run, on the tree of any series.
 pub figure-handed : (t : Table) → Accepted t → (ns : List Refinement) → series t ns ≡ true → (m : Limits) → run_number t false m ≡ 0
     → FigureHanded t m (run_answer t false (tree ns) m)
-unfolding call_number outcome run_answer run_answer_by run_makes figures figure
+unfolding call_number run_number outcome run_answer run_makes figures figure
 figure-handed t ok ns h m z =
     let back : HandsBack t (tree ns) (by_run m) = hands-back t ok ns h (by_run m) z in
     let narrow-if = (verdict-exactly t (aim_of m) m.budget (tree ns)).met.0 in
-    rw (z, run_answer)
+    let accepted = answered-free (run_refusals t false m) (ended (verdict t (aim_of m) m.budget (tree ns)) (figures t (tree ns) (run_makes t (tree ns) m))) z in
+    rw accepted
     record {
       is_middle = refl;
-      inside = figure-inside _ _ (rw (z, run_answer) at back.ordered);
-      near = λ e. near-met t.weights (ways t) (aim_of m) _ _ (rw (z, run_answer) at back.encloses) (narrow-if (some-injective _ _ e));
+      inside = figure-inside _ _ (rw accepted at back.ordered);
+      near = λ e. near-met t.weights (ways t) (aim_of m) _ _ (rw accepted at back.encloses) (narrow-if (cc e));
     }
 
 -- A refused run has the figure 0.
 pub no_figure : (t : Table) (m : Limits) (bad : Bool) (s : DTree) → (run_number t bad m ≡ 0 → ⊥) → run_figure (run_answer t bad s m) ≡ 0
-unfolding run_answer run_answer_by
-no_figure t m bad s f = by (run_number t bad m) refl
+unfolding run_answer run_number
+no_figure t m bad s f = split (comes (run_refusals t bad m) (ended (verdict t (aim_of m) m.budget s) (figures t s (run_makes t s m))))
   where
-    by : (n : ℕ) → run_number t bad m ≡ n → run_figure (run_answer_by n (verdict t (aim_of m) m.budget s) (figures t s (run_makes t s m))) ≡ 0
-    by zero e = absurd (f e)
-    by (suc n) e = refl
+    split : Comes (run_refusals t bad m) (ended (verdict t (aim_of m) m.budget s) (figures t s (run_makes t s m))) → run_figure (run_answer t bad s m) ≡ 0
+    split (accepts n e) = absurd (f n)
+    split (refuses r n e) = ap run_figure e
 
 -- ---- where a run stops
 

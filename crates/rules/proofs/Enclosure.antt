@@ -9,7 +9,9 @@ use native.Mathlib.Nat.{le_trans, le_of_mul-le-mul_right}
 use native.Mathlib.Omega.{arith}
 use lib.ListN.{length}
 use borrow.Author.Tests.{eqb-true}
-use Rattle.rules.specs.Rounding.{S, Dir, down, up, Le}
+use Rattle.rules.specs.Rounding.{S, Le}
+use Rattle.rules.specs.declared.Direction.{Direction}
+use Rattle.rules.specs.declared.Direction.TheVariants.{Down, Up}
 use Rattle.rules.specs.Table.{Way, Table, ways, faults, Assignment, fits_all, satisfies, happens, exact, Encloses}
 use Rattle.rules.specs.Leaf.{any, minimal, is_empty, leaf_end}
 use Rattle.rules.specs.Tree.{root_ways, left, right, Place, DTree, leaf, inner, child, end, low, high, Refinement}
@@ -29,7 +31,7 @@ use Rattle.rules.proofs.Minimal.{minimal-exact}
 -- ---- one end, over all trees
 
 -- A low or a high end bounds the exact sum on its side, whatever the tree.
-pub end-bound : (d : Dir) (ws : List ℕ) → Weights ws → (vs : List Way) → names_beyond (length ws) vs ≡ false → names_both vs ≡ false
+pub end-bound : (d : Direction) (ws : List ℕ) → Weights ws → (vs : List Way) → names_beyond (length ws) vs ≡ false → names_both vs ≡ false
     → (s : DTree) → Sound ws vs s → Le d (end d ws vs s * S ^ length ws) (S * mass ws (happens vs))
 unfolding end Sound
 end-bound d ws k vs f c leaf o = leaf-bound d ws k vs c
@@ -40,21 +42,21 @@ end-bound d ws k vs f c (inner j l r) o =
     (end-bound d ws k (child j right vs) (child-inside j (length ws) right vs f) (child-one-sense j right vs c) r o.3))
 
 -- A high end is at most S.
-pub end-le : (ws : List ℕ) (vs : List Way) (s : DTree) → end up ws vs s ≤ S
+pub end-le : (ws : List ℕ) (vs : List Way) (s : DTree) → end Up ws vs s ≤ S
 unfolding end
-end-le ws vs leaf = leaf-le up ws vs
-end-le ws vs (inner k l r) = least (leaf_end up ws vs) _ (leaf-le up ws vs)
+end-le ws vs leaf = leaf-le Up ws vs
+end-le ws vs (inner k l r) = least (leaf_end Up ws vs) _ (leaf-le Up ws vs)
   where
     least : (x y : ℕ) → x ≤ S → min x y ≤ S
     least x y h = omega arith
 
 -- The two ends enclose, and stand in order.
 pub tree-encloses : (ws : List ℕ) → Weights ws → (vs : List Way) → names_beyond (length ws) vs ≡ false → names_both vs ≡ false
-    → (s : DTree) → Sound ws vs s → Encloses ws vs (end down ws vs s) (end up ws vs s)
+    → (s : DTree) → Sound ws vs s → Encloses ws vs (end Down ws vs s) (end Up ws vs s)
 tree-encloses ws k vs f c s o =
     record {
-      below = rw (← mass-weigh ws (happens vs)) (end-bound down ws k vs f c s o);
-      above = rw (← mass-weigh ws (happens vs)) (end-bound up ws k vs f c s o);
+      below = rw (← mass-weigh ws (happens vs)) (end-bound Down ws k vs f c s o);
+      above = rw (← mass-weigh ws (happens vs)) (end-bound Up ws k vs f c s o);
     }
 
 -- Whatever encloses is in order.

@@ -14,7 +14,8 @@ use lib.ListN.{length, set, get_or}
 use lib.Dec.{eqb, leb}
 use lib.Bits.{bit_and, bit_or, or_zero_l, or_zero_r}
 use borrow.Author.Tests.{leb-false, lt-leb, eqb-false, eq-eqb, ne_eqb, not-true}
-use Rattle.rules.specs.Rounding.{S, Dir, Le}
+use Rattle.rules.specs.Rounding.{S, Le}
+use Rattle.rules.specs.declared.Direction.{Direction}
 use Rattle.rules.specs.Table.{bit, Way, faults, Assignment, happens}
 use Rattle.rules.specs.Leaf.{any, has_number, of_set, without, dropped, remaining, drop_all, sift, minimal, Lean, is_empty}
 use Rattle.rules.specs.Group.{group_faults, part, group, others, nonempty, fall_apart}
@@ -109,12 +110,12 @@ pub record Settled (n : ℕ) (vs : List Way) : Type 0 where
 -- The laws of a kind.
 pub record Laws (k : Kind) : Type 0 where
   -- Bounds on the exact sums of the children combine to a bound on the node's.
-  pub bound : (d : Dir) (ws : List ℕ) → Weights ws → (vs : List Way) → names_beyond (length ws) vs ≡ false → names_both vs ≡ false
+  pub bound : (d : Direction) (ws : List ℕ) → Weights ws → (vs : List Way) → names_beyond (length ws) vs ≡ false → names_both vs ≡ false
       → possible k vs ≡ true → (x y : ℕ)
       → Le d (x * S ^ length ws) (S * mass ws (happens (child k left vs))) → Le d (y * S ^ length ws) (S * mass ws (happens (child k right vs)))
       → Le d (combine k d ws x y * S ^ length ws) (S * mass ws (happens vs))
   -- No end moves outwards when those of the children do not.
-  pub monotone : (d : Dir) (ws : List ℕ) (x x' y y' : ℕ) → Le d x x' → Le d y y' → Le d (combine k d ws x y) (combine k d ws x' y')
+  pub monotone : (d : Direction) (ws : List ℕ) (x x' y y' : ℕ) → Le d x x' → Le d y y' → Le d (combine k d ws x y) (combine k d ws x' y')
   -- A stable test that no way of the node passes, no way of a child passes.
   pub keeps : (h : Way → Bool) → Stable h → (b : Side) (vs : List Way) → any h vs ≡ false → any h (child k b vs) ≡ false
   -- Some fault that occurs in a node of two ways or more, none of them empty, does not occur in a child. That the node is lean is needed for the common
@@ -150,7 +151,7 @@ two-some (v ∷ vs) l = refl
 -- ---- independent-or
 
 -- The group and the other ways share no fault, so they are independent events.
-group-bound : (d : Dir) (ws : List ℕ) → Weights ws → (vs : List Way) (x y : ℕ)
+group-bound : (d : Direction) (ws : List ℕ) → Weights ws → (vs : List Way) (x y : ℕ)
     → Le d (x * S ^ length ws) (S * mass ws (happens (group vs))) → Le d (y * S ^ length ws) (S * mass ws (happens (others vs)))
     → Le d (combine IndependentOr d ws x y * S ^ length ws) (S * mass ws (happens vs))
 unfolding combine
@@ -238,7 +239,7 @@ independent-or-laws =
 -- ---- independent-and
 
 -- The common part and the ways without it share no fault, so they are independent events.
-common-bound : (d : Dir) (ws : List ℕ) → Weights ws → (vs : List Way) → names_both vs ≡ false → (x y : ℕ)
+common-bound : (d : Direction) (ws : List ℕ) → Weights ws → (vs : List Way) → names_both vs ≡ false → (x y : ℕ)
     → Le d (x * S ^ length ws) (S * mass ws (happens (child IndependentAnd left vs)))
     → Le d (y * S ^ length ws) (S * mass ws (happens (child IndependentAnd right vs)))
     → Le d (combine IndependentAnd d ws x y * S ^ length ws) (S * mass ws (happens vs))
@@ -352,7 +353,7 @@ independent-and-laws =
 -- ---- Shannon expansion
 
 -- The exact sum is the weighted mean of those with the fault present and with it absent, and leaving ways out changes neither.
-fault-bound : (d : Dir) (ws : List ℕ) → Weights ws → (vs : List Way) (f : ℕ) → f < length ws → (x y : ℕ)
+fault-bound : (d : Direction) (ws : List ℕ) → Weights ws → (vs : List Way) (f : ℕ) → f < length ws → (x y : ℕ)
     → Le d (x * S ^ length ws) (S * mass ws (happens (minimal (remaining (2 ^ f) 0 vs))))
     → Le d (y * S ^ length ws) (S * mass ws (happens (minimal (remaining 0 (2 ^ f) vs))))
     → Le d (combine (Shannon f) d ws x y * S ^ length ws) (S * mass ws (happens vs))

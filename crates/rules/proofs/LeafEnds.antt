@@ -10,7 +10,9 @@ use native.Mathlib.Omega.{arith}
 use lib.ListN.{length}
 use lib.Bits.{bit_and}
 use borrow.Author.Tests.{eqb-true, not-false}
-use Rattle.rules.specs.Rounding.{S, Dir, down, up, Le}
+use Rattle.rules.specs.Rounding.{S, Le}
+use Rattle.rules.specs.declared.Direction.{Direction}
+use Rattle.rules.specs.declared.Direction.TheVariants.{Down, Up}
 use Rattle.rules.specs.Table.{bit, Way, faults, Assignment, satisfies, happens}
 use Rattle.rules.specs.Leaf.{any, chance, shares, shares_any, keep, kept, either, either_all, leaf_low, chances, leaf_high, leaf_end}
 use Rattle.rules.specs.Tree.{occurs}
@@ -36,11 +38,11 @@ both-tail v vs h = any-tail _ v vs h
 chances-bound : (ws : List ℕ) → Weights ws → (vs : List Way) → names_both vs ≡ false → S * mass ws (happens vs) ≤ chances ws vs * S ^ length ws
 chances-bound ws k [] c = rw mass-never (omega arith)
 chances-bound ws k (v ∷ vs) c =
-    omega (arith, mass-or ws (satisfies v) (happens vs), way-bound up ws k v (both-head v vs c), chances-bound ws k vs (both-tail v vs c))
+    omega (arith, mass-or ws (satisfies v) (happens vs), way-bound Up ws k v (both-head v vs c), chances-bound ws k vs (both-tail v vs c))
 
 high-bound : (ws : List ℕ) → Weights ws → (vs : List Way) → names_both vs ≡ false → S * mass ws (happens vs) ≤ leaf_high ws vs * S ^ length ws
 high-bound ws k vs c =
-    overlap-bound up S (chances ws vs) (S ^ length ws) (S * mass ws (happens vs)) (omega (arith, mass-not ws k (happens vs))) (chances-bound ws k vs c)
+    overlap-bound Up S (chances ws vs) (S ^ length ws) (S * mass ws (happens vs)) (omega (arith, mass-not ws k (happens vs))) (chances-bound ws k vs c)
 
 -- ---- the low end
 
@@ -62,14 +64,14 @@ kept-independent v us h i = go (bit i (faults v)) refl
 
 keep_one : (ws : List ℕ) → Weights ws → (v : Way) (before : List Way) (a : ℕ) → bit_and v.present v.absent ≡ 0 → shares_any v before ≡ false
     → a * S ^ length ws ≤ S * mass ws (happens before)
-    → either down a (chance down ws v) * S ^ length ws ≤ S * mass ws (happens (v ∷ before))
+    → either Down a (chance Down ws v) * S ^ length ws ≤ S * mass ws (happens (v ∷ before))
 keep_one ws k v before a c e h =
-    either-bound down a (chance down ws v) (S ^ length ws)
+    either-bound Down a (chance Down ws v) (S ^ length ws)
     (mass ws (happens before)) (mass ws (satisfies v)) (mass ws (happens (v ∷ before)))
     (mass ws (λ x. not (happens before x))) (mass ws (λ x. not (satisfies v x))) (mass ws (λ x. not (happens (v ∷ before) x)))
     (pow-S-pos (length ws)) (mass-not ws k (happens before)) (mass-not ws k (satisfies v)) (mass-not ws k (happens (v ∷ before)))
     (mass-neither ws k (satisfies v) (happens before) (kept-independent v before e) ∙ mul_comm _ _)
-    h (way-bound down ws k v c)
+    h (way-bound Down ws k v c)
 
 abbrev Implies : (Assignment → Bool) → (Assignment → Bool) → Type 0
 Implies F G = (a : Assignment) → F a ≡ true → G a ≡ true
@@ -85,7 +87,7 @@ keep-bound ws k F (v ∷ vs) before a c hv hk h = go (shares_any v before) refl
     (λ x. or_cases (satisfies v x) (happens before x) (λ t. hv x (or-first (satisfies v x) (happens vs x) t)) (hk x)))
   where
     a' : ℕ
-    a' = either down a (chance down ws v)
+    a' = either Down a (chance Down ws v)
 
     go : (b : Bool) → shares_any v before ≡ b → either_all ws (keep before vs) a * S ^ length ws ≤ S * mass ws F
         → (a' * S ^ length ws ≤ S * mass ws (happens (v ∷ before)) → either_all ws (keep (v ∷ before) vs) a' * S ^ length ws ≤ S * mass ws F)
@@ -97,17 +99,17 @@ low-bound : (ws : List ℕ) → Weights ws → (vs : List Way) → names_both vs
 low-bound ws k vs c = keep-bound ws k (happens vs) vs [] 0 c (λ x t. t) (λ x t. absurd (true≢false (sym t))) (omega arith)
 
 -- LEAF: both ends bound the exact sum of the leaf's ways.
-pub leaf-bound : (d : Dir) (ws : List ℕ) → Weights ws → (vs : List Way) → names_both vs ≡ false
+pub leaf-bound : (d : Direction) (ws : List ℕ) → Weights ws → (vs : List Way) → names_both vs ≡ false
     → Le d (leaf_end d ws vs * S ^ length ws) (S * mass ws (happens vs))
-leaf-bound down ws k vs c = low-bound ws k vs c
-leaf-bound up ws k vs c = high-bound ws k vs c
+leaf-bound Down ws k vs c = low-bound ws k vs c
+leaf-bound Up ws k vs c = high-bound ws k vs c
 
 -- ---- both ends are at most S
 
 either-all-le : (ws : List ℕ) (vs : List Way) (a : ℕ) → a ≤ S → either_all ws vs a ≤ S
 either-all-le ws [] a h = h
-either-all-le ws (v ∷ vs) a h = either-all-le ws vs (either down a (chance down ws v)) (omega arith)
+either-all-le ws (v ∷ vs) a h = either-all-le ws vs (either Down a (chance Down ws v)) (omega arith)
 
-pub leaf-le : (d : Dir) (ws : List ℕ) (vs : List Way) → leaf_end d ws vs ≤ S
-leaf-le down ws vs = either-all-le ws (kept vs) 0 (omega arith)
-leaf-le up ws vs = omega arith
+pub leaf-le : (d : Direction) (ws : List ℕ) (vs : List Way) → leaf_end d ws vs ≤ S
+leaf-le Down ws vs = either-all-le ws (kept vs) 0 (omega arith)
+leaf-le Up ws vs = omega arith

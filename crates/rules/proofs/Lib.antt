@@ -4,6 +4,7 @@ pub mod Members
 pub mod Booleans
 pub mod Bits
 pub mod First
+pub mod Answering
 pub mod Sum
 pub mod Rounding
 pub mod Chance

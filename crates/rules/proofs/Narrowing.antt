@@ -5,7 +5,9 @@ use mathlib.Core.List.{List, [], ◌∷◌}
 use mathlib.Core.Option.{some, some-injective, none-ne-some}
 use Prim.Native.Nat.{ℕ, ◌≤◌}
 use native.Mathlib.Omega.{arith}
-use Rattle.rules.specs.Rounding.{Dir, down, up, Le}
+use Rattle.rules.specs.Rounding.{Le}
+use Rattle.rules.specs.declared.Direction.{Direction}
+use Rattle.rules.specs.declared.Direction.TheVariants.{Down, Up}
 use Rattle.rules.specs.Table.{Way, Table}
 use Rattle.rules.specs.Leaf.{leaf_end}
 use Rattle.rules.specs.Tree.{root_ways, left, right, Place, DTree, leaf, inner, child, end, low, high, refine_at, Refinement}
@@ -33,12 +35,12 @@ refined-grows (right ∷ p) k (inner j l r) = inside j (grows_self l) (refined-g
 
 -- ---- neither end moves outwards
 
-leaf-loosest : (d : Dir) (ws : List ℕ) (vs : List Way) (s : DTree) → Le d (leaf_end d ws vs) (end d ws vs s)
+leaf-loosest : (d : Direction) (ws : List ℕ) (vs : List Way) (s : DTree) → Le d (leaf_end d ws vs) (end d ws vs s)
 unfolding end
 leaf-loosest d ws vs leaf = le-self d refl
 leaf-loosest d ws vs (inner k l r) = overlap-left d (leaf_end d ws vs) _
 
-pub narrows : (d : Dir) (ws : List ℕ) (vs : List Way) {s s' : DTree} → Grows s s' → Le d (end d ws vs s) (end d ws vs s')
+pub narrows : (d : Direction) (ws : List ℕ) (vs : List Way) {s s' : DTree} → Grows s s' → Le d (end d ws vs s) (end d ws vs s')
 unfolding end
 narrows d ws vs (from_leaf s) = leaf-loosest d ws vs s
 narrows d ws vs (inside k {l} {l'} {r} {r'} p q) =
@@ -60,7 +62,7 @@ grown-at ws [] x {s} {s'} g y e = (
   record { node = x; below = s' },
   refl,
   subst (λ (w : Subtree). Narrower ws w (record { node = x; below = s' })) (some-injective _ y e)
-      (record { same-node = refl; low_rises = narrows down ws x.ways g; high_falls = narrows up ws x.ways g }),
+      (record { same-node = refl; low_rises = narrows Down ws x.ways g; high_falls = narrows Up ws x.ways g }),
 )
 grown-at ws (b ∷ p) x (from_leaf s) y e = absurd (none-ne-some _ e)
 grown-at ws (left ∷ p) x (inside k g h) y e = grown-at ws p (child_node k left x) g y e
@@ -84,7 +86,7 @@ pub refined-within : (t : Table) (n : Refinement) (s : DTree) → NoWider t s (r
 unfolding low high
 refined-within t n s =
     let g = refined-grows n.place n.kind s in
-    record { low_rises = narrows down t.weights (root_ways t) g; high_falls = narrows up t.weights (root_ways t) g }
+    record { low_rises = narrows Down t.weights (root_ways t) g; high_falls = narrows Up t.weights (root_ways t) g }
 
 -- Any number of them.
 pub grown-within : (t : Table) (ns : List Refinement) (s : DTree) → NoWider t s (grow s ns)

@@ -19,8 +19,10 @@ use Rattle.rules.specs.Calls.{Call, by_hand, by_run, Outcome, handed, ran, open_
 use Rattle.rules.specs.Sheet.{Sheet, encode}
 use Rattle.rules.specs.Text.{bytes, text}
 use Rattle.rules.specs.declared.Limits.{Limits}
-use Rattle.rules.specs.declared.Answer.{Answer}
-use Rattle.rules.specs.declared.RunAnswer.{RunAnswer}
+use Rattle.std.specs.Prelude.{Result, Ok, Err}
+use Rattle.rules.specs.declared.Ended.{Ended}
+use Rattle.rules.specs.declared.Figures.{Figures}
+use Rattle.rules.specs.declared.Refusal.{Refusal}
 use Rattle.rules.specs.declared.Verdict.{Verdict}
 use Rattle.rules.specs.declared.Verdict.TheVariants.{Met, Done, Spent}
 use Rattle.rules.specs.declared.Kind.{Kind}
@@ -94,17 +96,17 @@ abbrev limits : ℕ → ℕ → Limits
 limits a b = record { allowance = a; budget = b }
 
 -- A run's answer: verdict, low, high, refinements made, figure.
-abbrev ended : Verdict → ℕ → ℕ → ℕ → ℕ → RunAnswer
-ended v l h n g = RunAnswer.Ended v (record { low = l; high = h; count = n }) g
+abbrev ended : Verdict → ℕ → ℕ → ℕ → ℕ → Result Ended Refusal
+ended v l h n g = Ok (record { verdict = v; figures = record { low = l; high = h; count = n }; figure = g })
 
 -- Each run with the answer that it is to give.
-abbrev runs : List (RunAnswer × RunAnswer)
+abbrev runs : List (Result Ended Refusal × Result Ended Refusal)
 runs =
     (run_answer p3 false leaf (limits 0 255), ended Done 111111110 111111111 0 111111110)
     ∷ (run_answer p3 false leaf (limits 1 255), ended Met 111111110 111111111 0 111111110)
-    ∷ (run_answer p3 false leaf (limits 1 256), RunAnswer.Refused 15)
-    ∷ (run_answer p3 false leaf (limits 1000000001 256), RunAnswer.Refused 14)
-    ∷ (run_answer p3 true leaf (limits 1 255), RunAnswer.Refused 16)
+    ∷ (run_answer p3 false leaf (limits 1 256), Err Refusal.BudgetAbove)
+    ∷ (run_answer p3 false leaf (limits 1000000001 256), Err Refusal.AllowanceAbove)
+    ∷ (run_answer p3 true leaf (limits 1 255), Err Refusal.NotGood)
     ∷ (run_answer p4 false leaf (limits 10000000 40), ended Met 300000000 300000000 2 300000000)
     ∷ (run_answer p4 false leaf (limits 10000000 1), ended Spent 300000000 350000000 1 325000000)
     ∷ []
@@ -124,7 +126,7 @@ runs-on-paper = (refl, (refl, (refl, (refl, (refl, (refl, (refl, tt)))))))
 -- root leaf is open, and what the call hands back.
 record Shown : Type 0 where
   staying : List ℕ
-  opening : Answer
+  opening : Result Figures Refusal
   opened : Bool
   back : Outcome
 
@@ -136,8 +138,8 @@ numbers (v ∷ vs) = v.number ∷ numbers vs
 abbrev shown : Table → Call → Shown
 shown t c = record { staying = numbers (root_ways t); opening = open_answer t; opened = is_open t.weights (root_ways t); back = outcome t leaf c }
 
-abbrev at : ℕ → ℕ → ℕ → Answer
-at l h n = Answer.Accepted (record { low = l; high = h; count = n })
+abbrev at : ℕ → ℕ → ℕ → Result Figures Refusal
+at l h n = Ok (record { low = l; high = h; count = n })
 
 -- A root leaf that is closed, and the run that finds it so.
 abbrev closed_root : List ℕ → ℕ → Shown
@@ -188,7 +190,7 @@ redundancies =
     -- A9: a fault that only the way left out names does not occur.
     ∷ (
       shown (table (500000000 ∷ 500000000 ∷ 500000000 ∷ []) (1 ∷ 2 ∷ 5 ∷ []) (0 ∷ 0 ∷ 0 ∷ [])) (by_hand_at_root (Shannon 2)),
-      open_root (0 ∷ 1 ∷ []) 750000000 (handed (Answer.Refused 20)),
+      open_root (0 ∷ 1 ∷ []) 750000000 (handed (Err Refusal.Impossible)),
     )
     -- A10: an empty way stays alone.
     ∷ (shown (table (500000000 ∷ 500000000 ∷ []) (1 ∷ 0 ∷ []) (0 ∷ 0 ∷ [])) run, closed_root (1 ∷ []) S)
@@ -205,7 +207,7 @@ abbrev p8 : Table
 p8 = table (333333333 ∷ 333333333 ∷ []) (1 ∷ 2 ∷ []) (0 ∷ 0 ∷ [])
 
 -- Each run on a fresh opening with the answer that it is to give.
-abbrev distances : List (RunAnswer × RunAnswer)
+abbrev distances : List (Result Ended Refusal × Result Ended Refusal)
 distances =
     -- C1, C2: an odd width is not halved away, and the figure is rounded down.
     (run_answer p3 false leaf (limits 0 255), ended Done 111111110 111111111 0 111111110)
@@ -222,7 +224,7 @@ distances =
     ∷ (run_answer p4 false leaf (limits 50000000 0), ended Met 250000000 350000000 0 300000000)
     -- C10, C11: 14 judges the allowance itself, not its double.
     ∷ (run_answer p4 false leaf (limits 1000000000 255), ended Met 250000000 350000000 0 300000000)
-    ∷ (run_answer p4 false leaf (limits 1000000001 255), RunAnswer.Refused 14)
+    ∷ (run_answer p4 false leaf (limits 1000000001 255), Err Refusal.AllowanceAbove)
     ∷ []
 
 -- C1 TO C11 HOLD.
@@ -242,7 +244,7 @@ record Held : Type 0 where
 -- What is stated of a table, of calls on its opened tree, and of some places then: what the opening answers, what each call hands back, what each
 -- place holds.
 record Worked : Type 0 where
-  opening : Answer
+  opening : Result Figures Refusal
   back : List Outcome
   then : List (Option Held)
 
@@ -266,8 +268,8 @@ answers l h os = record { opening = at l h 0; back = os; then = [] }
 abbrev take_out : Call
 take_out = by_hand_at_root IndependentAnd
 
-abbrev refused_by : ℕ → Outcome
-refused_by n = handed (Answer.Refused n)
+abbrev refused_by : Refusal → Outcome
+refused_by r = handed (Err r)
 
 abbrev way : ℕ → ℕ → Way
 way i present = record { number = i; present = present; absent = 0 }
@@ -318,7 +320,7 @@ commons =
     -- E7: the left child is closed; in the right child the common fault does not occur, and nothing is common.
     ∷ (
       worked p4 (take_out ∷ by_hand (0 ∷ []) (Shannon 0) ∷ by_hand (1 ∷ []) (Shannon 0) ∷ by_hand (1 ∷ []) IndependentAnd ∷ []) [],
-      answers quarter 350000000 (handed (at 300000000 350000000 1) ∷ refused_by 18 ∷ refused_by 20 ∷ refused_by 20 ∷ []),
+      answers quarter 350000000 (handed (at 300000000 350000000 1) ∷ refused_by Refusal.Closed ∷ refused_by Refusal.Impossible ∷ refused_by Refusal.Impossible ∷ []),
     )
     -- E8: once fault 1 is fixed below, fault 4 stays left out.
     ∷ (

@@ -7,13 +7,17 @@ use mathlib.Core.List.{List, [], ◌∷◌, ◌++◌, append_assoc}
 use Prim.Native.Nat.{ℕ, zero, suc, ◌+◌, ◌*◌, ◌≤◌, ◌<◌}
 use native.Mathlib.Omega.{arith}
 use lib.ListN.{length, take, drop, get_or, length-append}
+use lib.Dec.{ltb}
 use lib.Seq.{take_at, drop_at}
 use borrow.Author.Tests.{lt-ltb, le-ltb}
 use Rattle.rules.specs.Sheet.{AllBelow, Cue, Sheet, Lists, total, sheet_of, numbers_of, counts_of, lists_of}
 use Rattle.rules.specs.Sheet.{weights_start, bodies_start, starts, head_bytes, contents_bytes, weights_bytes, body_bytes, bodies_bytes, encode}
 use Rattle.rules.specs.Sheet.{faults_in, cues_in, numbers_in, counts_in, places_in, bodies_in, lists_in, decode}
-use Rattle.rules.specs.Sheet.{read_number, entry_in, entry_answer_by, entry_answer, body_in}
-use Rattle.rules.specs.declared.EntryAnswer.{EntryAnswer}
+use Rattle.rules.specs.Sheet.{read_refusals, read_number, entry_in, entry_if, entry_answer, body_in}
+use Rattle.std.specs.Prelude.{Some, None, Ok, Err}
+use Rattle.rules.specs.Refusals.{number}
+use Rattle.rules.specs.declared.Refusal.{Refusal}
+use Rattle.rules.proofs.Answering.{answered-free, answered-refused}
 use Rattle.rules.proofs.Bytes.{length-column}
 use Rattle.rules.proofs.Laid.{Paired, length-body, length-numbers}
 use Rattle.rules.proofs.Sheets.{encode-length, within_decoded, encode_decode, read_kept}
@@ -87,18 +91,21 @@ sheet-body s p bs e i d there = rw (← e) (body_at (sheet_front s) _ (front_len
 -- ---- the calls
 
 -- A refused sheet is refused with its own number at every position.
-pub refused-everywhere : (bs : List ℕ) (n : ℕ) → read_number bs ≡ suc n → (i : ℕ) → entry_answer bs i ≡ EntryAnswer.Refused (suc n)
-unfolding entry_answer entry_answer_by
-refused-everywhere bs n refused i = rw refused
+pub refused-everywhere : (bs : List ℕ) (n : ℕ) → read_number bs ≡ suc n
+    → (r : Refusal) × (number r ≡ suc n) × ((i : ℕ) → entry_answer bs i ≡ Err r)
+unfolding entry_answer read_number
+refused-everywhere bs n h = let back = answered-refused (read_refusals bs) n h in (back.0, back.1, λ i. back.2 _)
 
 -- At and past the last cue of an accepted sheet there is nothing to hand over.
-pub past-the-last : (bs : List ℕ) → read_number bs ≡ 0 → (i : ℕ) → cues_in bs ≤ i → entry_answer bs i ≡ EntryAnswer.Past
-unfolding entry_answer entry_answer_by
-past-the-last bs accepted i late = rw (accepted, le-ltb i (cues_in bs) late)
+pub past-the-last : (bs : List ℕ) → read_number bs ≡ 0 → (i : ℕ) → cues_in bs ≤ i → entry_answer bs i ≡ Ok None
+unfolding entry_answer read_number
+past-the-last bs accepted i late =
+    answered-free (read_refusals bs) (entry_if (ltb i (cues_in bs)) (entry_in bs i)) accepted
+    ∙ ap (λ b. Ok (entry_if b (entry_in bs i))) (le-ltb i (cues_in bs) late)
 
 -- The call at position i hands over the cue c: its number and ways, the place that the contents state, and at that place its own bytes.
 pub record HandsOver (bs : List ℕ) (i : ℕ) (c : Cue) : Type 0 where
-  pub answer : entry_answer bs i ≡ EntryAnswer.Cue (entry_in bs i)
+  pub answer : entry_answer bs i ≡ Ok (Some (entry_in bs i))
   pub cue : (entry_in bs i).cue ≡ c.number
   pub ways : (entry_in bs i).ways ≡ length c.present
   pub place : get_or (places_in bs) i 0 ≡ (entry_in bs i).start
@@ -130,13 +137,15 @@ module _ (bs : List ℕ) (h : AllBelow 256 bs) (accepted : read_number bs ≡ 0)
 
   -- A READER'S CALL before the last hands over the cue at its position, whatever `get_or` would give behind the last.
   pub hands_over : (i : ℕ) (d : Cue) → i < cues_in bs → HandsOver bs i (get_or (decode bs).cues i d)
-  unfolding entry_answer entry_answer_by entry_in body_in
+  unfolding entry_answer read_number entry_in body_in
   hands_over i d there =
       let s = decode bs in
       let inside : i < length s.cues = rw cues_decoded there in
       let ways = ap (λ (ks : List ℕ). get_or ks i 0) counts_decoded ∙ count_at s.cues i d inside in
       record {
-        answer = rw (accepted, lt-ltb i (cues_in bs) there);
+        answer =
+            answered-free (read_refusals bs) (entry_if (ltb i (cues_in bs)) (entry_in bs i)) accepted
+            ∙ ap (λ b. Ok (entry_if b (entry_in bs i))) (lt-ltb i (cues_in bs) there);
         cue = ap (λ (ns : List ℕ). get_or ns i 0) numbers_decoded ∙ number_at s.cues i d inside;
         ways = ways;
         place = ap (λ (is : List ℕ). get_or is i 0) places_settled;

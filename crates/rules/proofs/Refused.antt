@@ -9,7 +9,7 @@ use lib.Dec.{eqb}
 use Rattle.rules.specs.Rounding.{S}
 use Rattle.rules.specs.Table.{Table, table}
 use Rattle.rules.specs.Tree.{DTree}
-use Rattle.rules.specs.Refusals.{Refusal, way_refusals, limit_refusals, table_refusals, table_number}
+use Rattle.rules.specs.Refusals.{Test, number, way_refusals, limit_refusals, table_refusals, table_number}
 use Rattle.rules.specs.Calls.{leaf_refusals, hand_refusals, run_refusals}
 use Rattle.rules.specs.Sheet.{Lists, little, encode, read_refusals, read_number, lists_refusals, write_refusals, write_number}
 use Rattle.rules.specs.declared.Kind.{Kind}
@@ -20,9 +20,9 @@ use Rattle.rules.proofs.Paper.{show}
 -- ---- the refusals that each call tries, in order (RULES 8.3)
 
 -- The numbers of a list of refusals.
-abbrev pub numbers_tried : List Refusal → List ℕ
+abbrev pub numbers_tried : List Test → List ℕ
 numbers_tried [] = []
-numbers_tried (x ∷ xs) = x.number ∷ numbers_tried xs
+numbers_tried (x ∷ xs) = number x.refusal ∷ numbers_tried xs
 
 pub reading-concerns : (bs : List ℕ) → numbers_tried (read_refusals bs) ≡ 1 ∷ 2 ∷ 3 ∷ 4 ∷ 5 ∷ 6 ∷ 7 ∷ 8 ∷ 10 ∷ 12 ∷ 13 ∷ 14 ∷ 15 ∷ []
 unfolding read_refusals way_refusals limit_refusals

@@ -8,7 +8,7 @@ use native.Mathlib.Omega.{arith}
 use lib.ListN.{length, set}
 use lib.Dec.{eqb, eqb-zero-suc}
 use lib.Bits.{bit_and, bit_or, and_zero_r, or_comm, or_zero_l, or_zero_r}
-use borrow.Author.Tests.{eqb-true, eq-eqb}
+use borrow.Author.Tests.{eqb-true, eq-eqb, not-false}
 use Rattle.rules.specs.Table.{odd, bit, Way, faults, Assignment, fits, fits_all, satisfies, happens}
 use Rattle.rules.specs.Leaf.{any, contradicted, without, dropped, remaining, drop_all}
 use Rattle.rules.specs.Tree.{occurs}
@@ -170,20 +170,17 @@ fix-absent f =
 
 -- ---- fixing more faults
 
-meets-either : (x y : ℕ) → not (eqb (bit_or x y) 0) ≡ not (eqb x 0) || not (eqb y 0)
-meets-either x y = go (eqb x 0) refl (eqb y 0) refl
+-- Either of two words has a bit just if both together have one.
+pub nonzero-or : (x y : ℕ) → not (eqb (bit_or x y) 0) ≡ not (eqb x 0) || not (eqb y 0)
+nonzero-or x y = go (eqb x 0) refl (eqb y 0) refl
   where
     go : (b : Bool) → eqb x 0 ≡ b → (c : Bool) → eqb y 0 ≡ c → not (eqb (bit_or x y) 0) ≡ not b || not c
     go true e true d = ap (λ (k : ℕ). not (eqb k 0)) (ap₂ bit_or (eqb-true x 0 e) (eqb-true y 0 d))
     go true e false d = ap (λ (k : ℕ). not (eqb k 0)) (ap (λ (k : ℕ). bit_or k y) (eqb-true x 0 e) ∙ or_zero_l y) ∙ ap not d
     go false e c d = is_true _ (λ z. true≢false (sym (eq-eqb x 0 (none z)) ∙ e))
       where
-        zero_test : (b : Bool) → not b ≡ false → b ≡ true
-        zero_test true h = refl
-        zero_test false h = sym h
-
         none : not (eqb (bit_or x y) 0) ≡ false → x ≡ 0
-        none z = (or-zero x y (eqb-true (bit_or x y) 0 (zero_test (eqb (bit_or x y) 0) z))).0
+        none z = (or-zero x y (eqb-true (bit_or x y) 0 (not-false (eqb (bit_or x y) 0) z))).0
 
 -- The faults by which fixed faults contradict a way.
 abbrev clash : ℕ → ℕ → Way → ℕ
@@ -192,7 +189,7 @@ clash P A v = bit_or (bit_and v.present A) (bit_and v.absent P)
 contradicted-join : (P A P' A' : ℕ) (v : Way) → contradicted (bit_or P P') (bit_or A A') v ≡ contradicted P A v || contradicted P' A' v
 contradicted-join P A P' A' v =
     ap (λ (k : ℕ). not (eqb k 0)) (bits-ext (clash (bit_or P P') (bit_or A A') v) (bit_or (clash P A v) (clash P' A' v)) at)
-    ∙ meets-either (clash P A v) (clash P' A' v)
+    ∙ nonzero-or (clash P A v) (clash P' A' v)
   where
     shuffle : (p q a a' b b' : Bool) → (p && (a || a')) || (q && (b || b')) ≡ ((p && a) || (q && b)) || ((p && a') || (q && b'))
     shuffle true q true a' b b' = refl

@@ -10,10 +10,12 @@ use lib.ListN.{length, take, drop, length-append, length-drop}
 use lib.Seq.{take-append_seam, drop-append_seam}
 use lib.Dec.{ltb}
 use borrow.Author.Tests.{ltb-false, le-ltb}
-use Rattle.rules.specs.Refusals.{Refusal, refusal, first, way_refusals, limit_refusals}
+use Rattle.rules.specs.Refusals.{Test, test, first, way_refusals, limit_refusals}
 use Rattle.rules.specs.Sheet.{AllBelow, Sheet, Lists, sheet_of, lists_of, encode, lists_in, decode, read_number, lists_refusals}
-use Rattle.rules.specs.Sheet.{write_refusals, write_number, write_answer_by, write_answer, written_by, written, Within}
-use Rattle.rules.specs.declared.WriteAnswer.{WriteAnswer}
+use Rattle.rules.specs.Sheet.{write_refusals, write_number, write_answer, written_by, written, Within}
+use Rattle.std.specs.Prelude.{Ok}
+use Rattle.rules.specs.declared.Refusal.{Refusal}
+use Rattle.rules.proofs.Answering.{answered-free}
 use Rattle.rules.proofs.First.{NoneApplies, none-applies, first-none, first-later, first-after, first-before}
 use Rattle.rules.proofs.WithinLimits.{within-tested}
 use Rattle.rules.proofs.Sheets.{sheet-lists, lists-sheet, accepts_encoded, within_decoded, encode_decode, lists_encode}
@@ -27,15 +29,15 @@ bytes_of x = encode (sheet_of x)
 -- Lists that the writer keeps meet none of their refusals.
 lists-free : (x : Lists) → first (lists_refusals x) ≡ 0 → NoneApplies (lists_refusals x)
 unfolding lists_refusals way_refusals limit_refusals
-lists-free x h = none-applies (lists_refusals x) refl h
+lists-free x h = none-applies (lists_refusals x) h
 
 -- Accepted: the writer keeps the lists, and the space is long enough.
 pub write_kept : (x : Lists) (n : ℕ) → write_number x n ≡ 0 → (first (lists_refusals x) ≡ 0) × (length (bytes_of x) ≤ n)
 unfolding write_number write_refusals
-write_kept x n h = (kept, ltb-false n (length (bytes_of x)) (none-applies last refl (sym (first-after (lists_refusals x) last (lists-free x kept)) ∙ h)).0)
+write_kept x n h = (kept, ltb-false n (length (bytes_of x)) (none-applies last (sym (first-after (lists_refusals x) last (lists-free x kept)) ∙ h)).0)
   where
-    last : List Refusal
-    last = refusal 22 (ltb n (length (bytes_of x))) ∷ []
+    last : List Test
+    last = test Refusal.NoRoom (ltb n (length (bytes_of x))) ∷ []
 
     split : (m : ℕ) → first (lists_refusals x) ≡ m → first (lists_refusals x) ≡ 0
     split zero e = e
@@ -96,17 +98,17 @@ written-length x space = split (write_number x (length space)) refl
 
 -- The call puts these bytes into the space: the answer is their count, they stand at the front, and what lies behind them is as before.
 pub record Put (x : Lists) (bs space : List ℕ) : Type 0 where
-  pub answer : write_answer x (length space) ≡ WriteAnswer.Written (length bs)
+  pub answer : write_answer x (length space) ≡ Ok (length bs)
   pub front : take (length bs) (written x space) ≡ bs
   pub behind : drop (length bs) (written x space) ≡ drop (length bs) space
 
 -- Every accepted call puts the bytes that its lists give.
 pub accepted-put : (x : Lists) (space : List ℕ) → write_number x (length space) ≡ 0 → Put x (bytes_of x) space
-unfolding write_answer write_answer_by
+unfolding write_answer write_number
 accepted-put x space h =
     let out = written-accepted x space h in
     record {
-      answer = rw h;
+      answer = answered-free (write_refusals x (length space)) (length (bytes_of x)) h;
       front = ap (take (length (bytes_of x))) out ∙ take-append_seam (bytes_of x) (drop (length (bytes_of x)) space);
       behind = ap (drop (length (bytes_of x))) out ∙ drop-append_seam (bytes_of x) (drop (length (bytes_of x)) space);
     }

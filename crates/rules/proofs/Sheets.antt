@@ -12,7 +12,8 @@ use lib.ListN.{length, take, drop, replicate, length-drop, take-append-drop}
 use lib.Seq.{length-take-le, take-append_seam, drop-append_seam, take_at, drop_at, take_all}
 use lib.Dec.{eqb, ltb}
 use borrow.Author.Tests.{ltb-false, le-ltb, eqb-true, eq-eqb, ne_eqb, not-false}
-use Rattle.rules.specs.Refusals.{Refusal, refusal, first, faults_outside, cues_outside, not_rising, crowded, way_refusals, limit_refusals}
+use Rattle.rules.specs.Refusals.{Test, test, first, faults_outside, cues_outside, not_rising, crowded, way_refusals, limit_refusals}
+use Rattle.rules.specs.declared.Refusal.{Refusal}
 use Rattle.rules.specs.Sheet.{AllBelow, Cue, Sheet, Lists, total, deal, sheet_of, numbers_of, counts_of, present_of, absent_of, lists_of}
 use Rattle.rules.specs.Sheet.{weights_start, bodies_start, starts, head_bytes, contents_bytes, weights_bytes, body_bytes, bodies_bytes, encode}
 use Rattle.rules.specs.Sheet.{faults_in, cues_in, zero_in, numbers_in, counts_in, places_in, bodies_in, lists_in, decode}
@@ -91,6 +92,11 @@ module _ (x : Lists) (a : Agree x) where
         absent = dealt.absent i;
       }
 
+  -- The bytes of that sheet are those that the lists give.
+  pub encode-given : encode (sheet_of x) ≡ laid_out x
+  unfolding sheet_of
+  encode-given = encode-layout (sheet_of x) dealt.paired ∙ ap laid_out lists_given
+
 -- Lists that the writer keeps are those of the sheet that they give, and that sheet is within the limits.
 pub lists-sheet : (x : Lists) → AllBelow 65536 x.numbers → first (lists_refusals x) ≡ 0 → (lists_of (sheet_of x) ≡ x) × Within (sheet_of x)
 unfolding sheet_of lists_of
@@ -133,7 +139,7 @@ found-agree bs =
 pub read_kept : (bs : List ℕ) → read_number bs ≡ 0 → Kept (lists_in bs) × Settled bs
 unfolding read_number read_refusals way_refusals limit_refusals lists_in
 read_kept bs h =
-    let n = none-applies (read_refusals bs) refl h in
+    let n = none-applies (read_refusals bs) h in
     let two = or_split (faults_outside (faults_in bs)) _ n.1.0 in
     let rest = n.1.1.1.1 in
     let faults = length-column 4 4 (weights_start (cues_in bs)) (faults_in bs) bs in (
@@ -325,14 +331,14 @@ attained = (
 -- ---- bytes behind the longest sheet
 
 -- The refusals that bytes longer than every sheet can meet: 2, 3, 5, 6 or 7, else 8.
-front_refusals : List ℕ → List Refusal
+front_refusals : List ℕ → List Test
 front_refusals bs =
-    refusal 2 (faults_outside (faults_in bs) || cues_outside (cues_in bs))
-    ∷ refusal 3 (ltb 0 (zero_in bs))
-    ∷ refusal 5 (not_rising (numbers_in bs))
-    ∷ refusal 6 (crowded (counts_in bs))
-    ∷ refusal 7 (not (same_numbers (places_in bs) (starts (bodies_in bs) (counts_in bs))))
-    ∷ refusal 8 true
+    test Refusal.CountsOutside (faults_outside (faults_in bs) || cues_outside (cues_in bs))
+    ∷ test Refusal.TailUsed (ltb 0 (zero_in bs))
+    ∷ test Refusal.NotRising (not_rising (numbers_in bs))
+    ∷ test Refusal.Crowded (crowded (counts_in bs))
+    ∷ test Refusal.Misplaced (not (same_numbers (places_in bs) (starts (bodies_in bs) (counts_in bs))))
+    ∷ test Refusal.WrongLength true
     ∷ []
 
 -- Where 2 does not apply the weights end early, and where 6 does not either, so does the last body.
@@ -368,7 +374,7 @@ too_long bs long =
     first-later _ _ (le-ltb (length bs) (bodies_in bs) (omega (arith, bodies_early bs two)))
     ∙ first-same _ _ _ (λ five.
     first-same _ _ _ (λ six.
-    first-same _ _ _ (λ seven. first-here _ _ (ends_elsewhere bs two six long) ∙ sym (first-here (refusal 8 true) [] refl))))))
+    first-same _ _ _ (λ seven. first-here _ _ (ends_elsewhere bs two six long) ∙ sym (first-here (test Refusal.WrongLength true) [] refl))))))
 
 -- Those refusals look at the first 208 bytes only.
 front-take : (m : ℕ) (bs : List ℕ) → 208 ≤ m → first (front_refusals (take m bs)) ≡ first (front_refusals bs)

@@ -1,6 +1,6 @@
 -- Lists that the writer does not refuse, and what its tests say of them: they agree in length, fit the fields and end at byte 49612 or before.
 -- Rests on First.antt and Accepted.antt for the refusals and on Laid.antt for what laying out asks of lists.
-use mathlib.Core.Path.{◌≡◌, refl, sym, ap, ◌∙◌}
+use mathlib.Core.Path.{◌≡◌, sym, ap, ◌∙◌}
 use mathlib.Core.Bool.{false, not, ◌||◌}
 use mathlib.Core.List.{List, [], ◌∷◌}
 use Prim.Native.Nat.{ℕ, suc, ◌+◌, ◌*◌, ◌^◌, ◌≤◌}
@@ -41,7 +41,7 @@ pub record Kept (x : Lists) : Type 0 where
 pub lists_kept : (x : Lists) → first (lists_refusals x) ≡ 0 → Kept x
 unfolding lists_refusals way_refusals limit_refusals
 lists_kept x h =
-    let n = none-applies (lists_refusals x) refl h in
+    let n = none-applies (lists_refusals x) h in
     let two = or_split (faults_outside (length x.weights)) _ n.0 in
     let lists = or_split (cues_outside (length x.numbers)) _ two.1 in
     record {

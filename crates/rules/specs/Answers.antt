@@ -1,16 +1,21 @@
 -- What each case of each answer says: number, low, high and count (RULES 8.4, 8.6), and a run's verdict and figure.
 -- Every contract speaks of its answer through these definitions.
-use Rattle.std.proofs.Math.Option.{Option, none, some}
-use Rattle.std.specs.Prelude.{ℕ, zero, suc}
+use Rattle.std.specs.Prelude.{ℕ, zero, suc, Option, Some, None, Result, Ok, Err}
 use Rattle.rules.specs.Rounding.{S}
 use Rattle.rules.specs.declared.Verdict.{Verdict}
 use Rattle.rules.specs.declared.Figures.{Figures}
+use Rattle.rules.specs.declared.Ended.{Ended}
 use Rattle.rules.specs.declared.Entry.{Entry}
-use Rattle.rules.specs.declared.Answer.{Answer}
-use Rattle.rules.specs.declared.RunAnswer.{RunAnswer}
-use Rattle.rules.specs.declared.ReadAnswer.{ReadAnswer}
-use Rattle.rules.specs.declared.EntryAnswer.{EntryAnswer}
-use Rattle.rules.specs.declared.WriteAnswer.{WriteAnswer}
+use Rattle.rules.specs.declared.Head.{Head}
+use Rattle.rules.specs.declared.Refusal.{Refusal}
+use Rattle.rules.specs.Refusals.{number}
+
+-- The number of a verdict (RULES 8.9).
+abbrev pub verdict_number : Verdict → ℕ
+verdict_number Verdict.Met = 1
+verdict_number Verdict.Done = 2
+verdict_number Verdict.Full = 3
+verdict_number Verdict.Spent = 4
 
 -- What every call hands back: the number (0 if accepted), an interval, and a count.
 pub record Reply : Type 0 where
@@ -37,49 +42,48 @@ counted_by zero k = counted k
 counted_by (suc n) k = refused (suc n)
 
 -- An opening or a hand refinement.
-abbrev pub answer_reply : Answer → Reply
-answer_reply (Answer.Accepted f) = accepted f
-answer_reply (Answer.Refused n) = refused n
+abbrev pub answer_reply : Result Figures Refusal → Reply
+answer_reply (Ok f) = accepted f
+answer_reply (Err r) = refused (number r)
 
 -- A run.
-abbrev pub run_reply : RunAnswer → Reply
-run_reply (RunAnswer.Ended v f g) = accepted f
-run_reply (RunAnswer.Refused n) = refused n
+abbrev pub run_reply : Result Ended Refusal → Reply
+run_reply (Ok e) = accepted e.figures
+run_reply (Err r) = refused (number r)
 
 -- A run's verdict; a refused run has none.
-abbrev pub run_verdict : RunAnswer → Option Verdict
-run_verdict (RunAnswer.Ended v f g) = some v
-run_verdict (RunAnswer.Refused n) = none
+abbrev pub run_verdict : Result Ended Refusal → Option Verdict
+run_verdict (Ok e) = Some e.verdict
+run_verdict (Err r) = None
 
 -- A run's figure; a refused run has 0.
-abbrev pub run_figure : RunAnswer → ℕ
-run_figure (RunAnswer.Ended v f g) = g
-run_figure (RunAnswer.Refused n) = 0
+abbrev pub run_figure : Result Ended Refusal → ℕ
+run_figure (Ok e) = e.figure
+run_figure (Err r) = 0
 
 -- Reading a whole sheet: accepted, the count is 0.
-abbrev pub read_reply : ReadAnswer → Reply
-read_reply (ReadAnswer.Sheet h) = counted 0
-read_reply (ReadAnswer.Refused n) = refused n
+abbrev pub read_reply : Result Head Refusal → Reply
+read_reply (Ok h) = counted 0
+read_reply (Err r) = refused (number r)
 
 -- A reader's call: the number is 0 for a cue and past the last.
-abbrev pub entry_reply : EntryAnswer → Reply
-entry_reply (EntryAnswer.Cue e) = counted 0
-entry_reply EntryAnswer.Past = counted 0
-entry_reply (EntryAnswer.Refused n) = refused n
+abbrev pub entry_reply : Result (Option Entry) Refusal → Reply
+entry_reply (Ok o) = counted 0
+entry_reply (Err r) = refused (number r)
 
 -- The cue that a reader's call hands over: refused or past the last, cue 0 with 0 ways.
-abbrev pub handed_over : EntryAnswer → Entry
-handed_over (EntryAnswer.Cue e) = e
-handed_over EntryAnswer.Past = record { cue = 0; ways = 0; start = 0 }
-handed_over (EntryAnswer.Refused n) = record { cue = 0; ways = 0; start = 0 }
+abbrev pub handed_over : Result (Option Entry) Refusal → Entry
+handed_over (Ok (Some e)) = e
+handed_over (Ok None) = record { cue = 0; ways = 0; start = 0 }
+handed_over (Err r) = record { cue = 0; ways = 0; start = 0 }
 
 -- The reader's place after a call at place i: one further for a cue, else kept.
-abbrev pub place_after : ℕ → EntryAnswer → ℕ
-place_after i (EntryAnswer.Cue e) = suc i
-place_after i EntryAnswer.Past = i
-place_after i (EntryAnswer.Refused n) = i
+abbrev pub place_after : ℕ → Result (Option Entry) Refusal → ℕ
+place_after i (Ok (Some e)) = suc i
+place_after i (Ok None) = i
+place_after i (Err r) = i
 
 -- The writer: the count is the bytes written.
-abbrev pub write_reply : WriteAnswer → Reply
-write_reply (WriteAnswer.Written n) = counted n
-write_reply (WriteAnswer.Refused n) = refused n
+abbrev pub write_reply : Result ℕ Refusal → Reply
+write_reply (Ok n) = counted n
+write_reply (Err r) = refused (number r)

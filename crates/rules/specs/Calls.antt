@@ -1,19 +1,19 @@
 -- The calls on a tree: opening, hand refinement and run, and whole lists of calls (RULES 5, 8).
 -- Everything is worked out from the table, the series of refinements made so far and the call's arguments; nothing is read off records.
-use Rattle.std.specs.Prelude.{Bool, true, false, not, List, [], ◌∷◌, ◌++◌, ℕ, zero, suc, ◌+◌, length, eqb, ltb}
+use Rattle.std.specs.Prelude.{Result, Bool, true, false, not, List, [], ◌∷◌, ◌++◌, ℕ, zero, suc, ◌+◌, length, eqb, ltb}
 use Rattle.std.proofs.Math.Option.{Option, none, some}
 use Rattle.rules.specs.Table.{Way, Table}
 use Rattle.rules.specs.Leaf.{is_open}
 use Rattle.rules.specs.Tree.{Side, left, right, Place, DTree, leaf, possible, root_ways, low, high, roomy, Refinement, grow, tree, leaf_ways}
 use Rattle.rules.specs.Run.{aim_of, picks, verdict, figure}
-use Rattle.rules.specs.Refusals.{Refusal, refusal, first, table_refusals, table_number, limit_refusals}
+use Rattle.rules.specs.Refusals.{Test, test, first, answered, table_refusals, limit_refusals}
 use Rattle.rules.specs.Answers.{Reply, answer_reply, run_reply}
 use Rattle.rules.specs.declared.Kind.{Kind}
 use Rattle.rules.specs.declared.Verdict.{Verdict}
 use Rattle.rules.specs.declared.Limits.{Limits}
 use Rattle.rules.specs.declared.Figures.{Figures}
-use Rattle.rules.specs.declared.Answer.{Answer}
-use Rattle.rules.specs.declared.RunAnswer.{RunAnswer}
+use Rattle.rules.specs.declared.Ended.{Ended}
+use Rattle.rules.specs.declared.Refusal.{Refusal}
 
 -- ---- a place as it is handed over
 
@@ -56,21 +56,21 @@ of_leaf f none = false
 of_leaf f (some vs) = f vs
 
 -- 17 to 20, of the leaf that the bytes name in this tree.
-unfoldable pub leaf_refusals : Table → DTree → List ℕ → Kind → Option (List Way) → List Refusal
+unfoldable pub leaf_refusals : Table → DTree → List ℕ → Kind → Option (List Way) → List Test
 leaf_refusals t s bs k o =
-    refusal 17 (no_leaf bs o)
-    ∷ refusal 18 (of_leaf (λ vs. not (is_open t.weights vs)) o)
-    ∷ refusal 19 (not (roomy s))
-    ∷ refusal 20 (of_leaf (λ vs. not (possible k vs)) o)
+    test Refusal.NoLeaf (no_leaf bs o)
+    ∷ test Refusal.Closed (of_leaf (λ vs. not (is_open t.weights vs)) o)
+    ∷ test Refusal.Full (not (roomy s))
+    ∷ test Refusal.Impossible (of_leaf (λ vs. not (possible k vs)) o)
     ∷ []
 
 -- Refining by hand: 9 to 13, then 16 to 20. `bad` says that the tree is not good for this table (16).
-unfoldable pub hand_refusals : Table → Bool → DTree → List ℕ → Kind → List Refusal
-hand_refusals t bad s bs k = table_refusals t ++ (refusal 16 bad ∷ leaf_refusals t s bs k (leaf_named t s bs))
+unfoldable pub hand_refusals : Table → Bool → DTree → List ℕ → Kind → List Test
+hand_refusals t bad s bs k = table_refusals t ++ (test Refusal.NotGood bad ∷ leaf_refusals t s bs k (leaf_named t s bs))
 
 -- A run: 9 to 16.
-unfoldable pub run_refusals : Table → Bool → Limits → List Refusal
-run_refusals t bad m = table_refusals t ++ (limit_refusals m ++ refusal 16 bad ∷ [])
+unfoldable pub run_refusals : Table → Bool → Limits → List Test
+run_refusals t bad m = table_refusals t ++ (limit_refusals m ++ test Refusal.NotGood bad ∷ [])
 
 unfoldable pub hand_number : Table → Bool → DTree → List ℕ → Kind → ℕ
 hand_number t bad s bs k = first (hand_refusals t bad s bs k)
@@ -92,27 +92,23 @@ run_makes t s m = picks t (aim_of m) m.budget s
 unfoldable pub figures : Table → DTree → List Refinement → Figures
 figures t s ns = record { low = low t (grow s ns); high = high t (grow s ns); count = length ns }
 
--- ---- the answers, by the number
+-- ---- the answers
 
-unfoldable pub answer_by : ℕ → Figures → Answer
-answer_by zero f = Answer.Accepted f
-answer_by (suc n) f = Answer.Refused (suc n)
-
-unfoldable pub run_answer_by : ℕ → Verdict → Figures → RunAnswer
-run_answer_by zero v f = RunAnswer.Ended v f (figure f.low f.high)
-run_answer_by (suc n) v f = RunAnswer.Refused (suc n)
+-- A run that ended: its verdict, its figures, and the one figure that is shown for them.
+abbrev pub ended : Verdict → Figures → Ended
+ended v f = record { verdict = v; figures = f; figure = figure f.low f.high }
 
 -- An opening: the root leaf alone, count 0.
-unfoldable pub open_answer : Table → Answer
-open_answer t = answer_by (table_number t) (figures t leaf [])
+unfoldable pub open_answer : Table → Result Figures Refusal
+open_answer t = answered (table_refusals t) (figures t leaf [])
 
 -- A hand refinement on a tree.
-unfoldable pub hand_answer : Table → Bool → DTree → List ℕ → Kind → Answer
-hand_answer t bad s bs k = answer_by (hand_number t bad s bs k) (figures t s (hand_makes bs k))
+unfoldable pub hand_answer : Table → Bool → DTree → List ℕ → Kind → Result Figures Refusal
+hand_answer t bad s bs k = answered (hand_refusals t bad s bs k) (figures t s (hand_makes bs k))
 
 -- A run on a tree.
-unfoldable pub run_answer : Table → Bool → DTree → Limits → RunAnswer
-run_answer t bad s m = run_answer_by (run_number t bad m) (verdict t (aim_of m) m.budget s) (figures t s (run_makes t s m))
+unfoldable pub run_answer : Table → Bool → DTree → Limits → Result Ended Refusal
+run_answer t bad s m = answered (run_refusals t bad m) (ended (verdict t (aim_of m) m.budget s) (figures t s (run_makes t s m)))
 
 -- What a call makes, by its number: a refused call makes nothing.
 unfoldable pub makes_by : ℕ → List Refinement → List Refinement
@@ -128,8 +124,8 @@ pub data Call : Type 0 where
 
 -- What a call hands back.
 pub data Outcome : Type 0 where
-  handed : Answer → Outcome
-  ran : RunAnswer → Outcome
+  handed : Result Figures Refusal → Outcome
+  ran : Result Ended Refusal → Outcome
 
 -- As number, interval and count (RULES 8.4, 8.6).
 abbrev pub reply : Outcome → Reply

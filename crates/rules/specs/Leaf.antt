@@ -2,7 +2,9 @@
 -- Unlike published d-trees (RULES 12.2): ways are kept in number order, the high end is a plain sum, and every product is rounded.
 use Rattle.std.specs.Prelude.{◌≡◌, Bool, true, false, not, ◌&&◌, ◌||◌, List, [], ◌∷◌, ℕ, ◌+◌, ◌-◌, ◌*◌, ◌/◌, min, length, eqb, ltb, leb}
 use Rattle.std.specs.Int.Bits.{bit_and, bit_or}
-use Rattle.rules.specs.Rounding.{S, Dir, down, up, flip, over}
+use Rattle.rules.specs.Rounding.{S, flip, over}
+use Rattle.rules.specs.declared.Direction.{Direction}
+use Rattle.rules.specs.declared.Direction.TheVariants.{Down, Up}
 use Rattle.rules.specs.Table.{odd, Way, faults}
 
 -- A test that some way of a list passes.
@@ -76,18 +78,18 @@ abbrev pub Lean : List Way → Type 0
 Lean vs = minimal vs ≡ vs
 
 -- One fault of weight w in a way's chance: named present it counts w, named absent S less w, not named it does not count.
-abbrev pub step : Dir → ℕ → Bool → Bool → ℕ → ℕ
+abbrev pub step : Direction → ℕ → Bool → Bool → ℕ → ℕ
 step d w true absent c = over d (c * w)
 step d w false true c = over d (c * (S - w))
 step d w false false c = c
 
 -- The faults from the lowest number on, each multiplied in and rounded.
-abbrev pub chance_from : Dir → List ℕ → ℕ → ℕ → ℕ → ℕ
+abbrev pub chance_from : Direction → List ℕ → ℕ → ℕ → ℕ → ℕ
 chance_from d [] p q c = c
 chance_from d (w ∷ ws) p q c = chance_from d ws (p / 2) (q / 2) (step d w (odd p) (odd q) c)
 
 -- A way's low chance (down) or high chance (up).
-abbrev pub chance : Dir → List ℕ → Way → ℕ
+abbrev pub chance : Direction → List ℕ → Way → ℕ
 chance d ws v = chance_from d ws v.present v.absent S
 
 -- Two ways name a common fault, each in either sense.
@@ -109,13 +111,13 @@ abbrev pub kept : List Way → List Way
 kept vs = keep [] vs
 
 -- Either of two independent events: S less the product of what is left of S, which is rounded the other way.
-abbrev pub either : Dir → ℕ → ℕ → ℕ
+abbrev pub either : Direction → ℕ → ℕ → ℕ
 either d x y = S - over (flip d) ((S - x) * (S - y))
 
 -- The low chances of ways, taken one after the other as independent events.
 abbrev pub either_all : List ℕ → List Way → ℕ → ℕ
 either_all ws [] a = a
-either_all ws (v ∷ vs) a = either_all ws vs (either down a (chance down ws v))
+either_all ws (v ∷ vs) a = either_all ws vs (either Down a (chance Down ws v))
 
 -- Leaf low: the kept ways as independent events, beginning with 0.
 abbrev pub leaf_low : List ℕ → List Way → ℕ
@@ -124,16 +126,16 @@ leaf_low ws vs = either_all ws (kept vs) 0
 -- The sum of the high chances.
 abbrev pub chances : List ℕ → List Way → ℕ
 chances ws [] = 0
-chances ws (v ∷ vs) = chance up ws v + chances ws vs
+chances ws (v ∷ vs) = chance Up ws v + chances ws vs
 
 -- The high end of a leaf (RULES 3.12): the sum of the high chances, at most S.
 abbrev pub leaf_high : List ℕ → List Way → ℕ
 leaf_high ws vs = min S (chances ws vs)
 
 -- The low or the high end of a leaf's interval.
-abbrev pub leaf_end : Dir → List ℕ → List Way → ℕ
-leaf_end down ws vs = leaf_low ws vs
-leaf_end up ws vs = leaf_high ws vs
+abbrev pub leaf_end : Direction → List ℕ → List Way → ℕ
+leaf_end Down ws vs = leaf_low ws vs
+leaf_end Up ws vs = leaf_high ws vs
 
 -- A leaf's own width.
 abbrev pub leaf_width : List ℕ → List Way → ℕ

@@ -1,24 +1,58 @@
 -- The refusals 1 to 22, but for 16 to 18 and 20, which Calls.antt has: each a test over the whole input, defined once (RULES 8.2).
--- A call's refusals are one ordered list of tests; the first that applies gives the number.
-use Rattle.std.specs.Prelude.{◌≡◌, Bool, true, false, not, ◌&&◌, ◌||◌, List, [], ◌∷◌, ℕ, ◌^◌, length, eqb, ltb, leb}
+-- A call's refusals are one ordered list of tests; the first that applies gives the answer and its number.
+use Rattle.std.specs.Prelude.{◌≡◌, Bool, true, false, not, ◌&&◌, ◌||◌, List, [], ◌∷◌, ℕ, ◌^◌, length, eqb, ltb, leb, Result, Ok, Err}
 use Rattle.std.specs.Int.Bits.{bit_and}
 use Rattle.rules.specs.Rounding.{S}
 use Rattle.rules.specs.Table.{Way, Table, ways}
 use Rattle.rules.specs.Leaf.{any}
 use Rattle.rules.specs.declared.Limits.{Limits}
+use Rattle.rules.specs.declared.Refusal.{Refusal}
 
--- A refusal: its number, and whether it applies to the call.
-pub record Refusal : Type 0 where
-  pub number : ℕ
+-- The number of a refusal (RULES 8.2).
+abbrev pub number : Refusal → ℕ
+number Refusal.NoHead = 1
+number Refusal.CountsOutside = 2
+number Refusal.TailUsed = 3
+number Refusal.TooShort = 4
+number Refusal.NotRising = 5
+number Refusal.Crowded = 6
+number Refusal.Misplaced = 7
+number Refusal.WrongLength = 8
+number Refusal.FaultsOutside = 9
+number Refusal.Overweight = 10
+number Refusal.WordsAmiss = 11
+number Refusal.NamesBeyond = 12
+number Refusal.NamesBoth = 13
+number Refusal.AllowanceAbove = 14
+number Refusal.BudgetAbove = 15
+number Refusal.NotGood = 16
+number Refusal.NoLeaf = 17
+number Refusal.Closed = 18
+number Refusal.Full = 19
+number Refusal.Impossible = 20
+number Refusal.Disagree = 21
+number Refusal.NoRoom = 22
+number Refusal.Misread = 23
+number Refusal.Unjudged = 24
+number Refusal.Beyond = 25
+
+-- A test of a call: the refusal, and whether it applies.
+pub record Test : Type 0 where
+  pub refusal : Refusal
   pub applies : Bool
 
-abbrev pub refusal : ℕ → Bool → Refusal
-refusal n b = record { number = n; applies = b }
+abbrev pub test : Refusal → Bool → Test
+test r b = record { refusal = r; applies = b }
 
 -- The number of the first refusal that applies, 0 if none does.
-unfoldable pub first : List Refusal → ℕ
+unfoldable pub first : List Test → ℕ
 first [] = 0
-first (x ∷ xs) = elim x.applies as (λ b. ℕ) [ true ↦ x.number | false ↦ first xs ]
+first (x ∷ xs) = elim x.applies as (λ b. ℕ) [ true ↦ number x.refusal | false ↦ first xs ]
+
+-- What a call answers: the first refusal that applies, or what it is called for if none does.
+unfoldable pub answered : {A : Type 0} → List Test → A → Result A Refusal
+answered [] a = Ok a
+answered {A} (x ∷ xs) a = elim x.applies as (λ b. Result A Refusal) [ true ↦ Err x.refusal | false ↦ answered xs a ]
 
 -- ---- tests on numbers and lists, for tables, sheets and the writer alike
 
@@ -75,19 +109,19 @@ budget_above m = ltb 255 m.budget
 -- ---- groups of refusals that several calls have in common
 
 -- 12 and 13, each over all ways before the next.
-unfoldable pub way_refusals : ℕ → List Way → List Refusal
-way_refusals n vs = refusal 12 (names_beyond n vs) ∷ refusal 13 (names_both vs) ∷ []
+unfoldable pub way_refusals : ℕ → List Way → List Test
+way_refusals n vs = test Refusal.NamesBeyond (names_beyond n vs) ∷ test Refusal.NamesBoth (names_both vs) ∷ []
 
 -- 14 and 15.
-unfoldable pub limit_refusals : Limits → List Refusal
-limit_refusals m = refusal 14 (allowance_above m) ∷ refusal 15 (budget_above m) ∷ []
+unfoldable pub limit_refusals : Limits → List Test
+limit_refusals m = test Refusal.AllowanceAbove (allowance_above m) ∷ test Refusal.BudgetAbove (budget_above m) ∷ []
 
 -- Opening a table: 9 to 13.
-unfoldable pub table_refusals : Table → List Refusal
+unfoldable pub table_refusals : Table → List Test
 table_refusals t =
-    refusal 9 (faults_outside (length t.weights))
-    ∷ refusal 10 (overweight t.weights)
-    ∷ refusal 11 (words_amiss t.present t.absent)
+    test Refusal.FaultsOutside (faults_outside (length t.weights))
+    ∷ test Refusal.Overweight (overweight t.weights)
+    ∷ test Refusal.WordsAmiss (words_amiss t.present t.absent)
     ∷ way_refusals (length t.weights) (ways t)
 
 -- The number of a table handed over directly.

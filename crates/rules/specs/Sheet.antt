@@ -1,16 +1,14 @@
 -- The sheet: as a value, as bytes, and what reading finds in any list of bytes (RULES 7).
 -- Where a body starts is defined by counting on from the weights; a stated place is only compared with that.
-use Rattle.std.specs.Prelude.{◌≡◌, Bool, true, false, not, ◌&&◌, ◌||◌, List, [], ◌∷◌, ◌++◌, ℕ, zero, suc, ◌+◌, ◌*◌, ◌/◌, ◌%◌, ◌<◌, ◌≤◌, length, take, drop, get_or, eqb, ltb}
+use Rattle.std.specs.Prelude.{◌≡◌, Option, Some, None, Result, Bool, true, false, not, ◌&&◌, ◌||◌, List, [], ◌∷◌, ◌++◌, ℕ, zero, suc, ◌+◌, ◌*◌, ◌/◌, ◌%◌, ◌<◌, ◌≤◌, length, take, drop, get_or, eqb, ltb}
 use Rattle.rules.specs.Members.{In}
 use Rattle.rules.specs.Rounding.{S}
 use Rattle.rules.specs.Table.{bit, Way, Table, rows, ways, faults}
-use Rattle.rules.specs.Refusals.{Refusal, refusal, first, faults_outside, cues_outside, not_rising, crowded, overweight, way_refusals, limit_refusals}
+use Rattle.rules.specs.Refusals.{Test, test, first, answered, faults_outside, cues_outside, not_rising, crowded, overweight, way_refusals, limit_refusals}
 use Rattle.rules.specs.declared.Limits.{Limits}
 use Rattle.rules.specs.declared.Head.{Head}
 use Rattle.rules.specs.declared.Entry.{Entry}
-use Rattle.rules.specs.declared.ReadAnswer.{ReadAnswer}
-use Rattle.rules.specs.declared.EntryAnswer.{EntryAnswer}
-use Rattle.rules.specs.declared.WriteAnswer.{WriteAnswer}
+use Rattle.rules.specs.declared.Refusal.{Refusal}
 
 -- ---- numbers as bytes, little-endian
 
@@ -220,17 +218,17 @@ same_numbers (x ∷ xs) [] = false
 same_numbers (x ∷ xs) (y ∷ ys) = eqb x y && same_numbers xs ys
 
 -- Reading a sheet: 1 to 8, 10, 12 to 15.
-unfoldable pub read_refusals : List ℕ → List Refusal
+unfoldable pub read_refusals : List ℕ → List Test
 read_refusals bs =
-    refusal 1 (ltb (length bs) 12)
-    ∷ refusal 2 (faults_outside (faults_in bs) || cues_outside (cues_in bs))
-    ∷ refusal 3 (ltb 0 (zero_in bs))
-    ∷ refusal 4 (ltb (length bs) (bodies_in bs))
-    ∷ refusal 5 (not_rising (numbers_in bs))
-    ∷ refusal 6 (crowded (counts_in bs))
-    ∷ refusal 7 (not (same_numbers (places_in bs) (starts (bodies_in bs) (counts_in bs))))
-    ∷ refusal 8 (not (eqb (length bs) (bodies_in bs + 16 * total (counts_in bs))))
-    ∷ refusal 10 (overweight (weights_in bs))
+    test Refusal.NoHead (ltb (length bs) 12)
+    ∷ test Refusal.CountsOutside (faults_outside (faults_in bs) || cues_outside (cues_in bs))
+    ∷ test Refusal.TailUsed (ltb 0 (zero_in bs))
+    ∷ test Refusal.TooShort (ltb (length bs) (bodies_in bs))
+    ∷ test Refusal.NotRising (not_rising (numbers_in bs))
+    ∷ test Refusal.Crowded (crowded (counts_in bs))
+    ∷ test Refusal.Misplaced (not (same_numbers (places_in bs) (starts (bodies_in bs) (counts_in bs))))
+    ∷ test Refusal.WrongLength (not (eqb (length bs) (bodies_in bs + 16 * total (counts_in bs))))
+    ∷ test Refusal.Overweight (overweight (weights_in bs))
     ∷ (way_refusals (faults_in bs) (rows 0 (present_in bs) (absent_in bs)) ++ limit_refusals (limits_in bs))
 
 -- The number of a list of bytes read as a sheet.
@@ -241,13 +239,9 @@ read_number bs = first (read_refusals bs)
 unfoldable pub head_in : List ℕ → Head
 head_in bs = record { faults = faults_in bs; cues = cues_in bs; limits = limits_in bs }
 
-unfoldable pub read_answer_by : ℕ → Head → ReadAnswer
-read_answer_by zero h = ReadAnswer.Sheet h
-read_answer_by (suc n) h = ReadAnswer.Refused (suc n)
-
 -- Reading a whole sheet.
-unfoldable pub read_answer : List ℕ → ReadAnswer
-read_answer bs = read_answer_by (read_number bs) (head_in bs)
+unfoldable pub read_answer : List ℕ → Result Head Refusal
+read_answer bs = answered (read_refusals bs) (head_in bs)
 
 -- ---- a reader's call
 
@@ -255,14 +249,14 @@ read_answer bs = read_answer_by (read_number bs) (head_in bs)
 unfoldable pub entry_in : List ℕ → ℕ → Entry
 entry_in bs i = record { cue = get_or (numbers_in bs) i 0; ways = get_or (counts_in bs) i 0; start = get_or (starts (bodies_in bs) (counts_in bs)) i 0 }
 
-unfoldable pub entry_answer_by : ℕ → Bool → Entry → EntryAnswer
-entry_answer_by zero true e = EntryAnswer.Cue e
-entry_answer_by zero false e = EntryAnswer.Past
-entry_answer_by (suc n) b e = EntryAnswer.Refused (suc n)
+-- The cue at position i, if the sheet has one there.
+abbrev pub entry_if : Bool → Entry → Option Entry
+entry_if true e = Some e
+entry_if false e = None
 
 -- The call at position i: the sheet's own refusal first, also past the last cue.
-unfoldable pub entry_answer : List ℕ → ℕ → EntryAnswer
-entry_answer bs i = entry_answer_by (read_number bs) (ltb i (cues_in bs)) (entry_in bs i)
+unfoldable pub entry_answer : List ℕ → ℕ → Result (Option Entry) Refusal
+entry_answer bs i = answered (read_refusals bs) (entry_if (ltb i (cues_in bs)) (entry_in bs i))
 
 -- A cue's body, as a part of the sheet.
 unfoldable pub body_in : List ℕ → Entry → List ℕ
@@ -277,28 +271,24 @@ disagree x =
     || (not (eqb (length x.present) (length x.absent)) || not (eqb (length x.present) (total x.counts)))
 
 -- What the lists hold: 2, 5, 6, 10, 12 to 15, 21. To 12 and 13 a word that one of the lists lacks is 0, and the rows of the longer list are judged.
-unfoldable pub lists_refusals : Lists → List Refusal
+unfoldable pub lists_refusals : Lists → List Test
 lists_refusals x =
-    refusal 2 (faults_outside (length x.weights) || (cues_outside (length x.numbers) || cues_outside (length x.counts)))
-    ∷ refusal 5 (not_rising x.numbers)
-    ∷ refusal 6 (crowded x.counts)
-    ∷ refusal 10 (overweight x.weights)
-    ∷ (way_refusals (length x.weights) (rows 0 x.present x.absent) ++ limit_refusals x.limits ++ refusal 21 (disagree x) ∷ [])
+    test Refusal.CountsOutside (faults_outside (length x.weights) || (cues_outside (length x.numbers) || cues_outside (length x.counts)))
+    ∷ test Refusal.NotRising (not_rising x.numbers)
+    ∷ test Refusal.Crowded (crowded x.counts)
+    ∷ test Refusal.Overweight (overweight x.weights)
+    ∷ (way_refusals (length x.weights) (rows 0 x.present x.absent) ++ limit_refusals x.limits ++ test Refusal.Disagree (disagree x) ∷ [])
 
 -- Writing a sheet into a space of so many bytes: those, then 22.
-unfoldable pub write_refusals : Lists → ℕ → List Refusal
-write_refusals x space = lists_refusals x ++ refusal 22 (ltb space (length (encode (sheet_of x)))) ∷ []
+unfoldable pub write_refusals : Lists → ℕ → List Test
+write_refusals x space = lists_refusals x ++ test Refusal.NoRoom (ltb space (length (encode (sheet_of x)))) ∷ []
 
 unfoldable pub write_number : Lists → ℕ → ℕ
 write_number x space = first (write_refusals x space)
 
-unfoldable pub write_answer_by : ℕ → ℕ → WriteAnswer
-write_answer_by zero n = WriteAnswer.Written n
-write_answer_by (suc k) n = WriteAnswer.Refused (suc k)
-
 -- The writer's answer.
-unfoldable pub write_answer : Lists → ℕ → WriteAnswer
-write_answer x space = write_answer_by (write_number x space) (length (encode (sheet_of x)))
+unfoldable pub write_answer : Lists → ℕ → Result ℕ Refusal
+write_answer x space = answered (write_refusals x space) (length (encode (sheet_of x)))
 
 unfoldable pub written_by : ℕ → List ℕ → List ℕ → List ℕ
 written_by zero out space = out ++ drop (length out) space

@@ -3,7 +3,9 @@
 use Rattle.std.specs.Prelude.{Bool, true, false, not, ◌&&◌, List, [], ◌∷◌, ℕ, suc, ◌+◌, ◌-◌, ◌*◌, ◌^◌, min, max, get_or, eqb, ltb}
 use Rattle.std.proofs.Math.Option.{Option, none, some}
 use Rattle.std.specs.Int.Bits.{bit_or}
-use Rattle.rules.specs.Rounding.{S, Dir, down, up, over}
+use Rattle.rules.specs.Rounding.{S, over}
+use Rattle.rules.specs.declared.Direction.{Direction}
+use Rattle.rules.specs.declared.Direction.TheVariants.{Down, Up}
 use Rattle.rules.specs.Table.{bit, Way, Table, ways, faults}
 use Rattle.rules.specs.Leaf.{any, of_set, remaining, drop_all, minimal, either, leaf_end, is_open}
 use Rattle.rules.specs.Group.{group, others, fall_apart}
@@ -47,11 +49,11 @@ child (Shannon f) left vs = minimal (remaining (2 ^ f) 0 vs)
 child (Shannon f) right vs = minimal (remaining 0 (2 ^ f) vs)
 
 -- The weighted mean of two ends, rounded once.
-abbrev pub mean : Dir → ℕ → ℕ → ℕ → ℕ
+abbrev pub mean : Direction → ℕ → ℕ → ℕ → ℕ
 mean d w x y = over d (w * x + (S - w) * y)
 
 -- The end that a node has from those of its children (RULES 4.6).
-unfoldable pub combine : Kind → Dir → List ℕ → ℕ → ℕ → ℕ
+unfoldable pub combine : Kind → Direction → List ℕ → ℕ → ℕ → ℕ
 combine IndependentOr d ws x y = either d x y
 combine IndependentAnd d ws x y = over d (x * y)
 combine (Shannon f) d ws x y = mean d (get_or ws f 0) x y
@@ -59,12 +61,12 @@ combine (Shannon f) d ws x y = mean d (get_or ws f 0) x y
 -- ---- the interval
 
 -- An end of the overlap of two intervals.
-abbrev pub overlap : Dir → ℕ → ℕ → ℕ
-overlap down x y = max x y
-overlap up x y = min x y
+abbrev pub overlap : Direction → ℕ → ℕ → ℕ
+overlap Down x y = max x y
+overlap Up x y = min x y
 
 -- The low or the high end at the root of a tree whose remaining ways are vs.
-unfoldable pub end : Dir → List ℕ → List Way → DTree → ℕ
+unfoldable pub end : Direction → List ℕ → List Way → DTree → ℕ
 end d ws vs leaf = leaf_end d ws vs
 end d ws vs (inner k l r) = overlap d (leaf_end d ws vs) (combine k d ws (end d ws (child k left vs) l) (end d ws (child k right vs) r))
 
@@ -74,11 +76,11 @@ root_ways t = minimal (ways t)
 
 -- The low end at the root of a table's tree.
 unfoldable pub low : Table → DTree → ℕ
-low t s = end down t.weights (root_ways t) s
+low t s = end Down t.weights (root_ways t) s
 
 -- The high end at the root of a table's tree.
 unfoldable pub high : Table → DTree → ℕ
-high t s = end up t.weights (root_ways t) s
+high t s = end Up t.weights (root_ways t) s
 
 -- ---- refining at a place
 
@@ -234,7 +236,7 @@ pub record Interval : Type 0 where
 
 -- The interval of a node with its tree.
 abbrev pub interval : List ℕ → Subtree → Interval
-interval ws x = record { low = end down ws x.node.ways x.below; high = end up ws x.node.ways x.below }
+interval ws x = record { low = end Down ws x.node.ways x.below; high = end Up ws x.node.ways x.below }
 
 -- The interval at a place, if the tree has that place.
 unfoldable pub interval_at : Table → Place → DTree → Option Interval

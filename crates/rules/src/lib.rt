@@ -1,9 +1,24 @@
-//! The types that the rules and the code share: what a refinement does, a run's limits and verdict, the answer of each call.
-//! specs/ has the rules (docs/RULES.md) as definitions over these types, proofs/ the theorems about them. No code stands here.
+//! The types that the rules and the code share: what a refinement does, a run's limits and verdict, what each call answers, why one is refused.
+//! specs/ has the rules (docs/RULES.md) as definitions over these types, proofs/ the theorems about them. Of code only a refusal's test stands here,
+//! the numbers of refusals and verdicts, and the other direction of rounding, and how a refusal prints.
 #![tactic(auto)]
+
+ghost use Rattle.std.specs.Prelude.{◌≡◌, [], ◌∷◌};
+ghost use Rattle.rules.specs.Answers.{verdict_number};
+ghost use Rattle.rules.specs.Refusals.{number, test, answered};
+ghost use Rattle.rules.specs.Rounding.{flip};
+
+use std::fmt;
 
 /// One billion: weights, chances and the allowance are in billionths.
 pub const S: u64 = 1000000000;
+
+/// Which way a number is rounded: down for a low end, up for a high end.
+#[derive(Clone, Copy, PartialEq, Eq, Debug)]
+pub enum Direction {
+    Down,
+    Up,
+}
 
 /// A way, the standard term is clause: its number, the word of the faults that it names present and that of those it names absent.
 #[derive(Clone, Copy)]
@@ -23,13 +38,20 @@ pub enum Kind {
     Shannon(u64),
 }
 
+/// The words of a way: the faults that it names present, and those that it names absent.
+#[derive(Clone, Copy, PartialEq, Eq, Debug)]
+pub struct Words {
+    pub present: u64,
+    pub absent: u64,
+}
+
 /// Why a run stopped, in the order in which the reasons are tried.
-#[derive(Clone, Copy)]
+#[derive(Clone, Copy, PartialEq, Eq, Debug)]
 pub enum Verdict {
-    Met,
-    Done,
-    Full,
-    Spent,
+    Met = 1,
+    Done = 2,
+    Full = 3,
+    Spent = 4,
 }
 
 /// What a run is asked for: the allowance, a distance in billionths, and the most refinements it may make.
@@ -54,18 +76,12 @@ pub struct Figures {
     pub count: u64,
 }
 
-/// The answer of an opening or a hand refinement.
+/// What an accepted run hands back: why it stopped, the interval and the refinements, and the one figure that the page shows.
 #[derive(Clone, Copy)]
-pub enum Answer {
-    Accepted(Figures),
-    Refused(u8),
-}
-
-/// The answer of a run. Ended: its verdict, the interval and the refinements, and the one figure that the page shows.
-#[derive(Clone, Copy)]
-pub enum RunAnswer {
-    Ended(Verdict, Figures, u64),
-    Refused(u8),
+pub struct Ended {
+    pub verdict: Verdict,
+    pub figures: Figures,
+    pub figure: u64,
 }
 
 /// The head of a sheet: how many faults and cues it has, and the limits of its runs.
@@ -76,13 +92,6 @@ pub struct Head {
     pub limits: Limits,
 }
 
-/// The answer of reading a whole sheet.
-#[derive(Clone, Copy)]
-pub enum ReadAnswer {
-    Sheet(Head),
-    Refused(u8),
-}
-
 /// One cue as the contents list it: its number, its ways, and where its body starts.
 #[derive(Clone, Copy)]
 pub struct Entry {
@@ -91,17 +100,108 @@ pub struct Entry {
     pub start: u32,
 }
 
-/// The answer of a reader's call.
-#[derive(Clone, Copy)]
-pub enum EntryAnswer {
-    Cue(Entry),
-    Past,
-    Refused(u8),
+/// Why a call is refused, by the numbers of RULES 8.2. A call answers with the first that applies to it.
+#[derive(Clone, Copy, PartialEq, Eq, Debug)]
+pub enum Refusal {
+    /// There are fewer than 12 bytes.
+    NoHead = 1,
+    /// The number of faults or of cues is 0 or too large.
+    CountsOutside = 2,
+    /// The last two bytes of the head are not 0.
+    TailUsed = 3,
+    /// The bytes end before the bodies start.
+    TooShort = 4,
+    /// A cue number is not above the one before it.
+    NotRising = 5,
+    /// A way count is above 128.
+    Crowded = 6,
+    /// A stated place is not where the body starts.
+    Misplaced = 7,
+    /// The bytes do not end where the last body ends.
+    WrongLength = 8,
+    /// The table has no weights, or more than 64.
+    FaultsOutside = 9,
+    /// A weight is above S.
+    Overweight = 10,
+    /// The table has more than 128 present words, or not as many absent words.
+    WordsAmiss = 11,
+    /// A way names a fault that there is not.
+    NamesBeyond = 12,
+    /// A way names a fault in both senses.
+    NamesBoth = 13,
+    /// The allowance is above S.
+    AllowanceAbove = 14,
+    /// The budget is above 255.
+    BudgetAbove = 15,
+    /// The tree is not good for the table.
+    NotGood = 16,
+    /// The tree has no leaf at the place.
+    NoLeaf = 17,
+    /// The leaf is closed.
+    Closed = 18,
+    /// The tree is full.
+    Full = 19,
+    /// What is asked for is not possible at the leaf.
+    Impossible = 20,
+    /// The lists do not agree with each other or with the counts.
+    Disagree = 21,
+    /// The space is too short.
+    NoRoom = 22,
+    /// A record of a text is misread.
+    Misread = 23,
+    /// No packet is judged.
+    Unjudged = 24,
+    /// Too many packets are judged, or more discarded than judged.
+    Beyond = 25,
 }
 
-/// The answer of the writer: the bytes written.
-#[derive(Clone, Copy)]
-pub enum WriteAnswer {
-    Written(u64),
-    Refused(u8),
+impl Direction {
+    /// The other direction.
+    pub fn opposite(self) -> Direction
+        ensures { result ≡ flip self }
+    {
+        match self {
+            Direction::Down => Direction::Up,
+            Direction::Up => Direction::Down,
+        }
+    }
+}
+
+impl Refusal {
+    /// Refuses if its test applies.
+    pub fn test(self, applies: bool) -> Result<(), Refusal>
+        ensures { result ≡ answered (test self applies ∷ []) tt }
+    {
+        if applies { Err(self) } else { Ok(()) }
+    }
+}
+
+impl From<Verdict> for u64 {
+    ghost from_gives = { λ v n. n ≡ verdict_number v };
+
+    fn from(v: Verdict) -> u64 {
+        v as u64
+    }
+}
+
+impl From<Refusal> for u8 {
+    ghost from_gives = { λ r n. n ≡ number r };
+
+    fn from(r: Refusal) -> u8 {
+        r as u8
+    }
+}
+
+impl From<Refusal> for u64 {
+    ghost from_gives = { λ r n. n ≡ number r };
+
+    fn from(r: Refusal) -> u64 {
+        r as u64
+    }
+}
+
+impl fmt::Display for Refusal {
+    fn fmt<W: fmt::Write>(&self, f: &mut fmt::Formatter<W>) -> fmt::Result {
+        write!(f, "refused {}", u8::from(*self))
+    }
 }

@@ -24,7 +24,6 @@ use Rattle.records.specs.declared.Tree.{Tree}
 use Rattle.records.proofs.Positions.{position-of, length_places, places-once}
 use Rattle.records.proofs.InPlace.{few-places}
 use Rattle.records.proofs.Grown.{grows}
-use Rattle.store.specs.Safe.{Safe}
 use Rattle.running.specs.Ran.{Ran}
 use Rattle.running.proofs.Turns.{Goes, own, whole, is}
 
@@ -66,7 +65,6 @@ module _ (t : Table) (a : Aim) (s : DTree) where
 -- budget comes, with ps, to what it makes of ns with the whole.
 pub record Going (t : Table) (ns : List Refinement) (a : Aim) (b : ℕ) (x : Tree) (made : ℕ) : Type 0 where
   pub good : Good t x
-  pub safe : Safe x.nodes
   pub ps : List Refinement
   pub rest : ℕ
   pub split : history x ≡ ns ++ ps
@@ -75,11 +73,10 @@ pub record Going (t : Table) (ns : List Refinement) (a : Aim) (b : ℕ) (x : Tre
   pub makes : picks t a b (tree ns) ≡ ps ++ picks t a rest (tree (history x))
   pub ends : verdict t a b (tree ns) ≡ verdict t a rest (tree (history x))
 
-pub start : (t : Table) (a : Aim) (b : ℕ) (x : Tree) → Good t x → Safe x.nodes → Going t (history x) a b x 0
-start t a b x g s =
+pub start : (t : Table) (a : Aim) (b : ℕ) (x : Tree) → Good t x → Going t (history x) a b x 0
+start t a b x g =
     record {
       good = g;
-      safe = s;
       ps = [];
       rest = b;
       split = sym (append-nil (history x));
@@ -97,7 +94,7 @@ module _ (t : Table) (ns : List Refinement) (m : Limits) (x : Tree) (made : ℕ)
   s = tree (history x)
 
   -- It ends where nothing more is made.
-  ended : (v : Verdict) → picks t a w.rest s ≡ [] → verdict t a w.rest s ≡ v → Ran t ns m x (record { verdict = v; count = made })
+  ended : (v : Verdict) → picks t a w.rest s ≡ [] → verdict t a w.rest s ≡ v → Ran t ns m x (record { verdict = v; made = made })
   ended v e h =
       let all : picks t a m.budget (tree ns) ≡ w.ps = w.makes ∙ ap (λ (qs : List Refinement). w.ps ++ qs) e ∙ append-nil w.ps in
       record {
@@ -106,7 +103,7 @@ module _ (t : Table) (ns : List Refinement) (m : Limits) (x : Tree) (made : ℕ)
         counts = w.many ∙ ap length (sym all);
       }
 
-  pub stopped : (v : Verdict) → turn t a s ≡ stop v → Ran t ns m x (record { verdict = v; count = made })
+  pub stopped : (v : Verdict) → turn t a s ≡ stop v → Ran t ns m x (record { verdict = v; made = made })
   stopped v e = ended v (no_more t a s v e w.rest) (stops_so t a s v e w.rest)
 
   -- The rules refine the leaf in record j.
@@ -117,7 +114,7 @@ module _ (t : Table) (ns : List Refinement) (m : Limits) (x : Tree) (made : ℕ)
     abbrev n : Refinement
     n = record { place = get_or (places (history x)) j []; kind = k }
 
-    pub spent : made ≡ m.budget → Ran t ns m x (record { verdict = Spent; count = made })
+    pub spent : made ≡ m.budget → Ran t ns m x (record { verdict = Spent; made = made })
     unfolding picks
     spent e =
         let z : w.rest ≡ 0 = omega (arith, e, w.sum) in
@@ -148,7 +145,7 @@ module _ (t : Table) (ns : List Refinement) (m : Limits) (x : Tree) (made : ℕ)
         omega (arith, few-places t ms longer, two_more),
       )
 
-      module _ (y : Tree) (grown : y.nodes ≡ grown_at t x.nodes x.used j k) (used : y.used ≡ x.used + 2) (kept : Safe y.nodes) where
+      module _ (y : Tree) (grown : y.nodes ≡ grown_at t x.nodes x.used j k) (used : y.used ≡ x.used + 2) where
         fit : acceptable t s n ≡ true
         unfolding series_from
         fit = and_left (acceptable t s n) _ (fits-there t a s n goes.taken ok)
@@ -184,7 +181,6 @@ module _ (t : Table) (ns : List Refinement) (m : Limits) (x : Tree) (made : ℕ)
             by (suc r) e =
                 record {
                   good = good-then;
-                  safe = kept;
                   ps = w.ps ++ (n ∷ []);
                   rest = r;
                   split = history-then ∙ ap (λ (qs : List Refinement). qs ++ (n ∷ [])) w.split ∙ append_assoc ns w.ps (n ∷ []);

@@ -1,21 +1,26 @@
 -- A turn on the records of a good tree: what its tests mean for the rules' turn.
 -- Rests on `pick`, Next, for the leaf, and on `records`, InPlace, for the root's interval.
 use mathlib.Core.Path.{◌≡◌, sym, ap, ap₂, ◌∙◌, subst}
-use mathlib.Core.Bool.{Bool, true, false}
+use mathlib.Core.Bool.{Bool, true, false, not}
 use mathlib.Core.List.{List, []}
 use mathlib.Core.Option.{none, some}
+use Rattle.std.specs.Prelude.{Some, None}
+use Rattle.std.specs.Prelude.{Option as Answer}
 use Prim.Native.Nat.{ℕ, zero, suc, ◌<◌, ◌≤◌}
 use native.Mathlib.Omega.{arith}
+use native.Mathlib.Numerals.{lt_of_le_of_ne}
+use native.Mathlib.Decide.{ℕ_discrete}
 use lib.ListN.{length, get_or}
-use lib.Dec.{ltb}
-use borrow.Author.Tests.{lt-ltb, le-ltb, eq-eqb, ne_eqb}
+use lib.Dec.{ltb, eqb}
+use borrow.Author.Tests.{ltb-false, lt-ltb, le-ltb, eq-eqb, ne_eqb}
 use Rattle.rules.specs.Table.{Table}
 use Rattle.rules.specs.declared.Way.{Way}
-use Rattle.rules.specs.declared.Kind.TheVariants.{IndependentOr, IndependentAnd, Shannon}
 use Rattle.rules.specs.declared.Aim.{Aim}
+use Rattle.rules.specs.declared.Limits.{Limits}
+use Rattle.rules.specs.Refusals.{first, limit_refusals, allowance_above}
+use Rattle.rules.specs.Rounding.{S}
+use Rattle.rules.proofs.First.{none-applies}
 use Rattle.rules.specs.declared.Verdict.TheVariants.{Met, Done, Full}
-use Rattle.rules.specs.Group.{fall_apart}
-use Rattle.rules.specs.Common.{shared}
 use Rattle.rules.specs.Tree.{DTree, low, high, inners, roomy, Refinement, tree, descend, subtree, series}
 use Rattle.rules.specs.Run.{named, most_named, choice, next, narrow, stop, go, turn}
 use Rattle.rules.proofs.Series.{series-inners}
@@ -26,8 +31,7 @@ use Rattle.records.proofs.Positions.{length_places}
 use Rattle.records.proofs.InPlace.{few-places, record_of}
 use Rattle.records.proofs.History.{history-layout}
 use Rattle.pick.specs.Picks.{pick_of, Linked}
-use Rattle.pick.specs.declared.Found.{Found}
-use Rattle.pick.specs.declared.Found.TheVariants.{At, Nothing}
+use Rattle.records.specs.declared.Found.{Found}
 use Rattle.pick.proofs.Next.{Picked, Meant, picks_next}
 use Rattle.pick.proofs.Layouts.{layout_linked}
 
@@ -44,24 +48,25 @@ most-below (suc n) l vs h k = by (ltb (named (most_named n vs) vs) (named n vs))
     by false e = e
 
 -- It has a bit in a word.
-pub fault-low : (n f : ℕ) (vs : List Way) → n ≤ 64 → f ≡ most_named n vs → f < 64
-fault-low n f vs k e = rw e (most-below n 64 vs (omega arith) k)
+pub fault_low : (n f : ℕ) (vs : List Way) → n ≤ 64 → f ≡ most_named n vs → f < 64
+fault_low n f vs k e = rw e (most-below n 64 vs (omega arith) k)
 
--- Ways that fall apart are refined by independence.
-pub choice-apart : (ws : List ℕ) (vs : List Way) → fall_apart vs ≡ true → IndependentOr ≡ choice ws vs
-unfolding choice
-choice-apart ws vs e = rw (e, choice)
+-- ---- the aim
 
--- Of others the common part is taken out, if there is one.
-pub choice-common : (ws : List ℕ) (vs : List Way) (m : ℕ) → fall_apart vs ≡ false → m ≡ shared vs → (m ≡ 0 → ⊥) → IndependentAnd ≡ choice ws vs
-unfolding choice
-choice-common ws vs m e h z = rw (e, ne_eqb (shared vs) 0 (λ q. z (h ∙ q)), choice)
+-- Limits that nothing refuses have an allowance of at most S.
+pub allowance_bounded : (m : Limits) → first (limit_refusals m) ≡ 0 → m.allowance ≤ S
+unfolding limit_refusals allowance_above
+allowance_bounded m h = ltb-false S m.allowance (none-applies (limit_refusals m) h).0
 
--- Else they are refined by the fault named most.
-pub choice-fault : (ws : List ℕ) (vs : List Way) (m n f : ℕ) → length ws ≡ n → fall_apart vs ≡ false → m ≡ shared vs → m ≡ 0 → f ≡ most_named n vs
-    → Shannon f ≡ choice ws vs
-unfolding choice
-choice-fault ws vs m n f l e g z h = rw (e, eq-eqb (shared vs) 0 (sym g ∙ z), choice) (ap Shannon (h ∙ ap (λ (k : ℕ). most_named k vs) (sym l)))
+-- ---- the room
+
+-- Where no more records are in use than there are, the tree is full exactly if all of them are.
+pub full_test : {xs : List Node} {used : ℕ} → Linked xs used → not (ltb used tree_records) ≡ eqb used tree_records
+full_test {used = used} linked = by (ℕ_discrete used tree_records)
+  where
+    by : Dec (used ≡ tree_records) → not (ltb used tree_records) ≡ eqb used tree_records
+    by (yes e) = ap not (le-ltb used tree_records (omega (arith, e))) ∙ sym (eq-eqb used tree_records e)
+    by (no f) = ap not (lt-ltb used tree_records (lt_of_le_of_ne linked.fits f)) ∙ sym (ne_eqb used tree_records f)
 
 -- ---- the rules' turn, by its tests
 
@@ -160,7 +165,7 @@ module _ (t : Table) (x : Tree) (g : Good t x) where
     is_met e h = turn_met t a (tree (history x)) (sym (test-is e) ∙ h)
 
     module _ {b : Bool} (e : b ≡ narrow a (get_or x.nodes 0 blank).low (get_or x.nodes 0 blank).high)
-        (h : b ≡ false) {r : Found} (p : r ≡ pick_of x.nodes) where
+        (h : b ≡ false) {r : Answer Found} (p : r ≡ pick_of x.nodes) where
       -- If it fails, the tree's interval is too wide.
       wide : narrow a (low t (tree (history x))) (high t (tree (history x))) ≡ false
       wide = sym (test-is e) ∙ h
@@ -170,12 +175,12 @@ module _ (t : Table) (x : Tree) (g : Good t x) where
       meant = picks_next t (history x) whole r (p ∙ ap (λ (y : Tree). pick_of y.nodes) is)
 
       -- Nothing picked: the rules' turn stops, done.
-      pub is_done : r ≡ Nothing → turn t a (tree (history x)) ≡ stop Done
+      pub is_done : r ≡ None → turn t a (tree (history x)) ≡ stop Done
       is_done q = turn-done t a (tree (history x)) wide (subst (Meant t (history x)) q meant)
 
-      module _ (j w : ℕ) (q : r ≡ At j w) where
-        -- Record j picked: it holds the leaf that the rules refine next.
-        picked : Picked t (history x) j
+      module _ (f : Found) (q : r ≡ Some f) where
+        -- A record picked: it holds the leaf that the rules refine next.
+        picked : Picked t (history x) f.at
         picked = subst (Meant t (history x)) q meant
 
         -- With all records in use the rules' turn stops: full.
@@ -183,13 +188,13 @@ module _ (t : Table) (x : Tree) (g : Good t x) where
         is-full u = turn-full t a (tree (history x)) wide _ picked.taken (all_used u)
 
         -- With some left it refines that leaf.
-        pub goes : (x.used ≡ tree_records → ⊥) → Goes t a x j
+        pub goes : (x.used ≡ tree_records → ⊥) → Goes t a x f.at
         goes u =
             record {
               inside = picked.inside;
               taken = turn-goes t a (tree (history x)) wide _ picked.taken (some-left u)
                   ∙ ap (λ (xs : List Node). go (record {
-                    place = get_or (places (history x)) j [];
-                    kind = choice t.weights (record_ways t (get_or xs j blank));
+                    place = get_or (places (history x)) f.at [];
+                    kind = choice t.weights (record_ways t (get_or xs f.at blank));
                   })) (sym nodes_are);
             }

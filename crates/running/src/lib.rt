@@ -5,18 +5,34 @@
 pub mod run;
 pub mod turn;
 
-use rules::Verdict;
+ghost use Rattle.std.specs.Prelude.{◌≤◌};
+ghost use Rattle.rules.specs.Rounding.{S};
 
-/// Before a refinement: the reason to stop, or the record of the leaf to refine.
+use checks::limits::check_limits;
+use rules::{Limits, Refusal, Verdict};
+
+/// What a run is to do: limits whose allowance is at most S, so that its double fits a word.
 #[derive(Clone, Copy)]
-pub enum Step {
-    Stop(Verdict),
-    Go(usize),
+pub struct Task {
+    pub limits: Limits,
+    ghost allowance_bound: { limits.allowance ≤ S },
+}
+
+impl Task {
+    ghost use Rattle.running.specs.Tasks.{Accepting};
+
+    /// The task that the limits set, or why they are refused.
+    pub fn accept(limits: Limits) -> Result<Task, Refusal>
+        ensures { Accepting limits result }
+    {
+        check_limits(limits)?;
+        Ok(Task { limits })
+    }
 }
 
 /// Why a run stopped, and how many refinements it made.
 #[derive(Clone, Copy)]
-pub struct Ended {
+pub struct Stopped {
     pub verdict: Verdict,
-    pub count: u64,
+    pub made: u64,
 }

@@ -1,25 +1,24 @@
--- An entry of accepted bytes: the parts of its table are the table of that cue of the decoded sheet, and its body lies inside the bytes.
--- Rests on Sized.antt for the parts, on Entries.antt for the positions and on Accepted.antt for what acceptance says.
+-- An entry of accepted bytes: its table is that of the cue of the decoded sheet, and its body lies inside the bytes.
+-- Rests on Entries.antt for the positions and on Few.antt for what acceptance says.
 use mathlib.Core.Path.{◌≡◌, refl, sym, ap, ◌∙◌}
 use mathlib.Core.Bool.{false}
 use mathlib.Core.List.{List, [], ◌∷◌}
-use Prim.Native.Nat.{ℕ, zero, suc, ◌+◌, ◌*◌, ◌≤◌, ◌<◌, min}
+use Prim.Native.Nat.{ℕ, zero, suc, ◌+◌, ◌*◌, ◌≤◌, ◌<◌}
 use native.Mathlib.Omega.{arith}
 use lib.ListN.{length, take, drop, get_or}
 use lib.Seq.{drop-drop}
 use lib.Dec.{ltb}
 use borrow.Author.Tests.{ltb-false, le-leb}
-use Rattle.rules.specs.Table.{Table}
 use Rattle.rules.specs.Refusals.{some_above, crowded}
 use Rattle.rules.specs.Sheet.{Cue, table_of, column, total, deal, sheet_of, lists_in, decode, faults_in, cues_in, numbers_in}
 use Rattle.rules.specs.Sheet.{counts_in, weights_in, weights_start, present_in, absent_in, bodies_in, read_number, entry_in, body_in}
 use Rattle.rules.proofs.Booleans.{or_left, or_right}
 use Rattle.rules.proofs.Bytes.{length-column}
+use Rattle.sheet.specs.Handed.{table_at, as_table, body_or, body_by}
 use Rattle.sheet.specs.declared.table.TableArrays.{TableArrays}
-use Rattle.sheet.specs.Handed.{sized, table_at, body_or, body_by}
-use Rattle.sheet.proofs.Accepted.{Few, accepted-few}
+use Rattle.sheet.proofs.Few.{Few, accepted-few}
 use Rattle.sheet.proofs.Entries.{column_part, starts-get_d}
-use Rattle.sheet.proofs.Sized.{part}
+use Rattle.std.proofs.lemmas.List.{take_all}
 
 -- ---- counts of ways
 
@@ -60,12 +59,6 @@ dealt (n ∷ ns) (k ∷ ks) ps qs (suc i) d h g =
 
 -- ---- the table
 
--- The parts of a table are these weights and the words of this cue.
-pub record Holds (t : TableArrays) (ws : List ℕ) (c : Cue) : Type 0 where
-  pub weights : take t.faults t.weights ≡ ws
-  pub present : take t.ways t.present ≡ c.present
-  pub absent : take t.ways t.absent ≡ c.absent
-
 module _ (bs : List ℕ) (few : Few bs) (i : ℕ) (inside : i < cues_in bs) where
   counted : length (counts_in bs) ≡ cues_in bs
   counted = length-column 2 8 14 (cues_in bs) bs
@@ -77,28 +70,26 @@ module _ (bs : List ℕ) (few : Few bs) (i : ℕ) (inside : i < cues_in bs) wher
 
   -- Its words in a column of all words, whose first is at p.
   words : (p at : ℕ) → at ≡ p + 16 * total (take i (counts_in bs))
-      → take (min (get_or (counts_in bs) i 0) 128) (sized 128 (column 8 16 at (get_or (counts_in bs) i 0) bs))
-      ≡ share (counts_in bs) i (column 8 16 p (total (counts_in bs)) bs)
+      → take 128 (column 8 16 at (get_or (counts_in bs) i 0) bs) ≡ share (counts_in bs) i (column 8 16 p (total (counts_in bs)) bs)
   unfolding crowded
   words p at e =
       let k : ℕ = get_or (counts_in bs) i 0 in
       let most : k ≤ 128 = count_most (counts_in bs) i few.counts in
-      let long : length (column 8 16 at k bs) ≡ k = length-column 8 16 at k bs in
-      part 128 (column 8 16 at k bs) {n = min k 128} (omega arith) (omega arith) refl
+      take_all 128 (column 8 16 at k bs) (omega (arith, length-column 8 16 at k bs))
       ∙ ap (λ (j : ℕ). column 8 16 j k bs) e
       ∙ sym (column_part 8 16 bs p (total (counts_in bs)) (total (take i (counts_in bs))) k (total-front (counts_in bs) i))
 
-  holds : (d : Cue) → Holds (table_at bs (entry_in bs i)) (weights_in bs) (get_or (decode bs).cues i d)
+  table_is : (d : Cue) → table_at bs (entry_in bs i) ≡ table_of (weights_in bs) (get_or (decode bs).cues i d)
   unfolding table_at decode sheet_of lists_in entry_in
-  holds d =
+  table_is d =
       let cue = dealt (numbers_in bs) (counts_in bs) (present_in bs) (absent_in bs) i d
       (omega (arith, length-column 2 8 12 (cues_in bs) bs)) (omega (arith, counted)) in
       let all : length (weights_in bs) ≡ faults_in bs = length-column 4 4 (weights_start (cues_in bs)) (faults_in bs) bs in
       let faults : faults_in bs ≤ 64 = few.faults in
-      record {
-        weights = part 64 (weights_in bs) {n = min (faults_in bs) 64} (omega arith) (omega arith) refl;
-        present = words (bodies_in bs) (entry_in bs i).start start ∙ sym (ap (λ (c : Cue). c.present) cue);
-        absent = words (bodies_in bs + 8) ((entry_in bs i).start + 8) (omega (arith, start)) ∙ sym (ap (λ (c : Cue). c.absent) cue);
+      λ j. record {
+        weights = take_all 64 (weights_in bs) (omega arith) j;
+        present = (words (bodies_in bs) (entry_in bs i).start start ∙ sym (ap (λ (c : Cue). c.present) cue)) j;
+        absent = (words (bodies_in bs + 8) ((entry_in bs i).start + 8) (omega (arith, start)) ∙ sym (ap (λ (c : Cue). c.absent) cue)) j;
       }
 
   -- The body ends at the last byte or before.
@@ -107,21 +98,16 @@ module _ (bs : List ℕ) (few : Few bs) (i : ℕ) (inside : i < cues_in bs) wher
   body_inside =
       rw (le-leb ((entry_in bs i).start + 16 * get_or (counts_in bs) i 0) (length bs) (omega (arith, start, few.ends, total-front (counts_in bs) i)))
 
--- The table that a caller takes from the arrays.
-abbrev pub parts_of : TableArrays → Table
-parts_of t = record { weights = take t.faults t.weights; present = take t.ways t.present; absent = take t.ways t.absent }
-
 module _ (bs : List ℕ) (accepted : read_number bs ≡ 0) (i : ℕ) (inside : i < cues_in bs) where
-  -- THE TABLE OF THE i-TH ENTRY of accepted bytes holds the words of the i-th cue of the sheet that they give.
-  pub entry_table : (d : Cue) {t : TableArrays} → t ≡ table_at bs (entry_in bs i) → Holds t (weights_in bs) (get_or (decode bs).cues i d)
-  entry_table d e = rw e (holds bs (accepted-few bs accepted) i inside d)
-
-  -- So its parts are that cue's table.
-  pub entry_parts : (d : Cue) {t : TableArrays} → t ≡ table_at bs (entry_in bs i) → parts_of t ≡ table_of (decode bs).weights (get_or (decode bs).cues i d)
+  -- THE TABLE OF THE i-TH ENTRY of accepted bytes is that of the i-th cue of the sheet that they give.
+  pub entry_table : (d : Cue) → table_at bs (entry_in bs i) ≡ table_of (decode bs).weights (get_or (decode bs).cues i d)
   unfolding decode sheet_of lists_in
-  entry_parts d e =
-      let h = entry_table d e in
-      λ j. record { weights = h.weights j; present = h.present j; absent = h.absent j }
+  entry_table d = table_is bs (accepted-few bs accepted) i inside d
+
+  -- So the lists that are handed over are that cue's table.
+  pub entry_parts : (d : Cue) {t : TableArrays} → as_table t ≡ table_at bs (entry_in bs i)
+      → as_table t ≡ table_of (decode bs).weights (get_or (decode bs).cues i d)
+  entry_parts d e = e ∙ entry_table d
 
   -- ITS BODY is handed over whole.
   pub entry_body : body_or bs (entry_in bs i) ≡ body_in bs (entry_in bs i)

@@ -1,7 +1,8 @@
--- What is handed over of a cue: its body as a part of the sheet's bytes, and its table as arrays of fixed length.
+-- What is handed over of a cue: its body as a part of the sheet's bytes, and its table as lists of limited length.
 -- Each is defined for every entry, also one that does not come from the bytes. Rests on `rules`, Sheet.
-use Rattle.std.specs.Prelude.{◌≡◌, Bool, true, false, List, [], ◌∷◌, ℕ, zero, suc, ◌+◌, ◌*◌, ◌≤◌, min, length, leb}
-use Rattle.rules.specs.Sheet.{column, faults_in, weights_in, body_in}
+use Rattle.std.specs.Prelude.{Bool, true, false, List, [], ◌∷◌, ℕ, zero, suc, ◌+◌, ◌*◌, length, leb, take}
+use Rattle.rules.specs.Sheet.{column, weights_in, body_in}
+use Rattle.rules.specs.Table.{Table}
 use Rattle.rules.specs.declared.Entry.{Entry}
 use Rattle.sheet.specs.declared.table.TableArrays.{TableArrays}
 
@@ -19,22 +20,15 @@ sized zero xs = []
 sized (suc m) [] = 0 ∷ sized m []
 sized (suc m) (x ∷ xs) = x ∷ sized m xs
 
--- The sheet's weights and the words of an entry's body: at most 64 and 128, and 0 behind them.
-unfoldable pub table_at : List ℕ → Entry → TableArrays
+-- The sheet's weights and the words of an entry's body: at most 64 and 128 of each.
+unfoldable pub table_at : List ℕ → Entry → Table
 table_at bs e =
     record {
-      weights = sized 64 (weights_in bs);
-      faults = min (faults_in bs) 64;
-      present = sized 128 (column 8 16 e.start e.ways bs);
-      absent = sized 128 (column 8 16 (e.start + 8) e.ways bs);
-      ways = min e.ways 128;
+      weights = take 64 (weights_in bs);
+      present = take 128 (column 8 16 e.start e.ways bs);
+      absent = take 128 (column 8 16 (e.start + 8) e.ways bs);
     }
 
--- A table handed over for an entry: which it is, and what a caller has to know to take parts of its arrays.
-pub record HandedOver (bs : List ℕ) (e : Entry) (t : TableArrays) : Type 0 where
-  pub table : t ≡ table_at bs e
-  pub faults : t.faults ≤ 64
-  pub ways : t.ways ≤ 128
-  pub weights : length t.weights ≡ 64
-  pub present : length t.present ≡ 128
-  pub absent : length t.absent ≡ 128
+-- The table that is handed over by value.
+abbrev pub as_table : TableArrays → Table
+as_table t = record { weights = t.weights.items; present = t.present.items; absent = t.absent.items }

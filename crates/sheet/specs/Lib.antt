@@ -1,4 +1,6 @@
 -- What the contracts of this crate cite beside the definitions of `rules`.
--- Amiss.antt: the two tests on ways as one. Handed.antt: what is handed over of a cue, its body and its table.
-pub mod Amiss
+-- Reading.antt: what reading makes of bytes. Parts.antt: what stands in them many times over.
+-- Handed.antt: what is handed over of a cue, its body and its table.
 pub mod Handed
+pub mod Parts
+pub mod Reading

@@ -1,69 +1,68 @@
-//! Numbers in a sheet's bytes, the lowest byte first. Rests on the definitions of `rules`, Sheet.
+//! Bytes that are read as a sheet, and the numbers in them, the lowest byte first. Rests on the definitions of `rules`, Sheet, and of Handed.
 //! Every position can be asked for: a byte beyond the end counts as 0.
-ghost use Rattle.std.specs.Prelude.{◌≡◌, ◌+◌, ◌*◌, drop};
+#![tactic(auto, using(crate::proofs::Sized::sizing))]
+
+ghost use Rattle.std.specs.Prelude.{◌≡◌, ◌<◌, drop, length};
 ghost use Rattle.rules.specs.Sheet.{field};
+ghost use Rattle.sheet.specs.Handed.{sized};
 
-/// The bytes from i on.
-fn rest(s: &[u8], i: usize) -> &[u8]
-    ensures { result.now ≡ drop i s.now }
-{
-    if i < s.len() {
-        return &s[i..];
+/// Bytes that are read as a sheet, whatever they hold.
+#[derive(Clone, Copy)]
+pub struct Raw<'a> {
+    pub bytes: &'a [u8],
+}
+
+impl<'a> Raw<'a> {
+    /// The bytes from i on.
+    pub(crate) fn rest(self, i: usize) -> Raw<'a>
+        ensures { result.bytes.now ≡ drop i self.entry.bytes.now }
+    {
+        Raw {
+            bytes: self.bytes.get(i..).unwrap_or(&[]),
+        }
     }
-    &s[..0]
-}
 
-/// The byte at i.
-fn byte_at(s: &[u8], i: usize) -> u8
-    ensures { result ≡ field 1 i s.now }
-{
-    if i < s.len() { s[i] } else { 0 }
-}
+    // Three functions: `from_le_bytes` is each type's own, so that one function over a trait would need an impl with the same line for each type.
 
-/// The number of two bytes.
-fn pair(low: u8, high: u8) -> u16
-    ensures { result ≡ low + 256 * high }
-{
-    low as u16 + 256 * (high as u16)
-}
-
-/// The number in the two bytes at i.
-pub fn u16_at(s: &[u8], i: usize) -> u16
-    ensures { result ≡ field 2 i s.now }
-{
-    let t = rest(s, i);
-    pair(byte_at(t, 0), byte_at(t, 1))
-}
-
-/// The number in the first four bytes, byte by byte.
-fn first_u32(t: &[u8]) -> u32
-    ensures { result ≡ field 4 0 t.now }
-{
-    let low = pair(byte_at(t, 0), byte_at(t, 1));
-    let high = pair(byte_at(t, 2), byte_at(t, 3));
-    low as u32 + 65536 * (high as u32)
-}
-
-/// The number in the four bytes at i.
-pub fn u32_at(s: &[u8], i: usize) -> u32
-    ensures { result ≡ field 4 i s.now }
-{
-    let t = rest(s, i);
-    // Apart, so that of four bytes that are all there none is asked for its place: they are read at once.
-    if 4 <= t.len() {
-        return first_u32(t);
+    /// The number in the two bytes at i.
+    pub fn u16_at(self, i: usize) -> u16
+        ensures { result ≡ field 2 i self.entry.bytes.now }
+    {
+        u16::from_le_bytes(front(self.rest(i).bytes))
     }
-    u16_at(t, 0) as u32 + 65536 * (u16_at(t, 2) as u32)
+
+    /// The number in the four bytes at i.
+    pub fn u32_at(self, i: usize) -> u32
+        ensures { result ≡ field 4 i self.entry.bytes.now }
+    {
+        u32::from_le_bytes(front(self.rest(i).bytes))
+    }
+
+    /// The number in the eight bytes at i.
+    pub fn u64_at(self, i: usize) -> u64
+        ensures { result ≡ field 8 i self.entry.bytes.now }
+    {
+        u64::from_le_bytes(front(self.rest(i).bytes))
+    }
 }
 
-/// The number in the eight bytes at i.
-pub fn u64_at(s: &[u8], i: usize) -> u64
-    ensures { result ≡ field 8 i s.now }
+/// The first N bytes, 0 in place of each beyond the end.
+fn front<const N: usize>(bytes: &[u8]) -> [u8; N]
+    ensures { result ≡ sized N bytes.now }
 {
-    let t = rest(s, i);
-    // Apart for the same reason.
-    if 8 <= t.len() {
-        return first_u32(t) as u64 + 4294967296 * (first_u32(&t[4..]) as u64);
+    match bytes.first_chunk() {
+        Some(all) => *all,
+        None => padded(bytes),
     }
-    u32_at(t, 0) as u64 + 4294967296 * (u32_at(t, 4) as u64)
+}
+
+/// The same of bytes that are too few.
+#[cold]
+fn padded<const N: usize>(bytes: &[u8]) -> [u8; N]
+    requires { length bytes.now < N }
+    ensures { result ≡ sized N bytes.now }
+{
+    let mut all = [0; N];
+    all[..bytes.len()].copy_from_slice(bytes);
+    all
 }

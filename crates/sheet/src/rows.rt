@@ -1,59 +1,67 @@
-//! Tests on the ways of a sheet, each over the rows of all cues. Rests on the definitions of `rules`, Refusals and Sheet.
-//! The bodies lie behind each other without gaps, so row i has its present word 16 i behind their start and its absent word 8 after that.
-//! A row is handed to `checks` as two lists of one word.
-ghost use Rattle.std.specs.Prelude.{◌≡◌, ◌≤◌};
+//! The weights and the ways of a sheet, and the tests on them. Rests on the definitions of `rules`, Refusals and Sheet, and of Parts.
+//! The bodies lie behind each other without gaps, so all ways together are one run of them.
+//! The tests are those of `checks`, which says why they stand twice.
+ghost use Rattle.std.specs.Prelude.{◌≡◌};
 ghost use Rattle.rules.specs.Table.{rows};
-ghost use Rattle.rules.specs.Refusals.{names_beyond, names_both};
-ghost use Rattle.rules.specs.Sheet.{faults_in, present_in, absent_in};
-ghost use Rattle.sheet.specs.Amiss;
+ghost use Rattle.rules.specs.Refusals;
+ghost use Rattle.rules.specs.Sheet.{faults_in, counts_in, weights_in, bodies_in, total, present_in, absent_in};
+ghost use Rattle.sheet.specs.Parts.{words_in};
 
-use super::contents::ways_in;
-use super::fields::u64_at;
-use super::head::{bodies_in, faults_in};
-use checks::ways::{names_beyond, names_both};
+use super::fields::Raw;
+use super::parts::Parts;
+use checks::ways::{way_beyond, way_both};
+use rules::{Entry, S, Words};
 
-/// One of the two tests on some rows: 13 if `both`, otherwise 12 for n faults.
-fn amiss(both: bool, n: usize, present: &[u64], absent: &[u64]) -> bool
-    requires { n ≤ 64 }
-    ensures { result ≡ Amiss.amiss both n (rows 0 present.now absent.now) }
-{
-    if both {
-        return names_both(present, absent);
+impl<'a> Raw<'a> {
+    /// The weights of the sheet.
+    #[tactic(auto, using(crate::proofs::Stated::reading))]
+    pub fn weights(self) -> Parts<'a, u32>
+        ensures { result ≡ weights_in self.entry.bytes.now }
+    {
+        Parts::new(usize::from(self.faults()), self.rest(self.weights_start()))
     }
-    names_beyond(n, present, absent)
-}
 
-/// The same test on all rows of the sheet.
-fn rows_amiss(both: bool, n: usize, s: &[u8]) -> bool
-    requires { n ≤ 64 }
-    ensures { result ≡ Amiss.amiss both n (rows 0 (present_in s.now) (absent_in s.now)) }
-{
-    let present = bodies_in(s);
-    let absent = present + 8;
-    let ways = ways_in(s);
-    let mut i: usize = 0;
-    while i < ways {
-        let p = [u64_at(s, present + 16 * i)];
-        let q = [u64_at(s, absent + 16 * i)];
-        if amiss(both, n, &p, &q) {
-            return true;
-        }
-        i += 1;
+    /// The words of so many ways, the first at a position, whether or not a body is there.
+    pub fn words(self, start: usize, count: usize) -> Parts<'a, Words>
+        ensures { result ≡ words_in start count self.entry.bytes.now }
+    {
+        Parts::new(count, self.rest(start))
     }
-    false
-}
 
-/// 12: a way names a fault that there is not.
-pub fn rows_beyond(s: &[u8]) -> bool
-    requires { faults_in s.now ≤ 64 }
-    ensures { result ≡ names_beyond (faults_in s.now) (rows 0 (present_in s.now) (absent_in s.now)) }
-{
-    rows_amiss(false, faults_in(s), s)
-}
+    /// The words of an entry's ways, whether or not the entry comes from the sheet.
+    pub fn ways(self, entry: Entry) -> Parts<'a, Words>
+        ensures { result ≡ words_in entry.start entry.ways self.entry.bytes.now }
+    {
+        self.words(entry.start as usize, usize::from(entry.ways))
+    }
 
-/// 13: a way names a fault in both senses. How many faults there are plays no part.
-pub fn rows_both(s: &[u8]) -> bool
-    ensures { result ≡ names_both (rows 0 (present_in s.now) (absent_in s.now)) }
-{
-    rows_amiss(true, 0, s)
+    /// The words of all ways.
+    fn all_ways(self) -> Parts<'a, Words>
+        ensures { result ≡ words_in (bodies_in self.entry.bytes.now) (total (counts_in self.entry.bytes.now)) self.entry.bytes.now }
+    {
+        self.words(self.bodies_start(), self.way_count())
+    }
+
+    /// 10: a weight is above S.
+    pub fn overweight(self) -> bool
+        ensures { result ≡ Refusals.overweight (weights_in self.entry.bytes.now) }
+    {
+        self.weights().any(|weight| S < u64::from(weight))
+    }
+
+    /// 12: a way names a fault that there is not.
+    pub fn rows_beyond(self) -> bool
+        ensures { result ≡ Refusals.names_beyond (faults_in self.entry.bytes.now)
+            (rows 0 (present_in self.entry.bytes.now) (absent_in self.entry.bytes.now)) }
+    {
+        let faults = usize::from(self.faults());
+        self.all_ways().any(|way| way_beyond(faults, way))
+    }
+
+    /// 13: a way names a fault in both senses.
+    pub fn rows_both(self) -> bool
+        ensures { result ≡ Refusals.names_both (rows 0 (present_in self.entry.bytes.now) (absent_in self.entry.bytes.now)) }
+    {
+        self.all_ways().any(way_both)
+    }
 }

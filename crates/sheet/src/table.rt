@@ -1,35 +1,59 @@
-//! The table of a cue as arrays by value, for callers that take parts of them. Rests on the definitions of Handed.
-//! Of an accepted sheet and one of its entries the parts are that cue's table (proofs/Tables.antt).
-ghost use Rattle.sheet.specs.Handed.{HandedOver};
+//! The table of a cue by value, for callers that take its lists as slices. Rests on the definitions of Parts and of Handed.
+//! Of an accepted sheet and one of its entries it is that cue's table (proofs/Tables.antt). Numbers for which there is no room are left out.
+#![tactic(auto, using(crate::proofs::Stated::reading))]
 
-use super::arrays::{at_most, weights, words};
-use super::head::faults_in;
-use rules::Entry;
+ghost use Rattle.std.specs.Prelude.{◌≡◌, map, take};
+ghost use Rattle.rules.specs.Table.{table};
+ghost use Rattle.sheet.specs.Handed.{table_at, as_table};
 
-/// A cue's table: the first `faults` weights, the first `ways` words of each kind, and zeros behind them.
-#[derive(Clone, Copy)]
+use super::fields::Raw;
+use super::parts::Parts;
+use arrayvec::ArrayVec;
+use rules::{Entry, Words};
+
+/// A cue's table: a weight for each fault, a present and an absent word for each way.
+/// No `Copy`, which the kit's `ArrayVec` does not have. Two lists for the ways, as C and a run take them.
+#[derive(Clone, Default, Drop)]
 pub struct TableArrays {
-    pub weights: [u32; 64],
-    pub faults: usize,
-    pub present: [u64; 128],
-    pub absent: [u64; 128],
-    pub ways: usize,
+    pub weights: ArrayVec<u32, 64>,
+    pub present: ArrayVec<u64, 128>,
+    pub absent: ArrayVec<u64, 128>,
 }
 
-/// The table of an entry, whether or not the entry comes from the sheet.
-pub fn table(s: &[u8], e: Entry) -> TableArrays
-    ensures table { HandedOver s.now e result }
-{
-    let start = e.start as usize;
-    let rows = e.ways as usize;
-    let weights = weights(s);
-    let present = words(s, start, rows);
-    let absent = words(s, start + 8, rows);
-    TableArrays {
-        weights,
-        faults: at_most(faults_in(s), 64),
-        present,
-        absent,
-        ways: at_most(rows, 128),
+impl TableArrays {
+    /// Its weights are these from now on.
+    pub fn set_weights(&mut self, weights: Parts<'_, u32>)
+        ensures { as_table self.new ≡ table (take 64 weights.entry) self.old.present.items self.old.absent.items }
+    {
+        self.weights.clear();
+        for weight in weights.take(64) {
+            self.weights.push(weight);
+        }
+    }
+
+    /// Its ways are these from now on.
+    pub fn set_ways(&mut self, ways: Parts<'_, Words>)
+        ensures { as_table self.new ≡ table self.old.weights.items
+            (take 128 (map (λ w. w.present) ways.entry)) (take 128 (map (λ w. w.absent) ways.entry)) }
+    {
+        self.present.clear();
+        self.absent.clear();
+        for way in ways.take(128) {
+            self.present.push(way.present);
+            self.absent.push(way.absent);
+        }
+    }
+}
+
+impl Raw<'_> {
+    /// The table of an entry, whether or not the entry comes from the sheet.
+    #[tactic(auto, using(crate::proofs::Stated::reading), unfolding(crate::specs::Handed::table_at))]
+    pub fn table(self, entry: Entry) -> TableArrays
+        ensures { as_table result ≡ table_at self.entry.bytes.now entry }
+    {
+        let mut table = TableArrays::default();
+        table.set_weights(self.weights());
+        table.set_ways(self.ways(entry));
+        table
     }
 }

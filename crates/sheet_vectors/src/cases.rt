@@ -1,9 +1,10 @@
 //! The sheet of RULES 11.7, 72 bytes: 3 faults, cue 7 with two ways and cue 9 with none; and the cases, which cut or change it.
 //! Rests on `writer`.
 use rules::Limits;
+use writer::lists::Lists;
 use writer::write;
 
-/// A field of the sheet: where it stands and how wide it is.
+/// A field of the sheet: where it stands and how wide it is. A tuple: no call may stand in a constant, and rows of field names are no plainer.
 pub type Field = (usize, usize);
 
 const FAULTS: Field = (0, 2);
@@ -46,7 +47,8 @@ const WHOLE: usize = 72;
 /// The room for it, with zeros behind.
 const ROOM: usize = 80;
 
-/// A name, how many bytes of the sheet and of the zeros behind it there are, and what is changed in it.
+/// A name, how many bytes of the sheet and of the zeros behind it there are, and what is changed in it. A tuple: 58 rows of a struct's field
+/// names would be no plainer.
 pub type Case = (&'static str, usize, &'static [(Field, u64)]);
 
 /// The cases, in the order in which they are printed.
@@ -136,34 +138,32 @@ pub const CASES: [Case; 58] = [
     ),
 ];
 
-/// The sheet of RULES 11.7 and the zeros behind it.
+/// The sheet of RULES 11.7 and the zeros behind it. Its lists are in order, so that the writer takes them.
 fn paper() -> [u8; ROOM] {
-    let limits = Limits {
-        allowance: 10000000,
-        budget: 40,
+    let lists = Lists {
+        limits: Limits {
+            allowance: 10000000,
+            budget: 40,
+        },
+        weights: &[500000000, 500000000, 200000000],
+        numbers: &[7, 9],
+        counts: &[2, 0],
+        present: &[3, 5],
+        absent: &[0, 0],
     };
     let mut sheet = [0; ROOM];
-    write(
-        &[500000000, 500000000, 200000000],
-        &[7, 9],
-        &[2, 0],
-        &[3, 5],
-        &[0, 0],
-        limits,
-        &mut sheet,
-    );
+    let _ = write(lists, &mut sheet);
     sheet
 }
 
 /// Puts a number into its field, little-endian.
 fn put(sheet: &mut [u8], (at, width): Field, number: u64) {
-    for (byte, &digit) in sheet
-        .iter_mut()
-        .skip(at)
-        .take(width)
-        .zip(&number.to_le_bytes())
-    {
-        *byte = digit;
+    let bytes = number.to_le_bytes();
+    if let (Some(field), Some(front)) = (
+        sheet.get_mut(at..).and_then(|rest| rest.get_mut(..width)),
+        bytes.get(..width),
+    ) {
+        field.copy_from_slice(front);
     }
 }
 

@@ -2,10 +2,10 @@
 //! The ways come from a xorshift generator, so that they are the same everywhere. Rests on `writer`.
 use rules::Limits;
 use std::alloc::{AllocError, Global};
+use std::iter::successors;
+use streams::LONGEST_SHEET;
+use writer::lists::Lists;
 use writer::write;
-
-/// The length of the sheet.
-pub const LONGEST: usize = 49612;
 
 /// How many cues the sheet has.
 const CUES: u16 = 24;
@@ -40,27 +40,23 @@ fn absent(x: u64) -> u64 {
 pub fn longest(alloc: Global) -> Result<Vec<u8>, AllocError> {
     let weights: Vec<u32> = (1..=64).map(|fault| 3000000 * fault).collect(alloc)?;
     let numbers: Vec<u16> = (1..=CUES).collect(alloc)?;
-    let mut states = Vec::new(alloc);
-    let mut state = 1;
-    for _ in 0..CUES * WAYS {
-        state = next(state);
-        states.push(state)?;
-    }
+    let states: Vec<u64> = successors(Some(next(1)), |&x| Some(next(x)))
+        .take(usize::from(CUES * WAYS))
+        .collect(alloc)?;
     let present: Vec<u64> = states.iter().map(|&x| present(x)).collect(alloc)?;
     let absent: Vec<u64> = states.iter().map(|&x| absent(x)).collect(alloc)?;
-    let limits = Limits {
-        allowance: 62500000,
-        budget: 4,
+    let lists = Lists {
+        limits: Limits {
+            allowance: 62500000,
+            budget: 4,
+        },
+        weights: &weights,
+        numbers: &numbers,
+        counts: &[WAYS; CUES as usize],
+        present: &present,
+        absent: &absent,
     };
-    let mut sheet = vec![in alloc; 0; LONGEST + 1]?;
-    write(
-        &weights,
-        &numbers,
-        &[WAYS; CUES as usize],
-        &present,
-        &absent,
-        limits,
-        &mut sheet,
-    );
+    let mut sheet = vec![in alloc; 0; LONGEST_SHEET + 1]?;
+    let _ = write(lists, &mut sheet);
     Ok(sheet)
 }

@@ -44,7 +44,8 @@ pub const ALLOWANCE: u64 = 0;
 /// The most refinements that are made for a cue.
 pub const BUDGET: u64 = 8;
 
-/// A way in which a cue goes wrong: the faults that it names present, and those that it names absent.
+/// A way in which a cue goes wrong: the faults that it names present, and those that it names absent. A tuple: no call may stand in a constant, and 20
+/// rows of field names are no plainer.
 pub type Way = (u64, u64);
 
 /// A cue: its number and its ways.

@@ -1,12 +1,14 @@
 //! One number of a tree changed before a call, so that the call has to refuse the tree, and changed back afterwards.
-//! Rests on the words of `store`. Fields are numbered in the order in which a record lists them, from 0; the number after them is the count of
-//! records in use.
+//! Rests on `records`. Fields are numbered in the order in which a record lists them, from 0; the number after them is the count of records in use.
 use numbers::Numbers;
-use records::{FIELDS, RECORDS};
+use records::{Node, Tree};
 use std::io::Read;
-use store::{COUNT, Words};
+
+/// The fields of a record.
+const FIELDS: usize = 14;
 
 /// Which number is changed: the record, the field, and what is added to it. Sums wrap around, so that only 0 changes nothing.
+/// The field stays a number: an enum of 15 names would want a decoding of its own, and be no plainer.
 #[derive(Clone, Copy)]
 pub struct Damage {
     record: usize,
@@ -32,18 +34,38 @@ impl Damage {
         }
     }
 
-    /// Where the number stands. A record that there is not has none; past the last field, every number is the count.
-    fn word(self) -> Option<usize> {
-        if self.field >= FIELDS {
-            return Some(COUNT);
-        }
-        (self.record < RECORDS).then(|| FIELDS * self.record + self.field)
+    /// Damages a record.
+    fn change_record(self, node: &mut Node) {
+        let word = match self.field {
+            0 => &mut node.kind,
+            1 => &mut node.fault,
+            2 => &mut node.live,
+            3 => return add(&mut node.parent, self.by),
+            4 => return add(&mut node.left, self.by),
+            5 => &mut node.waysa,
+            6 => &mut node.waysb,
+            7 => &mut node.present,
+            8 => &mut node.absent,
+            9 => &mut node.out,
+            10 => &mut node.low,
+            11 => &mut node.high,
+            12 => &mut node.ownlow,
+            _ => &mut node.ownhigh,
+        };
+        *word = word.wrapping_add(self.by);
     }
 
-    /// Damages the tree.
-    pub fn change(self, tree: &mut Words) {
-        if let Some(word) = self.word().and_then(|at| tree.get_mut(at)) {
-            *word = word.wrapping_add(self.by);
+    /// Damages the tree. A record that there is not is left alone; past the last field, every number is the count.
+    pub fn change(self, tree: &mut Tree) {
+        if self.field >= FIELDS {
+            add(&mut tree.used, self.by);
+        } else if let Some(node) = tree.nodes.get_mut(self.record) {
+            self.change_record(node);
         }
     }
+}
+
+/// Adds to a position.
+fn add(position: &mut usize, by: u64) {
+    *position = position.wrapping_add(by as usize);
 }

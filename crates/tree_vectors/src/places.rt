@@ -1,13 +1,12 @@
 //! Every place of a tree printed, found by the links from the root: a node before those below it, left before right.
-//! Rests on the records of `records` and on `store`. A link that leads outside the records is not followed.
+//! Rests on the records of `records`. A link that leads outside the records is not followed.
 ghost use Rattle.std.specs.Prelude.{◌+◌, ◌<◌, IfSome};
 ghost use Rattle.records.specs.Records.{tree_records};
 
-use records::{Node, RECORDS};
+use records::{Node, RECORDS, Tree};
 use std::alloc::Global;
 use std::io::Write;
 use std::{fmt, io};
-use store::{Words, record_at, used_in};
 
 /// The line of a place: leaf, independence, fault or common part as 1, 2, 3, 4, the fault, 1 for an open leaf, and the interval.
 #[derive(Clone, Copy)]
@@ -27,24 +26,24 @@ impl fmt::Display for Place {
     }
 }
 
-/// The record of the left child, which the right child's follows; a leaf has none.
+/// The left child's record, if it and the right child's are records of the tree.
 fn left_child(n: Node) -> Option<usize>
     ensures { IfSome result (λ left. left + 1 < tree_records) }
 {
-    Some(n.left).filter(|&left| left != 0 && left < RECORDS - 1)
+    n.left_child().filter(|&left| left < RECORDS - 1)
 }
 
 /// Prints a line for each place, at most as many as there are records. The records that are still to be printed wait, the next one last.
-pub fn show<W: Write>(tree: &Words, alloc: Global, out: &mut W) -> io::Result<()> {
+pub fn show<W: Write>(tree: &Tree, alloc: Global, out: &mut W) -> io::Result<()> {
     let mut waiting = Vec::new(alloc);
-    if used_in(tree) != 0 {
+    if tree.used != 0 {
         waiting.push(0)?;
     }
     for _ in 0..RECORDS {
         let Some(at) = waiting.pop().filter(|&at| at < RECORDS) else {
             break;
         };
-        let node = record_at(tree, at);
+        let node = tree.nodes[at];
         writeln!(out, "{}", Place(node))?;
         if let Some(left) = left_child(node) {
             waiting.push(left + 1)?;

@@ -1,6 +1,7 @@
 //! What the lines of a script ask for, read from the input.
-//! Rests on `numbers`.
+//! Rests on `numbers`, on `rules` for what is asked for, and on `cue_numbers` for the refinement that numbers ask for.
 use super::damage::Damage;
+use cue_numbers::numbers::kind_asked;
 use numbers::Numbers;
 use rules::{Kind, Limits};
 use std::alloc::AllocError;
@@ -31,12 +32,7 @@ pub enum Request {
 /// Reads what a hand refinement does: 0 for independence, 1 for a fault, 2 for the common part, then the fault's number.
 fn kind_read<R: Read + Drop>(input: &mut Numbers<R>) -> Kind {
     let what = input.number();
-    let fault = input.number();
-    match what {
-        0 => Kind::IndependentOr,
-        2 => Kind::IndependentAnd,
-        _ => Kind::Shannon(fault),
-    }
+    kind_asked(what, input.number())
 }
 
 impl Call {

@@ -1,15 +1,16 @@
 //! A script's table, lent to the calls on its tree, and the lines of what they answer.
-//! Rests on `dtree`.
-use super::lines::{reply, run_line};
+//! Rests on `dtree`, and on `cue_numbers` for what they answer.
+use super::lines::{Line, RunLine};
 use super::requests::Call;
+use cue_numbers::CueAnswer;
 use dtree::opening::open;
 use dtree::refining::refine;
 use dtree::runs::run;
 use numbers::Numbers;
+use records::Tree;
 use std::alloc::AllocError;
 use std::io;
 use std::io::{Read, Write};
-use store::Words;
 
 /// The most weights of a script: one more than a table may have.
 const WEIGHTS: usize = 65;
@@ -39,22 +40,22 @@ impl Table {
     }
 
     /// Opens the table and prints the line.
-    pub fn open<W: Write>(&self, tree: &mut Words, out: &mut W) -> io::Result<()> {
+    pub fn open<W: Write>(&self, tree: &mut Tree, out: &mut W) -> io::Result<()> {
         let answer = open(&self.weights, &self.present, &self.absent, tree);
-        writeln!(out, "{}", reply(answer))
+        writeln!(out, "{}", Line(CueAnswer::from(answer)))
     }
 
     /// Makes a call and prints its line.
-    pub fn call<W: Write>(&self, call: Call, tree: &mut Words, out: &mut W) -> io::Result<()> {
+    pub fn call<W: Write>(&self, call: Call, tree: &mut Tree, out: &mut W) -> io::Result<()> {
         let (weights, present, absent) = (&self.weights, &self.present, &self.absent);
         match call {
             Call::Refine { place, kind } => {
                 let answer = refine(weights, present, absent, tree, &place, kind);
-                writeln!(out, "{}", reply(answer))
+                writeln!(out, "{}", Line(CueAnswer::from(answer)))
             }
             Call::Run(limits) => {
                 let answer = run(weights, present, absent, tree, limits);
-                writeln!(out, "{}", run_line(answer))
+                writeln!(out, "{}", RunLine(CueAnswer::from(answer)))
             }
         }
     }

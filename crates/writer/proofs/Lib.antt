@@ -1,8 +1,10 @@
 -- Laws on plain lists and numbers that the functions' proofs rest on.
--- Numbers.antt: groups of refusals. Accepted.antt: what lists that are not refused say. Over.antt: pieces written one behind the other.
--- Walk.antt: what a loop has left. Writing.antt: what a call promises, by its number.
-pub mod Numbers
-mod Accepted
+-- Accepted.antt: what lists that are not refused say. Little.antt: a number's bytes. Sums.antt: what the cues count together.
+-- Over.antt: pieces written one behind the other, and what a loop has left to write. Calls.antt: any call that writes bytes or nothing.
+-- Writing.antt: what a call of the writer promises.
+pub mod Accepted
+mod Little
+mod Sums
 pub mod Over
-mod Walk
-pub mod Writing
+pub mod Calls
+mod Writing

@@ -1,136 +1,55 @@
--- Pieces written one behind the other are one piece, and what a loop has left to write.
+-- Pieces written one behind the other, and what a loop has left to write.
 -- Rests on the library's laws of lists.
-use mathlib.Core.Path.{◌≡◌, refl, sym, ap, ◌∙◌}
-use mathlib.Core.List.{List, [], ◌∷◌, ◌++◌, append_assoc, append-nil}
-use Prim.Native.Nat.{ℕ, suc, ◌+◌, ◌<◌}
-use native.Mathlib.Nat.{zero-add, add-zero, add_assoc}
-use native.Mathlib.Numerals.{add-one}
-use native.Mathlib.Omega.{arith}
-use lib.ListN.{length, take, drop, set, length-append, length-drop, take-append-drop}
-use lib.Seq.{length-take-le, take_at, drop_at, drop-drop, set_split, append_snoc}
-use Rattle.writer.specs.Pieces.{laid_over, Room, Wrote}
+use Rattle.std.proofs.Common.{◌≡◌, ℕ, List, [], ◌++◌, length, refl, sym, ap, ◌∙◌, append_assoc, append-nil, arith, length-append, length-drop}
+use Rattle.std.proofs.lemmas.List.{drop-drop}
+use Rattle.writer.specs.declared.output.Out.{Out}
+use Rattle.writer.specs.Pieces.{written, left, Room, Wrote}
 
-module _ (space : List ℕ) (i : ℕ) (p : List ℕ) (room : Room space i p) where
-  -- The part of a list up to the end of a piece that was written over it.
-  front_length : length (take i space ++ p) ≡ i + length p
-  front_length = omega (arith, length-append (take i space) p, length-take-le i space (omega arith))
+-- ---- two pieces
 
-  -- Writing keeps the length.
-  over_length : length (laid_over space i p) ≡ length space
-  unfolding laid_over
-  over_length =
-      omega (arith, length-append (take i space ++ p) (drop (i + length p) space), front_length, length-drop (i + length p) space)
+module _ {old : Out} {p : List ℕ} (q : List ℕ) where
+  -- Room for two pieces is room for the first.
+  pub room_first : Room old (p ++ q) → Room old p
+  room_first room = record { fits = omega (arith, length-append p q) }
 
-  -- A second piece written right behind the first: one piece.
-  over_append : (q : List ℕ) → laid_over (laid_over space i p) (i + length p) q ≡ laid_over space i (p ++ q)
-  unfolding laid_over
-  over_append q =
-      let rest : List ℕ = drop (i + length p) space in
-      rw (
-        take_at (take i space ++ p) rest (i + length p) front_length,
-        ← drop-drop (length q) (i + length p) (take i space ++ p ++ rest),
-        drop_at (take i space ++ p) rest (i + length p) front_length,
-        drop-drop (length q) (i + length p) space,
-        length-append p q,
-        append_assoc (take i space) p q,
-        add_assoc i (length p) (length q),
-      )
+  module _ {new : Out} (w : Wrote old p new) where
+    -- Once the first is written, there is room for the second.
+    pub room_second : Room old (p ++ q) → Room new q
+    room_second room = record { fits = omega (arith, length-append p q, ap length w.left, length-drop (length p) (left old)) }
 
--- A piece at the front.
-pub over-front : (space p : List ℕ) → laid_over space 0 p ≡ p ++ drop (length p) space
-unfolding laid_over
-over-front space p = rw (zero-add (length p))
+    -- Once the second is written too, both are written as one piece.
+    pub wrote_both : {last : Out} → Wrote new q last → Wrote old (p ++ q) last
+    wrote_both {last} v =
+        record {
+          loan = v.loan ∙ w.loan;
+          written = rw (v.written, w.written) (append_assoc (written old) p q);
+          left = rw (v.left, w.left, length-append p q) (drop-drop (length q) (length p) (left old));
+        }
 
--- ---- what was written
-
--- One byte.
-pub wrote-byte : (space : List ℕ) (i b : ℕ) → i < length space → Wrote space i (b ∷ []) (set space i b) (i + 1)
-unfolding laid_over
-wrote-byte space i b h =
-    record { holds = rw add-one (set_split space i b h ∙ sym (append_snoc (take i space) b (drop (suc i) space))); ends = refl }
-
--- The list is as long as before.
-pub wrote-long : {old new : List ℕ} {i next : ℕ} {p : List ℕ} → Room old i p → Wrote old i p new next → length new ≡ length old
-wrote-long {old} {new} {i} {next} {p} room w = ap length w.holds ∙ over_length old i p room
-
--- Room for two pieces is room for the first.
-pub room-first : {space : List ℕ} {i : ℕ} {p : List ℕ} (q : List ℕ) → Room space i (p ++ q) → Room space i p
-room-first {space} {i} {p} q room = omega (arith, length-append p q)
-
-module _ {old new : List ℕ} {i next : ℕ} {p : List ℕ} (q : List ℕ) (room : Room old i (p ++ q)) (w : Wrote old i p new next) where
-  -- Once the first is written, there is room for the second behind it.
-  pub room_second : Room new next q
-  room_second = omega (arith, wrote-long (room-first q room) w, length-append p q)
-
-  -- Once the second is written too, both are written as one piece.
-  pub wrote_both : {last : List ℕ} {end : ℕ} → Wrote new next q last end → Wrote old i (p ++ q) last end
-  wrote_both {last} {end} v =
-      record {
-        holds = v.holds ∙ rw (w.holds, w.ends) (over_append old i p (room-first q room) q);
-        ends = omega (arith, v.ends, w.ends, length-append p q);
-      }
-
--- ---- three pieces, one behind the other
-
--- Room for all is room for the first.
-pub first-room : {space : List ℕ} {i : ℕ} {p : List ℕ} (q r : List ℕ) → Room space i (p ++ q ++ r) → Room space i p
-first-room q r room = room-first q (room-first r room)
-
-module _ {a b : List ℕ} {i j : ℕ} {p : List ℕ} (q r : List ℕ) (room : Room a i (p ++ q ++ r)) (first : Wrote a i p b j) where
-  -- Once the first is written, there is room for the second.
-  pub second_room : Room b j q
-  second_room = room_second q (room-first r room) first
-
-  module _ {c : List ℕ} {k : ℕ} (second : Wrote b j q c k) where
-    -- Once the second is written too, there is room for the third.
-    pub third-room : Room c k r
-    third-room = room_second r room (wrote_both q (room-first r room) first second)
-
-    -- Once all are written, they are written as one piece.
-    pub wrote-three : {d : List ℕ} {l : ℕ} → Wrote c k r d l → Wrote a i (p ++ q ++ r) d l
-    wrote-three third = wrote_both r room (wrote_both q (room-first r room) first second) third
+-- No bytes.
+wrote_none : (out : Out) → Wrote out [] out
+wrote_none out = record { loan = refl; written = sym (append-nil (written out)); left = refl }
 
 -- ---- what is left to write
 
--- Of the piece `whole`, to be written at position i of `old`, only `rest` is left, and goes to position next of `new`.
-pub record Left (old : List ℕ) (i : ℕ) (whole new : List ℕ) (next : ℕ) (rest : List ℕ) : Type 0 where
-  pub part : List ℕ
-  pub wrote : Wrote old i part new next
-  pub both : part ++ rest ≡ whole
+-- Of a piece to be written behind `start` only `rest` is left, behind `now`: there is room for it, and writing it completes the piece.
+pub record Remains (start : Out) (whole : List ℕ) (now : Out) (rest : List ℕ) : Type 0 where
+  pub room : Room now rest
+  pub completes : (end : Out) → Wrote now rest end → Wrote start whole end
 
 -- At first, all of it.
-pub left-all : (old : List ℕ) (i : ℕ) (whole : List ℕ) → Left old i whole old i whole
-unfolding laid_over
-left-all old i whole =
-    record {
-      part = [];
-      wrote = record { holds = rw (append-nil (take i old), add-zero i) (sym (take-append-drop i old)); ends = sym (add-zero i) };
-      both = refl;
-    }
+pub remains_all : (start : Out) (whole rest : List ℕ) → Room start whole → rest ≡ whole → Remains start whole start rest
+remains_all start whole rest room e = rw e (record { room = room; completes = λ end w. w })
 
-module _ {old new : List ℕ} {i next : ℕ} {whole rest : List ℕ} (room : Room old i whole) (l : Left old i whole new next rest) where
-  -- Room for what is written and what is left.
-  left_both : Room old i (l.part ++ rest)
-  left_both = rw l.both room
+module _ {start now : Out} {whole rest p : List ℕ} (q : List ℕ) (r : Remains start whole now rest) (e : rest ≡ p ++ q) where
+  -- There is room for the next piece of it.
+  pub next_room : Room now p
+  next_room = room_first q (rw e at r.room)
 
-  -- The list is as long as before.
-  pub left_long : length new ≡ length old
-  left_long = wrote-long (room-first rest left_both) l.wrote
+  -- Once that is written, only the others are left.
+  pub next_written : {next : Out} → Wrote now p next → Remains start whole next q
+  next_written w = record { room = room_second q w (rw e at r.room); completes = λ end v. r.completes end (rw e (wrote_both q w v)) }
 
-  -- There is room for what is left.
-  pub left_room : Room new next rest
-  left_room = room_second rest left_both l.wrote
-
-  -- Nothing is left: the whole piece is written.
-  pub left_none : rest ≡ [] → Wrote old i whole new next
-  left_none e = rw (sym l.both ∙ ap (λ (r : List ℕ). l.part ++ r) e ∙ append-nil l.part) l.wrote
-
--- The next piece of what is left: there is room for it, and once it is written, only the others are left.
-module _ {old new : List ℕ} {i next : ℕ} {whole p : List ℕ} (q : List ℕ) (room : Room old i whole) (l : Left old i whole new next (p ++ q)) where
-  pub next_room : Room new next p
-  next_room = room-first q (left_room room l)
-
-  pub next_written : {last : List ℕ} {end : ℕ} → Wrote new next p last end → Left old i whole last end q
-  next_written w =
-      let both : l.part ++ p ++ q ≡ whole = append_assoc l.part p q ∙ l.both in
-      record { part = l.part ++ p; wrote = wrote_both p (room-first q (rw both room)) l.wrote w; both = both }
+-- Nothing is left: the piece is written.
+pub remains_none : {start now : Out} {whole rest : List ℕ} → Remains start whole now rest → rest ≡ [] → Wrote start whole now
+remains_none {start} {now} {whole} {rest} r e = r.completes now (rw e (wrote_none now))

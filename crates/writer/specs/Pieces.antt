@@ -1,16 +1,29 @@
--- Pieces written into a list of bytes, one behind the other: what a function that writes one asks for, and what it leaves.
+-- Pieces written into an output, one behind the other: what a function that writes one asks for, and what it leaves.
 -- Rests on the lists of the library and on nothing of `rules`.
-use Rattle.std.specs.Prelude.{◌≡◌, List, ◌++◌, ℕ, ◌+◌, ◌≤◌, length, take, drop}
+use Rattle.std.specs.Prelude.{◌≡◌, List, [], ◌++◌, ℕ, ◌≤◌, length, take, drop}
+use Rattle.std.specs.Borrow.{MutBor}
+use Rattle.writer.specs.declared.output.Out.{Out}
 
--- A list with a piece written over it from position i on.
-unfoldable pub laid_over : List ℕ → ℕ → List ℕ → List ℕ
-laid_over space i piece = take i space ++ piece ++ drop (i + length piece) space
+-- What is written.
+abbrev pub written : Out → List ℕ
+written out = take out.at out.space.now
 
--- A piece at position i ends within the list.
-pub record Room (space : List ℕ) (i : ℕ) (piece : List ℕ) : Type 0 where
-  pub fits : i + length piece ≤ length space
+-- What is left of the space, as it was lent.
+abbrev pub left : Out → List ℕ
+left out = drop out.at out.space.now
 
--- A piece was written at position i: what the list holds afterwards, and the position behind the piece.
-pub record Wrote (old : List ℕ) (i : ℕ) (piece new : List ℕ) (next : ℕ) : Type 0 where
-  pub holds : new ≡ laid_over old i piece
-  pub ends : next ≡ i + length piece
+-- A lent space of which nothing is written yet.
+pub record Opened (space : MutBor (List ℕ)) (out : Out) : Type 0 where
+  pub loan : out.space.ghost_name ≡ space.ghost_name
+  pub written : written out ≡ []
+  pub left : left out ≡ space.now
+
+-- A piece ends within what is left.
+pub record Room (out : Out) (piece : List ℕ) : Type 0 where
+  pub fits : length piece ≤ length (left out)
+
+-- A piece was written behind what was written before. The loan is the same, so that the owner of the space learns what it holds.
+pub record Wrote (old : Out) (piece : List ℕ) (new : Out) : Type 0 where
+  pub loan : new.space.ghost_name ≡ old.space.ghost_name
+  pub written : written new ≡ written old ++ piece
+  pub left : left new ≡ drop (length piece) (left old)

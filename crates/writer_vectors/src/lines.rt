@@ -1,7 +1,14 @@
 //! Printed lines: numbers, and a hash for what is too long to print. Rests on the answers of `rules`.
-use rules::{Entry, Head, WriteAnswer};
+use rules::{Entry, Head, Refusal};
 use std::io;
 use std::io::Write;
+use std::iter::repeat;
+
+/// The most faults of a sheet.
+pub const FAULTS: usize = 64;
+
+/// The most ways of a cue.
+pub const WAYS: usize = 128;
 
 /// The prime of the hash.
 const PRIME: u64 = 1000000007;
@@ -11,9 +18,13 @@ fn hashed(hash: u64, x: u64) -> u64 {
     (257 * (hash % PRIME) + x % PRIME + 1) % PRIME
 }
 
-/// The hash of a list: a polynomial in 257, modulo the prime.
-fn hash<T: Copy + Into<u64>>(list: &[T]) -> u64 {
-    list.iter().fold(0, |hash, &x| hashed(hash, x.into()))
+/// The hash of so many numbers, those of a list and zeros behind: a polynomial in 257, modulo the prime.
+fn hash<T: Copy + Into<u64>>(list: &[T], count: usize) -> u64 {
+    list.iter()
+        .map(|&x| x.into())
+        .chain(repeat(0))
+        .take(count)
+        .fold(0, hashed)
 }
 
 /// Prints what reading finds in the head, and the hash of the weights with zeros behind.
@@ -27,7 +38,7 @@ pub fn print_head<W: Write>(head: Head, weights: &[u32], out: &mut W) -> io::Res
     writeln!(
         out,
         "head {faults} {cues} {allowance} {budget} {}",
-        hash(weights)
+        hash(weights, FAULTS)
     )
 }
 
@@ -42,16 +53,20 @@ pub fn print_cue<W: Write>(
     writeln!(
         out,
         "cue {cue} {ways} {start} {} {}",
-        hash(present),
-        hash(absent)
+        hash(present, WAYS),
+        hash(absent, WAYS)
     )
 }
 
 /// Prints what the writer answered, behind a name, and the hash of the whole space afterwards.
-pub fn print_written<W: Write>(answer: WriteAnswer, space: &[u8], out: &mut W) -> io::Result<()> {
+pub fn print_written<W: Write>(
+    answer: Result<u64, Refusal>,
+    space: &[u8],
+    out: &mut W,
+) -> io::Result<()> {
     let (number, count) = match answer {
-        WriteAnswer::Written(count) => (0, count),
-        WriteAnswer::Refused(number) => (number, 0),
+        Ok(count) => (0, count),
+        Err(refusal) => (u64::from(refusal), 0),
     };
-    writeln!(out, " {number} {count} {}", hash(space))
+    writeln!(out, " {number} {count} {}", hash(space, space.len()))
 }

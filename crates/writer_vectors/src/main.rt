@@ -2,17 +2,18 @@
 //! Rests on `writer` and `sheet`. An independent implementation writes the input and the expected lines.
 #![tactic(auto)]
 
+mod gathered;
 mod lines;
-mod lists;
 
+use gathered::Gathered;
 use lines::print_written;
-use lists::Lists;
 use numbers::Numbers;
-use rules::{ReadAnswer, WriteAnswer};
-use sheet::reader::read;
+use rules::Refusal;
+use sheet::accepted::Sheet;
 use std::alloc::Global;
 use std::io;
-use std::io::{BufReader, BufWriter, ErrorKind, Read, Write};
+use std::io::{BufWriter, Read, Write};
+use streams::only_for_memory;
 
 /// The most bytes of a case's name.
 const NAME: usize = 80;
@@ -20,8 +21,8 @@ const NAME: usize = 80;
 /// The length of a space: a little more than that of the longest sheet.
 const SPACE: usize = 49620;
 
-/// A space before anything is written.
-const BLANK: [u8; SPACE] = [170; SPACE];
+/// What each byte of a space is before anything is written.
+const BLANK: u8 = 170;
 
 /// Prints the name that stands before the next colon, and the colon.
 fn print_name<R: Read + Drop, W: Write>(input: &mut Numbers<R>, out: &mut W) -> io::Result<()> {
@@ -41,16 +42,16 @@ fn write_again<W: Write>(
     sheet: &[u8],
     space: &mut [u8],
     out: &mut W,
-) -> io::Result<WriteAnswer> {
-    match read(sheet) {
-        ReadAnswer::Sheet(head) => Ok(Lists::read_back(alloc, sheet, head, out)?.write(space)),
-        ReadAnswer::Refused(number) => Ok(WriteAnswer::Refused(number)),
+) -> io::Result<Result<u64, Refusal>> {
+    match Sheet::read(sheet) {
+        Ok(sheet) => Ok(Gathered::read_back(alloc, sheet, out)?.write(space)),
+        Err(refusal) => Ok(Err(refusal)),
     }
 }
 
 /// Reads a written sheet back and writes what was read to another space.
 fn back<W: Write>(alloc: Global, sheet: &[u8], out: &mut W) -> io::Result<()> {
-    let mut space = BLANK;
+    let mut space = vec![in alloc; BLANK; SPACE]?;
     let answer = write_again(alloc, sheet, &mut space, out)?;
     write!(out, "again:")?;
     print_written(answer, &space, out)
@@ -60,27 +61,23 @@ fn back<W: Write>(alloc: Global, sheet: &[u8], out: &mut W) -> io::Result<()> {
 /// sheet.
 fn case<R: Read + Drop, W: Write>(input: &mut Numbers<R>, out: &mut W) -> io::Result<()> {
     print_name(input, out)?;
-    let lists = Lists::read(input)?;
+    let gathered = Gathered::read(input)?;
     let lent = input.list_length(SPACE);
-    let mut space = BLANK;
-    let answer = lists.write(&mut space[..lent]);
+    let mut space = vec![in input.alloc; BLANK; SPACE]?;
+    let answer = gathered.write(&mut space[..lent]);
     print_written(answer, &space, out)?;
-    match answer {
-        WriteAnswer::Written(length) => match space.get(..length as usize) {
-            Some(sheet) => back(input.alloc, sheet, out),
-            None => Ok(()),
-        },
-        WriteAnswer::Refused(_) => Ok(()),
+    if let Ok(length) = answer
+        && let Some(sheet) = space.get(..length as usize)
+    {
+        back(input.alloc, sheet, out)?;
     }
+    Ok(())
 }
 
 /// Makes all cases.
 fn cases(rt: &(impl Input + Print + AllocGlobal)) -> io::Result<()> {
     let alloc = rt.alloc();
-    let mut input = Numbers {
-        bytes: BufReader::new(alloc, rt.reader())?.bytes(),
-        alloc,
-    };
+    let mut input = Numbers::new(alloc, rt.reader())?;
     let mut out = BufWriter::new(alloc, io::writer(rt))?;
     for _ in 0..input.number() {
         case(&mut input, &mut out)?;
@@ -88,10 +85,7 @@ fn cases(rt: &(impl Input + Print + AllocGlobal)) -> io::Result<()> {
     out.flush()
 }
 
-/// Fails only for want of memory: output that cannot be written is missed where it is compared.
+/// Output that cannot be written is missed where it is compared.
 fn main(rt: HostRuntime) -> io::Result<()> {
-    match cases(&rt) {
-        Err(why) if why.kind() == ErrorKind::OutOfMemory => Err(why),
-        _ => Ok(()),
-    }
+    only_for_memory(cases(&rt))
 }

@@ -1,26 +1,28 @@
--- `export` meets its contract: a call whose number is 0 writes the text, and any other writes nothing.
--- Rests on Exported.antt, on `writer`, Over, and on the contracts of `export_number` and `put_text`.
-use mathlib.Core.Path.{sym, ◌∙◌}
-use Rattle.writer.proofs.Over.{wrote-long}
-use Rattle.csv_export.proofs.Exported.{may_write, wrote_text, wrote_nothing}
+-- `export` meets its contract: a refused call writes nothing, and any other the text of the sheet.
+-- Rests on Exported.antt and the contracts of `read`, `text_length` and `put_text`.
+use Rattle.std.proofs.Common.{rules}
+use Rattle.rules.proofs.Bytes.{each_below}
+use Rattle.csv_export.proofs.Exported.{refused_sheet, refused_space, room, wrote_text}
 use Rattle.csv_export.proofs.export.Goals as goal
 
-pub put_text-end-requires : goal.put_text-end-requires
-put_text-end-requires c =
-    let kept = sym c.export_number-number.ensures ∙ c.if-number-eq0.true in
-    let a = c.args in let whole = may_write a.sheet.now a.space.now kept in
-    record { s_value = whole.0; room = whole.1 }
+pub returns-in_err-sheet : goal.returns-in_err-sheet
+returns-in_err-sheet c = record { promise = refused_sheet _ _ c.in_err-sheet.field-0.0 c.in_err-sheet.ensures _ (search rules) }
 
-pub shape_of-space-then-number-eq0 : goal.shape_of-space-then-number-eq0
-shape_of-space-then-number-eq0 c =
-    let kept = sym c.export_number-number.ensures ∙ c.if-number-eq0.true in
-    let a = c.args in
-    wrote-long (may_write a.sheet.now a.space.now kept).1 c.put_text-end.ensures
+pub returns-in_err-test : goal.returns-in_err-test
+returns-in_err-test c =
+    let below = each_below 256 c.args.bytes.now (λ i. (c.type_inv.bytes i).fits) in
+    let refused = refused_space _ _ c.in_ok-sheet.ensures below c.text_length.ensures c.test.ensures in
+    record { promise = refused c.in_err-test.field-0.0 (search rules) _ (search rules) }
 
-pub returns-then-number-eq0 : goal.returns-then-number-eq0
-returns-then-number-eq0 c =
-    let kept = sym c.export_number-number.ensures ∙ c.if-number-eq0.true in
-    let a = c.args in record { promise = wrote_text a.sheet.now a.space.now kept c.put_text-end.ensures }
+pub put_text-requires : goal.put_text-requires
+put_text-requires c =
+    let below = each_below 256 c.args.bytes.now (λ i. (c.type_inv.bytes i).fits) in
+    let fresh = c.new-out.ensures in
+    room _ _ c.in_ok-sheet.ensures below c.text_length.ensures c.test.ensures c.in_ok-test.was fresh.written fresh.left
 
 pub returns : goal.returns
-returns c = let a = c.args in record { promise = wrote_nothing a.sheet.now a.space.now c.export_number-number.ensures c.if-number-eq0.false }
+returns c =
+    let below = each_below 256 c.args.bytes.now (λ i. (c.type_inv.bytes i).fits) in
+    let fresh = c.new-out.ensures in
+    let wrote = wrote_text _ _ c.in_ok-sheet.ensures below c.text_length.ensures c.test.ensures c.in_ok-test.was fresh.written fresh.left in
+    record { promise = wrote c.put_text.ensures _ (search rules) _ c.len.ensures }

@@ -1,9 +1,10 @@
 -- `call_after` meets its contract: each call of the reader is one step of the definition, and the last gives the answer.
--- Of `open_reader` and `next` only the contracts are known.
-use Rattle.std.proofs.Common.{◌≡◌, ℕ, ◌+◌, List, sym, ap, ◌∙◌, arith, le_antisymm, add-one, Bor}
+-- Of `open` and `next` only the contracts are known.
+use Rattle.std.proofs.Common.{◌≡◌, ℕ, ◌+◌, List, Result, Option, sym, ap, ◌∙◌, arith, add-one, Bor}
 use Rattle.rules.specs.Answers.{place_after}
 use Rattle.rules.specs.Sheet.{entry_answer}
-use Rattle.rules.specs.declared.EntryAnswer.{EntryAnswer}
+use Rattle.rules.specs.declared.Entry.{Entry}
+use Rattle.rules.specs.declared.Refusal.{Refusal}
 use Rattle.cue_reader.specs.Driven.{place_at, call_answer}
 use Rattle.cue_reader.specs.Promises.{ReaderCalled}
 use Rattle.cue_reader.specs.declared.Reader.{Reader}
@@ -21,12 +22,12 @@ unfolding place_at
 begins bs d s e = (s, e)
 
 -- The answer of its next call.
-answered : (bs : List ℕ) (k : ℕ) (d : Reader) {a : EntryAnswer} (x : Reader) → Driven bs k d → ReaderCalled d a x → a ≡ call_answer bs k
+answered : (bs : List ℕ) (k : ℕ) (d : Reader) {a : Result (Option Entry) Refusal} (x : Reader) → Driven bs k d → ReaderCalled d a x → a ≡ call_answer bs k
 unfolding call_answer
 answered bs k d x at p = p.answer_is ∙ ap (λ (ys : List ℕ). entry_answer ys d.at) at.0 ∙ ap (entry_answer bs) at.1
 
 -- And the reader after it.
-goes_on : (bs : List ℕ) (k : ℕ) (d : Reader) {a : EntryAnswer} (x : Reader) → Driven bs k d → ReaderCalled d a x → Driven bs (k + 1) x
+goes_on : (bs : List ℕ) (k : ℕ) (d : Reader) {a : Result (Option Entry) Refusal} (x : Reader) → Driven bs k d → ReaderCalled d a x → Driven bs (k + 1) x
 unfolding place_at call_answer
 goes_on bs k d {a = a} x at p = (
   ap (λ (b : Bor (List ℕ)). b.now) p.sheet_is ∙ at.0,
@@ -35,16 +36,14 @@ goes_on bs k d {a = a} x at p = (
 
 -- ---- the goals
 
-pub loop-made-init : goal.loop-made-init
-loop-made-init c =
-    (omega arith, begins _ c.open_reader-r.result (ap (λ (b : Bor (List ℕ)). b.now) c.open_reader-r.ensures.reader.0) c.open_reader-r.ensures.reader.1)
+pub loop-init : goal.loop-init
+loop-init c = begins _ c.open-reader.result (ap (λ (b : Bor (List ℕ)). b.now) c.open-reader.ensures.bytes) c.open-reader.ensures.place
 
-pub loop-made-preserved : goal.loop-made-preserved
-loop-made-preserved c = (omega (arith, c.loop-made-test.true), goes_on _ _ _ _ c.loop-made.invariant.1 c.next.ensures.promise)
+pub loop-preserved : goal.loop-preserved
+loop-preserved c = goes_on _ _ _ _ c.loop.invariant c.next.ensures.promise
 
 pub returns : goal.returns
 returns c =
     record {
-      answer = answered _ _ _ _ c.loop-made.invariant.1 c.next-2.ensures.promise
-          ∙ ap (call_answer c.args.s.now) (le_antisymm c.loop-made.invariant.0 c.loop-made-test.false);
+      answer = answered _ _ _ _ c.loop.invariant c.next-2.ensures.promise ∙ ap (call_answer c.args.sheet.now) (omega (arith, c.loop-test.false));
     }

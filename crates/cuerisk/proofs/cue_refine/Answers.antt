@@ -4,4 +4,4 @@ use Rattle.cuerisk.proofs.Telling.{refining-told}
 use Rattle.cuerisk.proofs.cue_refine.Goals as goal
 
 pub returns : goal.returns
-returns c = record { promise = refining-told _ _ _ _ _ _ _ (rw c.kind_asked-kind.ensures at c.refine.ensures.promise) c.of_answer.ensures }
+returns c = record { promise = refining-told _ _ _ _ _ _ _ (rw c.kind_asked-kind.ensures at c.refine.ensures.promise) c.from.ensures }

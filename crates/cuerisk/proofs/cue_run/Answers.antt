@@ -4,4 +4,4 @@ use Rattle.cuerisk.proofs.Telling.{running-told}
 use Rattle.cuerisk.proofs.cue_run.Goals as goal
 
 pub returns : goal.returns
-returns c = record { promise = running-told _ _ _ _ _ _ c.run.ensures.promise c.of_run.ensures }
+returns c = record { promise = running-told _ _ _ _ _ _ c.run.ensures.promise c.from.ensures }

@@ -1,8 +1,7 @@
--- `cue_widest` meets its contract: what `page::widest` finds, in the numbers of `of_spot`. Of the two callees only their contracts are used.
-use Rattle.std.proofs.Common.{◌≡◌, List, ap, ◌∙◌}
+-- `cue_widest` meets its contract: what `page::widest` finds, in numbers. Of the two callees only their contracts are used.
+use Rattle.std.proofs.Common.{◌≡◌, ℕ, List, Option, ap, ◌∙◌}
 use Rattle.records.specs.declared.Node.{Node}
 use Rattle.page.specs.Widest.{widest_of}
-use Rattle.page.specs.declared.Spot.{Spot}
 use Rattle.page.proofs.Finds.{widest-told}
 use Rattle.cue_numbers.specs.Numbers.{flat_spot}
 use Rattle.cue_numbers.specs.declared.CueSpot.{CueSpot}
@@ -10,8 +9,8 @@ use Rattle.cuerisk.specs.Told.{SearchTold}
 use Rattle.cuerisk.proofs.cue_widest.Goals as goal
 
 -- What was found, in numbers.
-told : (xs : List Node) (r : Spot) (t : CueSpot) → r ≡ widest_of xs → t ≡ flat_spot r → SearchTold xs t
+told : (xs : List Node) (r : Option ℕ) (t : CueSpot) → r ≡ widest_of xs → t ≡ flat_spot r → SearchTold xs t
 told xs r t e e' = record { numbers = e' ∙ ap flat_spot e; promise = widest-told xs }
 
 pub returns : goal.returns
-returns c = record { promise = told _ _ _ c.widest.ensures.answer c.of_spot.ensures }
+returns c = record { promise = told _ _ _ c.widest.ensures.answer c.from.ensures }

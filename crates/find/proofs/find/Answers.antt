@@ -1,28 +1,33 @@
 -- `find` meets its contract. The loop's invariant: from the record that was reached, the bytes that are left lead on to the answer.
--- Rests on Steps.antt and the contract of `record_at`.
-use mathlib.Core.Path.{ap}
-use native.Mathlib.Omega.{arith}
-use Rattle.records.specs.declared.Node.{Node}
-use Rattle.find.proofs.Steps.{start, there, at_leaf, no_step, turn}
+-- Rests on Steps.antt and on `records`, Children.
+use lib.ListN.{get_or}
+use Rattle.std.proofs.Common.{rules, arith, ◌≡◌, ◌∙◌, ◌+◌, ◌≤◌, None}
+use Rattle.records.specs.Records.{record_in}
+use Rattle.records.proofs.Children.{no_child, a_child}
+use Rattle.find.proofs.Steps.{there, at_leaf, no_step, turn}
 use Rattle.find.proofs.find.Goals as goal
+use Rattle.find.proofs.find.Goals.{in-0, in-1}
 
-pub loop-i-init : goal.loop-i-init
-loop-i-init c = start _ _
+pub returns-in_err-left-clause-reached : goal.returns-in_err-left-clause-reached
+returns-in_err-left-clause-reached c =
+    let none : c.from_residual.result ≡ None = search rules in
+    none ∙ at_leaf c.loop-side.invariant c.loop-side-test.true (no_child (record_in c.args.tree.now.nodes c.loop-side.at) _ c.left_child.ensures (search rules))
 
-pub record_at-n-requires : goal.record_at-n-requires
-record_at-n-requires c = c.loop-i.invariant.inside
+pub returns-in_default-clause-reached : goal.returns-in_default-clause-reached
+returns-in_default-clause-reached c = no_step c.loop-side.invariant c.loop-side-test.true (omega (arith, c.in_default))
 
-pub returns-then-left-eq0 : goal.returns-then-left-eq0
-returns-then-left-eq0 c = at_leaf c.loop-i.invariant c.loop-i-test.true _ c.record_at-n.ensures c.if-left-eq0.true
+-- A step leads as many records behind the left child's as its byte says.
+pub loop-side-preserved : goal.loop-side-preserved
+loop-side-preserved c =
+    let l = c.loop-side in
+    let child = a_child (record_in c.args.tree.now.nodes l.at) _ c.left_child.ensures c.in_ok-left.left (search rules) in
+    let step = get_or c.args.place.now l.side-index 0 in
+    let leads : (c.match-side.at ≡ (record_in c.args.tree.now.nodes l.at).left + step) × (step ≤ 1) =
+    elim c.match-side.branch [
+      | in-0 w ↦ (omega (arith, w.at-is, w.in-0, child.1), omega (arith, w.in-0))
+      | in-1 w ↦ (omega (arith, w.at-is, w.in-1, child.1), omega (arith, w.in-1))
+    ] in
+    rw leads.0 (turn l.invariant c.loop-side-test.true c.requires child.0 leads.1)
 
-pub returns-then-side-gt1 : goal.returns-then-side-gt1
-returns-then-side-gt1 c = no_step c.loop-i.invariant c.loop-i-test.true c.if-side-gt1.true
-
-pub overflow_add-at : goal.overflow_add-at
-overflow_add-at c = omega (arith, (c.requires.each c.loop-i.at).children_inside, ap (λ (n : Node). n.left) c.record_at-n.ensures, c.if-side-gt1.false)
-
-pub loop-i-preserved : goal.loop-i-preserved
-loop-i-preserved c = turn c.loop-i.invariant c.loop-i-test.true _ c.record_at-n.ensures c.requires c.if-left-eq0.false c.if-side-gt1.false
-
-pub returns : goal.returns
-returns c = there c.loop-i.invariant c.loop-i-test.false
+pub returns-clause-reached : goal.returns-clause-reached
+returns-clause-reached c = there c.loop-side.invariant (omega arith)

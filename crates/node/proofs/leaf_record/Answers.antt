@@ -1,58 +1,55 @@
 -- `leaf_record` meets its contract: the ends, the open mark and the two words are those of the ways.
--- Rests on the contract of `ends`, and on `clauses`, Loops, for the two words.
-use mathlib.Core.Path.{◌≡◌, refl, sym}
-use mathlib.Core.List.{List, []}
-use mathlib.Core.Bool.{Bool, true, false}
-use Prim.Native.Nat.{ℕ, ◌<◌, ◌^◌}
-use borrow.Author.Rules.{rules}
-use Rattle.rules.specs.Table.{indicator}
-use Rattle.rules.specs.Leaf.{is_open}
+-- Rests on the contract of `ends`, and on `clauses`, Leaf, for the two words.
+use Rattle.std.proofs.Common.{◌≡◌, refl, sym, ap, ◌∙◌, Bool, true, false, List, [], ℕ, ◌<◌, ◌^◌, rules}
+use Rattle.std.specs.Int.{from_bool}
+use Rattle.rules.specs.Leaf.{is_open, leaf_low, leaf_high}
 use Rattle.rules.specs.Tree.{end}
 use Rattle.rules.specs.declared.Way.{Way}
 use Rattle.records.specs.Records.{kind_code, fault_code, live_code, low_word, high_word}
 use Rattle.records.specs.Growing.{fresh_record}
 use Rattle.records.specs.declared.Node.{Node}
-use Rattle.clauses.specs.declared.Clauses.{Clauses}
-use Rattle.clauses.proofs.Loops.{low_back, high_back}
+use Rattle.clauses.specs.declared.lost.Gone.{Gone}
+use Rattle.clauses.proofs.Leaf.{low_back, high_back}
 use Rattle.formula.specs.declared.Ends.{Ends}
 use Rattle.formula.specs.Leaves.{ends_of}
 use Rattle.node.specs.Told.{spot_with}
 use Rattle.node.proofs.leaf_record.Goals as goal
 
 -- The two ways to write the open mark.
-mark : (b : Bool) → indicator b ≡ elim b as (λ x. ℕ) [ true ↦ 1 | false ↦ 0 ]
+mark : (b : Bool) → from_bool b ≡ elim b as (λ x. ℕ) [ true ↦ 1 | false ↦ 0 ]
 mark true = refl
 mark false = refl
 
-all-fields : (ws : List ℕ) (vs : List Way) (up-link : ℕ) (c : Clauses) (e : Ends) → e ≡ ends_of ws vs → c.waysa ≡ low_word vs → c.waysb ≡ high_word vs
+all-fields : (ws : List ℕ) (vs : List Way) (up-link : ℕ) (g : Gone) (m a b lo hi : ℕ) → m ≡ from_bool (is_open ws vs) → a ≡ low_word vs → b ≡ high_word vs
+    → lo ≡ leaf_low ws vs → hi ≡ leaf_high ws vs
     → ◌≡◌ {A = Node}
     (record {
       kind = 1;
       fault = 0;
-      live = e.live;
+      live = m;
       parent = up-link;
       left = 0;
-      waysa = c.waysa;
-      waysb = c.waysb;
-      present = c.gone.present;
-      absent = c.gone.absent;
-      out = c.gone.out;
-      low = e.low;
-      high = e.high;
-      ownlow = e.low;
-      ownhigh = e.high;
+      waysa = a;
+      waysb = b;
+      present = g.present;
+      absent = g.absent;
+      out = g.out;
+      low = lo;
+      high = hi;
+      ownlow = lo;
+      ownhigh = hi;
     })
-    (fresh_record (record { weights = ws; present = []; absent = [] }) (spot_with c.gone vs) up-link)
-unfolding ends_of kind_code fault_code live_code end
-all-fields ws vs up-link c e h l g = rw (h, l, g, mark (is_open ws vs))
+    (fresh_record (record { weights = ws; present = []; absent = [] }) (spot_with g vs) up-link)
+unfolding kind_code fault_code live_code end
+all-fields ws vs up-link g m a b lo hi e h l f k = rw (e, h, l, f, k, mark (is_open ws vs))
 
 pub returns : goal.returns
+unfolding ends_of
 returns c = let a = c.args in
     let e = c.ends-e.ensures in
-    let w = c.requires.in_table in
-    let l : a.c.waysa < 2 ^ 64 = search rules in
-    let h : a.c.waysb < 2 ^ 64 = search rules in (
-      all-fields _ _ _ a.c _ e.0 (sym (low_back _ _ a.c w l)) (sym (high_back _ _ a.c w h)),
-      e.1,
-      e.2,
+    let l : a.c.numbers.low < 2 ^ 64 = search rules in (
+      all-fields _ _ _ _ _ _ _ _ _ (c.from.ensures ∙ ap (λ (x : Ends). from_bool x.«open») e) (sym (low_back a.c l)) (sym (high_back a.c))
+          (c.low.view_is ∙ ap (λ (x : Ends). x.low) e) (c.high.view_is ∙ ap (λ (x : Ends). x.high) e),
+      c.low.invariant,
+      c.high.invariant,
     )

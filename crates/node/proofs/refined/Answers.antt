@@ -1,5 +1,5 @@
 -- `refined` meets its contract: the two codes are those of the kind, and the other fields stay.
--- Rests on `store`, SafeLaws, and the contracts of `kind_code` and `fault_code`.
+-- Rests on `records`, SafeLaws, and the contracts of `kind_code` and `fault_code`.
 use mathlib.Core.Path.{◌≡◌}
 use mathlib.Core.Option.{some}
 use Prim.Native.Nat.{ℕ, ◌+◌, ◌<◌}
@@ -7,8 +7,8 @@ use Rattle.rules.specs.declared.Kind.{Kind}
 use Rattle.records.specs.Records.{tree_records, kind_code, fault_code}
 use Rattle.records.specs.Growing.{changed, refined_record}
 use Rattle.records.specs.declared.Node.{Node}
-use Rattle.store.specs.Safe.{SafeNode}
-use Rattle.store.proofs.SafeLaws.{safe-changed}
+use Rattle.records.specs.Safe.{SafeNode}
+use Rattle.records.proofs.SafeLaws.{safe-changed}
 use Rattle.node.proofs.refined.Goals as goal
 
 -- The record with these two codes is the refined one, and safe.
@@ -17,4 +17,4 @@ made : (x : Node) (k : Kind) (l code f : ℕ) → code ≡ kind_code (some k) �
 made x k l code f e h s r = (rw (e, h), safe-changed x code f 0 l x.low x.high s r s.low_le s.high_le)
 
 pub returns : goal.returns
-returns c = made c.args.x c.args.k c.args.left _ _ c.kind_code.ensures c.fault_code.ensures c.requires.safe_node c.requires.left_bound
+returns c = made c.args.x.now c.args.k c.args.left _ _ c.kind_code.ensures c.fault_code.ensures c.requires.safe_node c.requires.left_bound

@@ -1,13 +1,14 @@
--- `append_lines` meets its contract. The loop's invariant: the lines that are left, appended to what stands, give the whole.
--- Rests on the contracts of `line_at` and `append_line`, on Whole.antt, and on `rules`, ReaderCalls: the sheet has as many cues as its head says.
-use Prim.Native.Nat.{◌-◌}
-use Rattle.rules.specs.Sheet.{decode}
-use Rattle.report.specs.Appended.{text_of}
-use Rattle.report.proofs.Whole.{LinesLeft}
+-- `append_lines` meets its contract. The loop's invariant: the lines of the entries that are left, appended to what stands, give the whole.
+-- Rests on Appending.antt and the contracts of `run_afresh` and `append_line`.
+use Rattle.std.proofs.Common.{◌≡◌, take}
+use Rattle.rules.specs.Sheet.{limits_in, weights_in}
+use Rattle.sheet.specs.Reading.{entries_in}
+use Rattle.report.specs.Appended.{appended}
+use Rattle.report.specs.Lines.{entries_text}
 use Rattle.report.proofs.append_lines.Given as goal
 
-abbrev pub invariant-loop-i : goal.invariant-loop-i
-invariant-loop-i l = LinesLeft l.limits (decode l.s).weights (decode l.s).cues (text_of l.initial.text l.length) (text_of l.text l.at) l.i
-
-abbrev pub decreases-loop-i : goal.decreases-loop-i
-decreases-loop-i l = l.last - l.i
+abbrev pub invariant-loop-entry : goal.invariant-loop-entry
+invariant-loop-entry l = let bs = l.sheet.bytes.now in record {
+  weights : l.table.weights.items ≡ take 64 (weights_in bs);
+  lines : appended l.text (entries_text (limits_in bs) bs l.entry-iterator) ≡ appended l.initial.text (entries_text (limits_in bs) bs (entries_in bs));
+}

@@ -1,25 +1,15 @@
 -- `report` meets its contract, for an accepted sheet and for a refused one.
--- Rests on the contracts of `read` and of what appends to the text, on Head.antt and Whole.antt.
-use mathlib.Core.Path.{sym, ◌∙◌}
-use Rattle.report.proofs.Head.{told}
+-- Rests on Whole.antt and on the contracts of `Sheet::read` and of what appends to the text.
 use Rattle.report.proofs.Whole.{report_accepted, report_refused}
 use Rattle.report.proofs.report.Goals as goal
 
-pub append_lines-length-requires : goal.append_lines-length-requires
-append_lines-length-requires c = let head = told _ (sym c.in-Sheet.is ∙ c.read-a.ensures.answer) in record {
-  s_value = head.accepted;
-  cues_value = head.cues;
-  limits_value = head.limits;
+pub returns-in-Ok : goal.returns-in-Ok
+returns-in-Ok c = record {
+  promise = report_accepted c.args.bytes.now (λ i. (c.type_inv.bytes i).fits) _ c.in-Ok.ensures.same c.in-Ok.sheet.accepted
+      c.new-text.ensures c.append_heading.ensures c.append_lines.ensures;
 }
 
-pub returns-in-Sheet : goal.returns-in-Sheet
-returns-in-Sheet c = let head = told _ (sym c.in-Sheet.is ∙ c.read-a.ensures.answer) in record {
-  promise = report_accepted c.args.s.now (λ i. (c.type_inv.s i).fits)
-      _ head.accepted head.limits c.append_heading-at.ensures c.append_lines-length.ensures;
-}
-
-pub returns-in-Refused : goal.returns-in-Refused
-returns-in-Refused c = record {
-  promise = report_refused c.args.s.now (λ i. (c.type_inv.s i).fits)
-      (sym c.in-Refused.is ∙ c.read-a.ensures.answer) c.append_refused-length.ensures;
+pub returns-in-Err : goal.returns-in-Err
+returns-in-Err c = record {
+  promise = report_refused c.args.bytes.now (λ i. (c.type_inv.bytes i).fits) c.in-Err.refusal c.in-Err.ensures c.new-text.ensures c.append_refused.ensures;
 }

@@ -1,25 +1,20 @@
--- `write` meets its contract: a call whose number is 0 writes the sheet, and any other writes nothing.
--- Rests on Writing.antt, Over.antt and the contracts of `write_number` and `put_sheet`.
-use mathlib.Core.Path.{sym, ◌∙◌}
-use Rattle.writer.proofs.Over.{wrote-long}
-use Rattle.writer.proofs.Writing.{may_write, wrote_sheet, wrote_nothing}
+-- `write` meets its contract: a refused call writes nothing, and any other the sheet.
+-- Rests on Writing.antt and the contracts of `accept` and `put_sheet`.
+use Rattle.std.proofs.Common.{ap, refl, rules}
+use Rattle.writer.specs.Given.{given}
+use Rattle.writer.proofs.Writing.{wrote_nothing, room, wrote_sheet}
 use Rattle.writer.proofs.write.Goals as goal
 
-pub put_sheet-end-requires : goal.put_sheet-end-requires
-put_sheet-end-requires c =
-    let kept = sym c.write_number-number.ensures ∙ c.if-number-eq0.true in
-    let whole = may_write _ _ kept in
-    record { limits_value = whole.0; room = whole.1 }
+pub returns-in_err-accepted : goal.returns-in_err-accepted
+returns-in_err-accepted c = record { promise = wrote_nothing _ _ c.in_err-accepted.ensures.answer _ c.in_err-accepted.field-0.0 refl (search rules) }
 
-pub shape_of-space-then-number-eq0 : goal.shape_of-space-then-number-eq0
-shape_of-space-then-number-eq0 c =
-    let kept = sym c.write_number-number.ensures ∙ c.if-number-eq0.true in
-    wrote-long (may_write _ _ kept).1 c.put_sheet-end.ensures
-
-pub returns-then-number-eq0 : goal.returns-then-number-eq0
-returns-then-number-eq0 c =
-    let kept = sym c.write_number-number.ensures ∙ c.if-number-eq0.true in
-    record { promise = wrote_sheet _ _ kept c.put_sheet-end.ensures }
+pub put_sheet-requires : goal.put_sheet-requires
+put_sheet-requires c =
+    let fresh = c.new-out.ensures in
+    rw (ap given c.in_ok-accepted.ensures.same) (room _ _ c.in_ok-accepted.ensures.answer refl fresh.written fresh.left)
 
 pub returns : goal.returns
-returns c = record { promise = wrote_nothing _ _ c.write_number-number.ensures c.if-number-eq0.false }
+returns c =
+    let fresh = c.new-out.ensures in
+    let put = rw (ap given c.in_ok-accepted.ensures.same) at c.put_sheet.ensures in
+    record { promise = wrote_sheet _ _ c.in_ok-accepted.ensures.answer refl fresh.written fresh.left put _ (search rules) _ c.len.ensures }

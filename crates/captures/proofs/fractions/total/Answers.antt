@@ -1,43 +1,23 @@
--- `total` meets its contract. The loop's invariant: so far the first i fractions are added, and none was refused.
--- Rests on Listed.antt and Sums.antt.
-use Rattle.std.proofs.Common.{◌≡◌, ℕ, ◌+◌, ◌<◌, max, List, [], ◌∷◌, length, get_or, take, sym, ap, ◌∙◌, subst, ap₂, zero-le, arith, take_all}
-use Rattle.captures.specs.declared.Fraction.{Fraction}
-use Rattle.captures.specs.declared.FractionAnswer.{FractionAnswer}
-use Rattle.captures.specs.Fractions.{fraction, total_answer, fractions_in}
-use Rattle.captures.specs.Promises.{Added}
-use Rattle.captures.proofs.Sums.{total-none, front-refused}
-use Rattle.captures.proofs.Listed.{fractions-length, fractions-turn}
-use Rattle.captures.proofs.Claims.{fractions-any-order}
+-- `total` meets its contract: each fraction is added, or refuses them all.
+-- Rests on Sums.antt, Claims.antt, and on the contracts of `next` and `add`.
+use Rattle.std.proofs.Common.{rules}
+use Rattle.captures.proofs.Sums.{so-far-none, so-far-next, so-far-refused, so-far-all}
+use Rattle.captures.proofs.Claims.{sum_promise}
 use Rattle.captures.proofs.fractions.total.Goals as goal
 
--- One turn: the answer of the sum so far and of the next fraction is that of one more.
-one-turn : (ds js : List ℕ) (n i d j : ℕ) (s : Fraction) (r : FractionAnswer) → n ≡ max (length ds) (length js) → i < n → d ≡ get_or ds i 0
-    → j ≡ get_or js i 0 → total_answer (take i (fractions_in ds js)) ≡ FractionAnswer.Counted s → r ≡ total_answer (s ∷ fraction d j ∷ [])
-    → total_answer (take (i + 1) (fractions_in ds js)) ≡ r
-one-turn ds js n i d j s r en h ed ej sum told =
-    sym
-    (told
-    ∙ ap₂ (λ d j. total_answer (s ∷ fraction d j ∷ [])) ed ej
-    ∙ fractions-turn ds js i s (subst (λ k. i < k) en h) sum)
+pub loop-fraction-init : goal.loop-fraction-init
+loop-fraction-init c = rw c.into_iter-fraction-iterator.ensures.into_iter_gives (so-far-none _ _ c.default-sum.ensures)
 
-pub loop-i-init : goal.loop-i-init
-loop-i-init c = (zero-le, total-none)
+pub returns-in_err-sum : goal.returns-in_err-sum
+returns-in_err-sum c = record {
+  promise =
+      sum_promise _ _
+      (so-far-refused _ _ _ _ _ _ _ c.in_err-sum.field-0.0 (search rules) (search rules) c.add.ensures c.in-Some.ensures.steps c.loop-fraction.invariant);
+}
 
-pub returns-in-Refused : goal.returns-in-Refused
-returns-in-Refused c = let all = fractions_in c.args.discarded.now c.args.judged.now in
-    let sum = one-turn _ _ _ c.loop-i.i _ _ _ _ c.larger-n.ensures c.loop-i-test.true c.number_at.ensures
-    c.number_at-in-loop-i.ensures c.loop-i.invariant.1 c.add.ensures in record { promise = subst (Added all) (front-refused all (c.loop-i.i + 1) _ (sum ∙ c.in-Refused.is)) (fractions-any-order all) }
-
-pub loop-i-preserved : goal.loop-i-preserved
-loop-i-preserved c = let sum = one-turn _ _ _ c.loop-i.i _ _ _ _ c.larger-n.ensures c.loop-i-test.true c.number_at.ensures
-    c.number_at-in-loop-i.ensures c.loop-i.invariant.1 c.add.ensures in
-    (omega (arith, c.loop-i-test.true), sum ∙ c.in-Counted.is)
+pub loop-fraction-preserved : goal.loop-fraction-preserved
+loop-fraction-preserved c =
+    so-far-next _ _ _ _ _ _ _ (search rules) c.add.ensures c.in-Some.ensures.steps c.loop-fraction.invariant
 
 pub returns : goal.returns
-returns c = let ds = c.args.discarded.now in
-    let js = c.args.judged.now in
-    let all = fractions_in ds js in record {
-      promise = subst (Added all)
-          (ap total_answer (sym (take_all c.loop-i.i all (rw (fractions-length ds js ∙ sym c.larger-n.ensures) c.loop-i-test.false))) ∙ c.loop-i.invariant.1)
-          (fractions-any-order all);
-    }
+returns c = record { promise = sum_promise _ _ (so-far-all _ _ _ c.in-None.ensures.steps.0 c.loop-fraction.invariant) }

@@ -1,12 +1,8 @@
--- `total` meets its contract. The loop's invariant: so far the first i fractions are added, and none was refused.
--- Rests on Listed.antt and Sums.antt.
-use Rattle.std.proofs.Common.{◌≡◌, ◌-◌, ◌≤◌, take}
-use Rattle.captures.specs.declared.FractionAnswer.{FractionAnswer}
-use Rattle.captures.specs.Fractions.{total_answer, fractions_in}
+-- The sum so far, in front of the fractions that are left, has the answer of them all.
+-- Rests on Sums.antt.
+use Rattle.captures.specs.Fractions.{fractions_in}
+use Rattle.captures.proofs.Sums.{SoFar}
 use Rattle.captures.proofs.fractions.total.Given as goal
 
-abbrev pub invariant-loop-i : goal.invariant-loop-i
-invariant-loop-i l = (l.i ≤ l.n) × (total_answer (take l.i (fractions_in l.discarded l.judged)) ≡ FractionAnswer.Counted l.sum)
-
-abbrev pub decreases-loop-i : goal.decreases-loop-i
-decreases-loop-i l = l.n - l.i
+abbrev pub invariant-loop-fraction : goal.invariant-loop-fraction
+invariant-loop-fraction l = SoFar (fractions_in l.discarded l.judged) l.fraction-iterator l.sum

@@ -1,11 +1,10 @@
--- `logs` meets its contract. The loop's invariant: so far the first i logs are added, none was refused, and the next begins at `at`.
--- Rests on Listed.antt and Sums.antt.
-use Rattle.std.proofs.Common.{◌-◌, length}
-use Rattle.captures.proofs.Listed.{SoFar}
+-- The sum so far, in front of the fractions of the logs that are left, has the answer of all logs.
+-- Rests on Sums.antt.
+use Rattle.std.proofs.Common.{map, drop}
+use Rattle.captures.specs.Logs.{fraction_of, logs_in}
+use Rattle.captures.proofs.Sums.{SoFar}
 use Rattle.captures.proofs.logs.logs.Given as goal
 
-abbrev pub invariant-loop-i : goal.invariant-loop-i
-invariant-loop-i l = SoFar l.lengths l.bytes l.sum l.at l.i
-
-abbrev pub decreases-loop-i : goal.decreases-loop-i
-decreases-loop-i l = length l.lengths - l.i
+abbrev pub invariant-loop-length : goal.invariant-loop-length
+invariant-loop-length l =
+    SoFar (map fraction_of (logs_in l.lengths l.bytes)) (map fraction_of (logs_in (drop l.length-index l.lengths) l.rest)) l.sum

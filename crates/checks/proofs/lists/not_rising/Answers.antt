@@ -1,37 +1,19 @@
--- `not_rising` meets its contract. The loop's invariant: the numbers from i on, after the last one, answer for all.
--- Rests on Walk.antt.
-use mathlib.Core.Path.{◌≡◌, refl, ap}
-use mathlib.Core.Bool.{Bool, true, false, not, ◌&&◌}
-use native.Mathlib.Omega.{arith}
-use borrow.Author.Tests.{lt-ltb, le-ltb}
-use Rattle.rules.specs.Refusals.{rising, not_rising}
-use Rattle.checks.proofs.Walk.{forward, ended}
+-- `not_rising` meets its contract: the library's `is_sorted_by`, over a 0 and the numbers, finds what the rules test.
+-- Rests on Rising.antt.
+use Rattle.std.proofs.Common.{rules, tests, ap, not}
+use Rattle.std.proofs.lemmas.Iterator.{YieldsList-from_slice}
+use Rattle.std.proofs.lemmas.Iterator.Adapters.{YieldsList-from_once}
+use Rattle.std.proofs.lemmas.Iterator.Consumers.{YieldsList-from_chain, YieldsList-from_copied}
+use Rattle.std.specs.Prelude.{Some}
+use Rattle.rules.specs.Refusals.{not_rising}
+use Rattle.checks.proofs.Rising.{rising_from_sorted}
 use Rattle.checks.proofs.lists.not_rising.Goals as goal
 
--- One number of the list: it is above the one before it, or not.
-stops : {t R : Bool} (rest : Bool) → t ≡ false → t && rest ≡ R → true ≡ not R
-stops rest h e = rw h at (ap not e)
-
-goes_on : {t rest R : Bool} → t ≡ true → t && rest ≡ R → rest ≡ R
-goes_on h e = rw h at e
-
-pub loop-i-init : goal.loop-i-init
-loop-i-init c = (omega arith, refl)
-
-pub returns-then-number-last : goal.returns-then-number-last
-unfolding not_rising rising
-returns-then-number-last c =
-    let l = c.loop-i in
-    stops _ (le-ltb _ _ c.if-number-last.true) (forward (rising l.last) c.args.numbers.now l.i (omega arith) l.invariant.1)
-
-pub loop-i-preserved : goal.loop-i-preserved
-unfolding rising
-loop-i-preserved c = let l = c.loop-i in (
-  omega arith,
-  goes_on (lt-ltb _ _ c.if-number-last.false)
-      (forward (rising l.last) c.args.numbers.now l.i (omega arith) l.invariant.1),
-)
-
 pub returns : goal.returns
-unfolding not_rising rising
-returns c = let l = c.loop-i in ap not (ended (rising l.last) c.args.numbers.now l.i (omega arith) l.invariant.1)
+unfolding not_rising
+returns c =
+    let xs = c.args.numbers.now in
+    let zero_first = YieldsList-from_once (Some 0) (search rules) in
+    let numbers = YieldsList-from_copied (YieldsList-from_slice xs (search rules)) in
+    ap not (rising_from_sorted _ _ _ (λ x y b q k. search (rules, tests)) _ _ 0 xs c.is_sorted_by.ensures.ran
+    (YieldsList-from_chain zero_first numbers (search rules) (search rules)))

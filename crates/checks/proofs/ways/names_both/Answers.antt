@@ -1,41 +1,15 @@
--- `names_both` meets its contract. The loop's invariant: the rows from i on answer for all.
--- Rests on Walk.antt and the contracts of `row_count` and `word_at`.
-use mathlib.Core.Path.{◌≡◌, refl, sym, ap, ap₂, ◌∙◌}
-use mathlib.Core.Bool.{true, false, not}
-use Prim.Native.Nat.{ℕ}
-use native.Mathlib.Omega.{arith}
-use borrow.Author.Tests.{eq-eqb, ne_eqb}
-use lib.Bits.{bit_and}
-use lib.Dec.{eqb}
-use Rattle.rules.specs.Leaf.{any}
-use Rattle.rules.specs.Refusals.{names_both}
-use Rattle.checks.proofs.Walk.{found, passed, forward_rows, ended_rows}
+-- `names_both` meets its contract: only a row that has both words can name a fault in both senses.
+-- Rests on Rows.antt and the contract of `way_both`.
+use Rattle.std.proofs.Common.{◌∙◌, sym, not, eqb, rules, tests}
+use Rattle.std.specs.Int.Bits.{bit_and}
+use Rattle.std.proofs.lemmas.Iterator.{YieldsList-from_slice, YieldsList-from_zip}
+use Rattle.std.proofs.lemmas.Iterator.Search.{any_from_yields_List}
+use Rattle.checks.proofs.Rows.{both_pairs}
 use Rattle.checks.proofs.ways.names_both.Goals as goal
 
--- The code has x and y for the words p and q of a row.
-module _ {p q x y : ℕ} (e : x ≡ p) (f : y ≡ q) where
-  common : (bit_and x y ≡ 0 → ⊥) → not (eqb (bit_and p q) 0) ≡ true
-  common h = ap not (ne_eqb (bit_and p q) 0 (λ z. h (ap₂ bit_and e f ∙ z)))
-
-  apart : bit_and x y ≡ 0 → not (eqb (bit_and p q) 0) ≡ false
-  apart h = ap not (eq-eqb (bit_and p q) 0 (sym (ap₂ bit_and e f) ∙ h))
-
-pub loop-i-init : goal.loop-i-init
-loop-i-init c = (omega arith, refl)
-
-pub returns-then-word_at-ne0 : goal.returns-then-word_at-ne0
-unfolding names_both any
-returns-then-word_at-ne0 c = let l = c.loop-i in found _ (common c.word_at.ensures c.word_at-in-loop-i.ensures c.if-word_at-ne0.true)
-    (forward_rows names_both c.args.present.now c.args.absent.now l.i (omega arith) l.invariant.1)
-
-pub loop-i-preserved : goal.loop-i-preserved
-unfolding names_both any
-loop-i-preserved c = let l = c.loop-i in (
-  omega arith,
-  passed (apart c.word_at.ensures c.word_at-in-loop-i.ensures c.if-word_at-ne0.false)
-      (forward_rows names_both c.args.present.now c.args.absent.now l.i (omega arith) l.invariant.1),
-)
-
 pub returns : goal.returns
-unfolding names_both any
-returns c = let l = c.loop-i in ended_rows names_both c.args.present.now c.args.absent.now l.i (omega arith) l.invariant.1
+returns c =
+    let ps = c.args.present.now in
+    let qs = c.args.absent.now in
+    let pairs = YieldsList-from_zip (YieldsList-from_slice ps (search rules)) (YieldsList-from_slice qs (search rules)) in
+    any_from_yields_List (λ x. not (eqb (bit_and x.0 x.1) 0)) c.any.new.self _ _ c.any.ensures.ran pairs (λ x b q k. search (rules, tests)) ∙ sym (both_pairs ps qs)

@@ -1,13 +1,17 @@
--- `put_faults` meets its contract. The loop's invariant: of the faults that the two words name, those of the word `left` are left to write.
--- Rests on `writer`, Over, on Naming.antt and on the contracts of `put_bytes` and `put_place`.
-use Rattle.writer.proofs.Over.{Left}
+-- The loop's invariant: the faults at the places that are left to come are left to write.
+-- Rests on Naming.antt and on `writer`, Over.
+use Rattle.std.proofs.Common.{◌<◌}
+use Rattle.std.specs.List.{AllByRecursion}
+use Rattle.chances.specs.Bits.{set_bits}
+use Rattle.writer.proofs.Over.{Remains}
 use Rattle.csv_export.specs.Parts.{faults_text}
-use Rattle.csv_export.proofs.Naming.{fields_in, Walk}
+use Rattle.csv_export.proofs.Naming.{places_text}
 use Rattle.csv_export.proofs.pieces.put_faults.Given as goal
 
-abbrev pub invariant-loop-left : goal.invariant-loop-left
-invariant-loop-left l =
-    Walk l.present l.absent l.left × Left l.initial.space l.at (faults_text l.present l.absent) l.space l.next (fields_in l.left 0 64 l.present l.absent)
-
-abbrev pub decreases-loop-left : goal.decreases-loop-left
-decreases-loop-left l = l.left
+abbrev pub invariant-loop-place : goal.invariant-loop-place
+invariant-loop-place l =
+    let places = set_bits l.place-iterator.word in
+    record {
+      below : AllByRecursion (λ i. i < 64) places;
+      remains : Remains l.initial.out (faults_text l.way) l.out (places_text l.way.absent places);
+    }

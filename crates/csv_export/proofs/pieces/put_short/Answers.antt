@@ -1,58 +1,22 @@
--- `put_short` meets its contract: one byte, or two.
--- Rests on `writer`, Over, and on Putting.antt.
-use mathlib.Core.List.{List}
-use Prim.Native.Nat.{ℕ, ◌+◌, ◌/◌, ◌%◌, ◌<◌, ◌≤◌}
-use native.Mathlib.Omega.{arith}
-use lib.ListN.{length, length-set}
-use Rattle.rules.specs.Text.{decimal}
-use Rattle.rules.proofs.Decimal.{decimal-one}
-use Rattle.writer.specs.Pieces.{Room}
-use Rattle.writer.proofs.Over.{wrote-byte}
-use Rattle.csv_export.proofs.Putting.{wrote-two, decimal-two}
+-- `put_short` meets its contract: one digit or two.
+-- Rests on Faults.antt and on `writer`, Over.
+use Rattle.std.proofs.Common.{[], ◌∷◌, ◌+◌, ◌%◌, arith}
+use Rattle.writer.proofs.Over.{room_first, room_second, wrote_both}
+use Rattle.csv_export.proofs.Faults.{short-one, decimal-two}
 use Rattle.csv_export.proofs.pieces.put_short.Goals as goal
+use Rattle.csv_export.proofs.pieces.put_short.Goals.{then-number-ge10, else-number-ge10}
 
--- There is a place for one digit, and in the other case for two.
-one : (space : List ℕ) (at n : ℕ) → n < 10 → Room space at (decimal n) → at < length space
-one space at n h room = omega (arith, (rw (decimal-one n h) at room).fits)
+pub push-requires : goal.push-requires
+push-requires c = room_first ((48 + c.args.number % 10) ∷ []) (rw (decimal-two c.args.number (omega arith) (omega arith)) at c.requires.room)
 
-two : (space : List ℕ) (at n : ℕ) → 10 ≤ n → n < 100 → Room space at (decimal n) → at + 1 < length space
-two space at n low high room = omega (arith, (rw (decimal-two n low high) at room).fits)
-
-pub bounds-space-at : goal.bounds-space-at
-bounds-space-at c = one c.args.space.now c.args.at c.args.n c.if-n-lt10.true c.requires.room
-
-pub overflow_add-result : goal.overflow_add-result
-overflow_add-result c = omega (arith, one c.args.space.now c.args.at c.args.n c.if-n-lt10.true c.requires.room, c.well_formed)
-
-pub returns-then-n-lt10 : goal.returns-then-n-lt10
-returns-then-n-lt10 c =
-    let a = c.args in
-    rw (decimal-one a.n c.if-n-lt10.true)
-    (wrote-byte a.space.now a.at (48 + a.n) (one a.space.now a.at a.n c.if-n-lt10.true c.requires.room))
-
-pub bounds-space-at-2 : goal.bounds-space-at-2
-bounds-space-at-2 c =
-    let a = c.args in
-    omega (arith, two a.space.now a.at a.n c.if-n-lt10.false c.requires.n_bound c.requires.room)
-
-pub overflow_add-space-4 : goal.overflow_add-space-4
-overflow_add-space-4 c =
-    let a = c.args in
-    omega (arith, two a.space.now a.at a.n c.if-n-lt10.false c.requires.n_bound c.requires.room, c.well_formed)
-
-pub bounds-space-at-3 : goal.bounds-space-at-3
-bounds-space-at-3 c =
-    let a = c.args in
-    omega (arith, two a.space.now a.at a.n c.if-n-lt10.false c.requires.n_bound c.requires.room, length-set a.space.now a.at (48 + a.n / 10))
-
-pub overflow_add-result-2 : goal.overflow_add-result-2
-overflow_add-result-2 c =
-    let a = c.args in
-    omega (arith, two a.space.now a.at a.n c.if-n-lt10.false c.requires.n_bound c.requires.room, c.well_formed)
+pub push-requires-2 : goal.push-requires-2
+push-requires-2 c = elim c.if-number-ge10.branch [
+  | then-number-ge10 w ↦ rw w.out-is (room_second _ w.push.ensures (rw (decimal-two c.args.number (omega arith) (omega arith)) at c.requires.room))
+  | else-number-ge10 w ↦ rw w.out-is (rw (short-one c.args.number (omega arith)) at c.requires.room)
+]
 
 pub returns : goal.returns
-returns c =
-    let a = c.args in
-    let n = a.n in
-    rw (decimal-two n c.if-n-lt10.false c.requires.n_bound)
-    (wrote-two a.space.now a.at (48 + n / 10) (48 + n % 10) (two a.space.now a.at n c.if-n-lt10.false c.requires.n_bound c.requires.room))
+returns c = elim c.if-number-ge10.branch [
+  | then-number-ge10 w ↦ rw (decimal-two c.args.number (omega arith) (omega arith)) (wrote_both _ w.push.ensures (rw w.out-is at c.push-2.ensures))
+  | else-number-ge10 w ↦ rw (short-one c.args.number (omega arith)) (rw w.out-is at c.push-2.ensures)
+]

@@ -1,32 +1,29 @@
--- `put_weights` meets its contract. The loop's invariant: the weights from i on are left to write.
--- Rests on `writer`, Over, on Records.antt and on the contract of `put_field`.
-use mathlib.Core.List.{map}
-use native.Mathlib.Omega.{arith}
-use lib.ListN.{drop_of_length-le}
-use Rattle.rules.specs.Text.{decimal}
-use Rattle.csv_text.specs.Texts.{further_fields}
-use Rattle.writer.proofs.Over.{left-all, left_long, left_none, next_room, next_written}
-use Rattle.csv_export.proofs.Records.{next-weight, no-weights}
+-- `put_weights` meets its contract: each turn writes the field of the first weight that is left.
+-- Rests on Records.antt, on `writer`, Over, and on the contract of `put_field`.
+use Rattle.std.proofs.Common.{refl}
+use Rattle.rules.specs.Text.{bytes}
+use Rattle.writer.proofs.Over.{room_first, remains_all, next_room, next_written}
+use Rattle.csv_export.proofs.Records.{weights_bytes, first_field, no_fields}
 use Rattle.csv_export.proofs.whole.put_weights.Goals as goal
 
-pub loop-i-init : goal.loop-i-init
-loop-i-init c = let a = c.args in
-    (omega arith, left-all a.space.now a.at (further_fields (map decimal a.weights.now)))
+pub extend_from_slice-requires : goal.extend_from_slice-requires
+unfolding bytes
+extend_from_slice-requires c = room_first _ (rw weights_bytes at c.requires)
 
-pub overflow_cast-weights : goal.overflow_cast-weights
-overflow_cast-weights c = omega (arith, (c.type_inv.weights c.loop-i.i).fits)
+pub loop-weight-init : goal.loop-weight-init
+unfolding bytes
+loop-weight-init c =
+    rw c.into_iter-weight-iterator.ensures.into_iter_gives
+    (next_written _ (remains_all _ _ _ c.requires refl) (weights_bytes c.args.weights) c.extend_from_slice.ensures)
 
-pub put_field-next-requires : goal.put_field-next-requires
-put_field-next-requires c = next_room _ c.requires (rw (next-weight c.args.weights.now c.loop-i.i c.loop-i-test.true) at c.loop-i.invariant.1)
+pub put_field-requires : goal.put_field-requires
+put_field-requires c = rw c.from.ensures (next_room _ c.loop-weight.invariant (first_field c.in-Some.ensures.steps))
 
-pub loop-i-preserved : goal.loop-i-preserved
-loop-i-preserved c = (
-  omega arith,
-  next_written _ c.requires (rw (next-weight c.args.weights.now c.loop-i.i c.loop-i-test.true) at c.loop-i.invariant.1) c.put_field-next.ensures,
-)
+pub loop-weight-preserved : goal.loop-weight-preserved
+loop-weight-preserved c = next_written _ c.loop-weight.invariant (first_field c.in-Some.ensures.steps) (rw c.from.ensures at c.put_field.ensures)
 
-pub shape_of-space : goal.shape_of-space
-shape_of-space c = left_long c.requires c.loop-i.invariant.1
+pub extend_from_slice-requires-2 : goal.extend_from_slice-requires-2
+extend_from_slice-requires-2 c = rw (no_fields c.in-None.ensures.steps.0) at c.loop-weight.invariant.room
 
 pub returns : goal.returns
-returns c = left_none c.requires c.loop-i.invariant.1 (no-weights (drop_of_length-le c.args.weights.now {i = c.loop-i.i} (omega arith)))
+returns c = c.loop-weight.invariant.completes _ (rw (no_fields c.in-None.ensures.steps.0) c.extend_from_slice-2.ensures)

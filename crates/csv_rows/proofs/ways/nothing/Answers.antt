@@ -1,41 +1,24 @@
 -- `nothing` meets its contract: each test decides whether the field is `0` alone.
 -- Rests on Rows.antt.
-use mathlib.Core.Path.{sym, ◌∙◌}
-use mathlib.Core.Bool.{true, false, false≢true}
-use Rattle.csv_rows.proofs.Rows.{nothing-told, nothing_more, nothing_other, nothing_here, nothing_line}
-use borrow.Author.Rules.{rules}
+use Rattle.std.proofs.Common.{sym, ap, ◌∙◌}
+use Rattle.csv_text.specs.Shapes.{word_of}
+use Rattle.csv_rows.specs.Walks.{named_in, some_far}
+use Rattle.csv_rows.specs.Told.{nothing_said}
+use Rattle.csv_rows.proofs.Pieces.{fields-are, alone}
+use Rattle.csv_rows.proofs.Rows.{nothing-bad, nothing-more, nothing-alone, reads-if}
 use Rattle.csv_rows.proofs.ways.nothing.Goals as goal
 
-pub returns-then-f : goal.returns-then-f
-returns-then-f c = let t = c.args.text.now in
-    let at = c.args.at in record {
-      told_faults = nothing-told false _ _ (nothing_more t at c.numeral_at-f.result c.numeral_at-f.ensures c.if-f.true);
-      next_value = λ p. absurd (false≢true p);
-    }
+pub returns-in_err-number : goal.returns-in_err-number
+returns-in_err-number c = rw (c.from_residual.ensures, fields-are c.args.text.now) (nothing-bad _ _ c.in_err-number.ensures)
 
-pub returns-then-f-ne0 : goal.returns-then-f-ne0
-returns-then-f-ne0 c = let t = c.args.text.now in
-    let at = c.args.at in record {
-      told_faults = nothing-told false _ _ (nothing_other t at c.numeral_at-f.result c.numeral_at-f.ensures c.if-f-ne0.true);
-      next_value = λ p. absurd (false≢true p);
-    }
+pub returns-in_err-lines : goal.returns-in_err-lines
+returns-in_err-lines c =
+    rw (c.from_residual-in_err-lines.ensures, c.in_ok-number.ensures.1.fields) (nothing-more _ _ c.in_err-lines.ensures)
 
-pub overflow_add-n : goal.overflow_add-n
-overflow_add-n c = let near = (c.numeral_at-f.ensures.passed c.if-f-2.true).near in
-    search rules
-
-pub returns-then-f-2 : goal.returns-then-f-2
-returns-then-f-2 c = let t = c.args.text.now in
-    let at = c.args.at in
-    let same = sym c.if-f-2.true ∙ nothing_here t at c.numeral_at-f.result c.numeral_at-f.ensures c.if-f.false c.if-f-ne0.false in record {
-      told_faults = nothing-told true _ _ same;
-      next_value = λ p. nothing_line t at c.numeral_at-f.result c.numeral_at-f.ensures c.if-f.false c.if-f-2.true;
-    }
-
-pub returns-else-f-2 : goal.returns-else-f-2
-returns-else-f-2 c = let t = c.args.text.now in
-    let at = c.args.at in
-    let same = sym c.if-f-2.false ∙ nothing_here t at c.numeral_at-f.result c.numeral_at-f.ensures c.if-f.false c.if-f-ne0.false in record {
-      told_faults = nothing-told false _ _ same;
-      next_value = λ p. absurd (false≢true p);
-    }
+pub returns : goal.returns
+unfolding named_in some_far word_of
+returns c =
+    let (said, passed) = c.in_ok-number.ensures in
+    let (last, lines) = c.in_ok-lines.ensures in
+    rw (c.then_some.ensures, c.named.ensures)
+    (reads-if nothing_said c.args.text.now _ _ _ (ap nothing_said (alone passed last) ∙ nothing-alone _ _ said) (sym lines ∙ sym passed.lines))

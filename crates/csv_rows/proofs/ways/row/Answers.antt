@@ -1,46 +1,43 @@
 -- `row` meets its contract: each test decides, as the record's shape says.
 -- Rests on Rows.antt.
-use mathlib.Core.Bool.{false≢true}
-use borrow.Author.Tests.{not-true, not-false}
-use borrow.Author.Rules.{rules}
-use Rattle.csv_rows.proofs.Rows.{row_bad, row-high, row-alone, row-way, row_line, row_behind}
+use Rattle.std.proofs.Common.{◌≡◌, ◌≤◌, ◌<◌, sym, ap, ◌∙◌, rules}
+use Rattle.csv_rows.specs.Fields.{fields_left, lines_left}
+use Rattle.csv_rows.proofs.Pieces.{fields-are, alone}
+use Rattle.csv_rows.proofs.Rows.{row-bad, row-high, row-not, row-alone, row-way}
 use Rattle.csv_rows.proofs.ways.row.Goals as goal
 
-pub returns-then-not-c : goal.returns-then-not-c
-returns-then-not-c c = let t = c.args.text.now in
-    let at = c.args.at in record {
-      told_row = row_bad t at c.numeral_at-c.result c.numeral_at-c.ensures (not-true _ c.if-not-c.true) _;
-      next_value = λ p. absurd (false≢true p);
-    }
+pub returns-in_err-number : goal.returns-in_err-number
+returns-in_err-number c = rw (c.from_residual.ensures, fields-are c.args.text.now) (row-bad _ _ c.in_err-number.ensures)
 
-pub returns-then-c-gt65535 : goal.returns-then-c-gt65535
-returns-then-c-gt65535 c = let t = c.args.text.now in
-    let at = c.args.at in record {
-      told_row = row-high t at c.numeral_at-c.result c.numeral_at-c.ensures (not-false _ c.if-not-c.false) c.if-c-gt65535.true _;
-      next_value = λ p. absurd (false≢true p);
-    }
+pub returns-in_err-cue : goal.returns-in_err-cue
+returns-in_err-cue c =
+    let high : 65535 < c.in_ok-number.number = search rules in
+    rw (c.from_residual-in_err-cue.ensures, fields-are c.args.text.now) (row-high _ _ c.in_ok-number.ensures.0 _ high)
 
-pub overflow_add-r : goal.overflow_add-r
-overflow_add-r c = let near = (c.numeral_at-c.ensures.passed (not-false _ c.if-not-c.false)).near in
-    search rules
+pub returns-in_err-way-in-Fields : goal.returns-in_err-way-in-Fields
+returns-in_err-way-in-Fields c =
+    let (said, passed) = c.in_ok-number.ensures in
+    let small : c.in_ok-number.number ≤ 65535 = search rules in
+    let fields = fields-are c.in-Fields.fields.now in
+    rw (c.from_residual-in_err-way-in-Fields.ensures, passed.fields, ap fields_left c.in-Fields.is, fields)
+    (row-not _ _ said small _ _ (rw fields at c.in_err-way-in-Fields.ensures))
 
-pub returns-then-not-c-2 : goal.returns-then-not-c-2
-returns-then-not-c-2 c = let t = c.args.text.now in
-    let at = c.args.at in
-    let good = not-false _ c.if-not-c.false in
-    let last = not-true _ c.if-not-c-2.true in record {
-      told_row = row-alone t at c.numeral_at-c.result c.numeral_at-c.ensures good c.if-c-gt65535.false last _;
-      next_value = λ p. row_line t at c.numeral_at-c.result c.numeral_at-c.ensures good last;
-    }
+pub returns-in-Lines : goal.returns-in-Lines
+returns-in-Lines c =
+    let (said, passed) = c.in_ok-number.ensures in
+    let same : c.in_ok-cue.cue ≡ c.in_ok-number.number = search rules in
+    let small : c.in_ok-number.number ≤ 65535 = search rules in (
+      rw (same, alone passed (ap fields_left c.in-Lines.is)) (row-alone _ _ said small),
+      sym (passed.lines ∙ ap lines_left c.in-Lines.is),
+    )
 
-pub way-n-requires : goal.way-n-requires
-way-n-requires c = (c.numeral_at-c.ensures.passed (not-false _ c.if-not-c.false)).inside (not-false _ c.if-not-c-2.false)
-
-pub returns : goal.returns
-returns c = let t = c.args.text.now in
-    let at = c.args.at in
-    let good = not-false _ c.if-not-c.false in
-    let more = not-false _ c.if-not-c-2.false in record {
-      told_row = row-way t at c.numeral_at-c.result c.numeral_at-c.ensures good c.if-c-gt65535.false more c.way-n.result c.way-n.ensures.told_faults;
-      next_value = λ p. row_behind t at c.numeral_at-c.result c.numeral_at-c.ensures good more c.way-n.result.next (c.way-n.ensures.next_value p);
-    }
+pub returns-in_ok-way-in-Fields : goal.returns-in_ok-way-in-Fields
+returns-in_ok-way-in-Fields c =
+    let (said, passed) = c.in_ok-number.ensures in
+    let (way, lines) = c.in_ok-way-in-Fields.ensures in
+    let same : c.in_ok-cue.cue ≡ c.in_ok-number.number = search rules in
+    let small : c.in_ok-number.number ≤ 65535 = search rules in
+    let fields = fields-are c.in-Fields.fields.now in (
+      rw (same, passed.fields, ap fields_left c.in-Fields.is, fields) (row-way _ _ said small _ _ _ (rw fields at way)),
+      lines ∙ sym (passed.lines ∙ ap lines_left c.in-Fields.is),
+    )

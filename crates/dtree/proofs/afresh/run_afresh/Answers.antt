@@ -1,42 +1,42 @@
--- `run_afresh` meets its contract: refused by 9 to 15, or made on the root leaf alone.
--- Rests on Fresh.antt, on `store`, Lent, and on the contracts of `run_number`, `root_leaf`, `put_alone` and `run_good`.
-use mathlib.Core.Path.{◌≡◌, sym, ap, subst, ◌∙◌}
-use mathlib.Core.List.{[]}
+-- `run_afresh` meets its contract: refused by the table or by the limits, or made on the root leaf alone.
+-- Rests on Fresh.antt and on the contracts of the functions called.
+use Rattle.std.proofs.Common.{rules, ◌≡◌, refl, sym, Result, false}
 use Rattle.rules.specs.Table.{Table}
-use Rattle.records.specs.Records.{record_at, Good}
-use Rattle.records.specs.declared.Tree.{Tree}
-use Rattle.store.specs.Safe.{Safe}
-use Rattle.store.proofs.Lent.{cleared}
-use Rattle.dtree.specs.Promises.{one_record}
-use Rattle.dtree.proofs.Refuses.{let_through, run-accepted}
-use Rattle.dtree.proofs.Fresh.{alone-safe, alone-good, refused-afresh, ran-afresh}
+use Rattle.rules.specs.Tree.{leaf}
+use Rattle.rules.specs.Calls.{run_answer}
+use Rattle.rules.specs.declared.Limits.{Limits}
+use Rattle.rules.specs.declared.Ended.{Ended}
+use Rattle.rules.specs.declared.Refusal.{Refusal}
+use Rattle.checks.specs.Tables.{table_of}
+use Rattle.dtree.proofs.Accepting.{table_refused, task_refused, task_taken}
+use Rattle.dtree.proofs.Fresh.{alone-good, ran-afresh, table-refused-afresh, limits-refused-afresh}
 use Rattle.dtree.proofs.afresh.run_afresh.Goals as goal
 
--- A tree that is the root leaf alone may be run on.
-fit : (t : Table) (x : Tree) → x ≡ one_record (record_at t [] []) → Good t x × Safe x.nodes
-fit t x e = subst (λ (y : Tree). Good t y × Safe y.nodes) (sym e) (alone-good t, alone-safe t)
+pub returns-in_err-table : goal.returns-in_err-table
+returns-in_err-table c =
+    let r = c.in_err-table.field-0.0 in
+    record { answer = table-refused-afresh _ _ _ r (search rules) (table_refused _ _ _ _ c.accept.ensures r (search rules)) }
 
-pub returns-then-number-ne0 : goal.returns-then-number-ne0
-returns-then-number-ne0 c = record { answer = refused-afresh _ _ _ c.run_number-number.ensures c.if-number-ne0.true }
+-- The table and the limits that were accepted are those that were handed over.
+same : (t u : Table) → t ≡ u → (l m : Limits) → l ≡ m → (a : Result Ended Refusal) → a ≡ run_answer t false leaf l → a ≡ run_answer u false leaf m
+same t u e l m f a h = rw (sym e, sym f) h
 
--- Behind the test none of 9 to 15 applies.
-pub root_leaf-requires : goal.root_leaf-requires
-root_leaf-requires c = run-accepted _ _ (let_through _ _ _ c.run_number-number.ensures c.if-number-ne0.false)
+pub returns-in_err-task : goal.returns-in_err-task
+returns-in_err-task c =
+    let r = c.in_err-task.field-0.0 in
+    record {
+      answer = same (table_of c.in_ok-table.table) _ c.in_ok-table.ensures.same _ _ refl _
+          (limits-refused-afresh _ _ _ r (search rules) c.in_ok-table.table.accepted (task_refused _ _ c.accept-2.ensures r (search rules)));
+    }
 
-pub put_alone-requires : goal.put_alone-requires
-put_alone-requires c = cleared
-
--- Behind `put_alone` the tree is the root leaf alone.
 pub run_good-requires : goal.run_good-requires
 run_good-requires c =
-    let alone = c.put_alone.ensures ∙ ap one_record c.root_leaf.ensures in
     record {
-      limits_value = let_through _ _ _ c.run_number-number.ensures c.if-number-ne0.false;
-      good = (fit _ _ alone).0;
-      safe = (fit _ _ alone).1;
+      accepted = task_taken _ _ c.accept-2.ensures c.in_ok-task.task (search rules) c.in_ok-task.ensures.same;
+      good = alone-good _ _ c.put_root.ensures;
     }
 
 pub returns : goal.returns
 returns c =
-    let alone = c.put_alone.ensures ∙ ap one_record c.root_leaf.ensures in
-    record { answer = ran-afresh _ _ _ _ alone c.run_good.ensures.promise.call.outcome_is }
+    let ran = ran-afresh _ _ _ _ c.put_root.ensures c.run_good.ensures.promise.call.outcome_is in
+    record { answer = same _ _ c.in_ok-table.ensures.same _ _ c.in_ok-task.ensures.same _ ran }

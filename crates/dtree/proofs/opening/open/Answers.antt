@@ -1,14 +1,17 @@
--- `open` meets its contract: a number refuses, none opens the root leaf.
--- Rests on Opens.antt and the contracts of `clear`, `table_number`, `root_leaf` and `put_alone`.
-use mathlib.Core.Path.{sym, ◌∙◌}
+-- `open` meets its contract: a refusal leaves no node, none opens the root leaf.
+-- Rests on Opens.antt and the contracts of `clear`, `accept`, `put_root` and `figures`.
+use Rattle.std.proofs.Common.{rules}
+use Rattle.dtree.proofs.Accepting.{table_refused}
 use Rattle.dtree.proofs.Opens.{refuses, opens}
 use Rattle.dtree.proofs.opening.open.Goals as goal
 
-pub returns-then-number-ne0 : goal.returns-then-number-ne0
-returns-then-number-ne0 c = record { promise = refuses _ _ _ c.table_number-number.ensures c.if-number-ne0.true c.clear.ensures }
+pub returns-in_err-table : goal.returns-in_err-table
+returns-in_err-table c =
+    let r = c.in_err-table.field-0.0 in
+    record { promise = refuses _ _ _ r (search rules) (table_refused _ _ _ _ c.accept.ensures r (search rules)) c.clear.ensures }
 
-pub put_alone-requires : goal.put_alone-requires
-put_alone-requires c = c.clear.ensures
+pub put_root-requires : goal.put_root-requires
+put_root-requires c = c.clear.ensures
 
 pub returns : goal.returns
-returns c = record { promise = opens _ (sym c.table_number-number.ensures ∙ c.if-number-ne0.false) _ _ c.root_leaf-root.ensures c.put_alone.ensures }
+returns c = record { promise = opens _ _ c.in_ok-table.ensures.same c.in_ok-table.table.accepted _ c.put_root.ensures _ c.figures.ensures }

@@ -1,36 +1,63 @@
--- `run` meets its contract: refused by 9 to 15, by 16, or made.
--- Rests on Refuses.antt, Verdicts.antt and the contracts of `run_number`, `is_good` and `run_good`.
-use native.Mathlib.Omega.{arith}
-use Rattle.dtree.proofs.Refuses.{refused-call, before-sixteen, let_through, run-accepted, run-sixteen, found_bad, found_good}
-use Rattle.dtree.proofs.Verdicts.{running}
+-- `run` meets its contract: refused by the table, by the limits or by 16, or made.
+-- Rests on Refuses.antt, Verdicts.antt, on `rules`, Answering, and on the contracts of the functions called.
+use Rattle.std.proofs.Common.{rules, ◌≡◌, sym, ap, ◌∙◌, subst, Result, Ok, Err}
+use Rattle.rules.specs.Table.{Table}
+use Rattle.rules.specs.Calls.{by_run}
+use Rattle.rules.specs.declared.Limits.{Limits}
+use Rattle.rules.specs.declared.Ended.{Ended}
+use Rattle.rules.specs.declared.Refusal.{Refusal}
+use Rattle.checks.specs.Tables.{table_of}
+use Rattle.records.specs.declared.Tree.{Tree}
+use Rattle.dtree.specs.Promises.{Running}
+use Rattle.dtree.proofs.Accepting.{judged, table_refused, task_refused, task_taken}
+use Rattle.dtree.proofs.Calling.{refusals_of}
+use Rattle.dtree.proofs.Refuses.{by-table, by-limits, not-passed, passed-on, run-bad, good}
+use Rattle.dtree.proofs.Verdicts.{running-refused}
 use Rattle.dtree.proofs.runs.run.Goals as goal
 
-pub returns-then-number-ne0 : goal.returns-then-number-ne0
-returns-then-number-ne0 c =
-    let refused = c.if-number-ne0.true in
+pub returns-in_err-table : goal.returns-in_err-table
+returns-in_err-table c =
+    let r = c.in_err-table.field-0.0 in
     record {
-      promise = running _ _ _ _ _ (refused-call _ _ _ _ (before-sixteen _ _ _ _ c.run_number-number.ensures refused) refused);
+      promise = running-refused _ _ _ _ r (search rules)
+          (by-table _ c.args.tree.now (by_run c.args.limits) r (table_refused _ _ _ _ c.accept.ensures r (search rules)));
     }
 
--- Behind the first test none of 9 to 15 applies.
-pub is_good-requires : goal.is_good-requires
-is_good-requires c = run-accepted _ _ (let_through _ _ _ c.run_number-number.ensures c.if-number-ne0.false)
+pub returns-in_err-task : goal.returns-in_err-task
+returns-in_err-task c =
+    let r = c.in_err-task.field-0.0 in
+    let x = c.args.tree.now in
+    record {
+      promise = subst (λ t. Running t x c.args.limits x c.from_residual-in_err-task.result) c.in_ok-table.ensures.same
+          (running-refused (table_of c.in_ok-table.table) x _ _ r (search rules)
+          (by-limits _ c.in_ok-table.table.accepted x _ r (task_refused _ _ c.accept-2.ensures r (search rules))));
+    }
 
-pub returns-then-not-is_good : goal.returns-then-not-is_good
-returns-then-not-is_good c =
-    let passed = let_through _ _ _ c.run_number-number.ensures c.if-number-ne0.false in
-    let bad = found_bad _ _ _ c.is_good.ensures.0 c.if-not-is_good.true in
-    record { promise = running _ _ _ _ _ (refused-call _ _ _ _ (run-sixteen _ _ _ passed bad) (λ e. omega (arith, e))) }
+-- The table and the limits that were accepted are those that were handed over.
+module _ (t u : Table) (e : t ≡ u) (l m : Limits) (f : l ≡ m) (x : Tree) where
+  same : (y : Tree) (a : Ended) → Running t x l y (Ok a) → Running u x m y (Ok a)
+  same y a r = rw (sym e, sym f) r
 
--- Behind the second the tree is good, and code may follow its records.
+  refused-so : (a : Result Ended Refusal) (r : Refusal) → a ≡ Err r → judged (refusals_of t x (by_run l)) ≡ Err r → Running u x m x a
+  refused-so a r g h = rw (sym e, sym f) (running-refused t x l a r g h)
+
+pub returns-in_err-test : goal.returns-in_err-test
+returns-in_err-test c =
+    let r = c.in_err-test.field-0.0 in
+    let x = c.args.tree.now in
+    let free = task_taken _ _ c.accept-2.ensures c.in_ok-task.task (search rules) c.in_ok-task.ensures.same in
+    let no = not-passed _ _ c.test.ensures r (search rules) in
+    let bad = run-bad _ x _ c.is_good-good.ensures.answer c.in_ok-table.table.accepted _ free no.0 in
+    record {
+      promise = refused-so _ _ c.in_ok-table.ensures.same _ _ c.in_ok-task.ensures.same x _ r (search rules) (bad ∙ ap (λ s. Err s) (sym no.1));
+    }
+
 pub run_good-requires : goal.run_good-requires
 run_good-requires c =
-    let yes = c.if-not-is_good.false in
     record {
-      limits_value = let_through _ _ _ c.run_number-number.ensures c.if-number-ne0.false;
-      good = found_good _ _ _ c.is_good.ensures.0 yes;
-      safe = c.is_good.ensures.1 yes;
+      accepted = task_taken _ _ c.accept-2.ensures c.in_ok-task.task (search rules) c.in_ok-task.ensures.same;
+      good = good _ _ _ c.is_good-good.ensures.answer (passed-on _ _ c.test.ensures tt (search rules));
     }
 
 pub returns : goal.returns
-returns c = record { promise = c.run_good.ensures.promise }
+returns c = record { promise = same _ _ c.in_ok-table.ensures.same _ _ c.in_ok-task.ensures.same _ _ _ c.run_good.ensures.promise }

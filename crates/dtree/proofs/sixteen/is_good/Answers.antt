@@ -1,45 +1,42 @@
--- `is_good` meets its contract. The loop's invariant: what is still to be built on y answers for the tree.
--- Rests on Again.antt, on `store`, Lent, and on the contracts of `root_leaf`, `put_alone`, `remake` and `same_nodes`.
-use mathlib.Core.Path.{sym, ap, ◌∙◌}
-use mathlib.Core.Bool.{true≢false}
-use native.Mathlib.Omega.{arith}
-use Rattle.store.proofs.Lent.{cleared}
-use Rattle.dtree.specs.Promises.{one_record}
-use Rattle.dtree.proofs.Again.{even, begun, compared, stops, goes}
+-- `is_good` meets its contract. The loop's invariant: what is still to be built answers for the tree.
+-- Rests on Again.antt and on the contracts of `put_root`, `remake` and `same_nodes`.
+use Rattle.std.proofs.Common.{◌≡◌, subst, arith, ℕ, ◌-◌, ◌<◌, ◌≤◌}
+use Rattle.rules.specs.Table.{Table}
+use Rattle.records.specs.declared.Tree.{Tree}
+use Rattle.dtree.proofs.Again.{Answers, even, begun, compared, stops, goes, safe-so}
 use Rattle.dtree.proofs.sixteen.is_good.Goals as goal
 
-pub returns-then-used-eq0 : goal.returns-then-used-eq0
-returns-then-used-eq0 c = (even _ c.requires _ _ c.used_in-used.ensures c.if-used-eq0.true, λ e. absurd (true≢false (sym e)))
+pub returns-then-tree-eq0 : goal.returns-then-tree-eq0
+returns-then-tree-eq0 c = let ok = c.args.table.accepted in let no = even _ ok _ c.if-tree-eq0.true in record { answer = no; safe = safe-so _ ok _ _ no }
 
-pub root_leaf-requires : goal.root_leaf-requires
-root_leaf-requires c = c.requires
+-- Some refinements are to go while the loop runs, and none at its end.
+some-left : (n i : ℕ) → i < n → 0 < n - i
+some-left n i h = omega arith
 
-pub put_alone-requires : goal.put_alone-requires
-put_alone-requires c = cleared
+none-left : (n i : ℕ) → n ≤ i → n - i ≤ 0
+none-left n i h = omega arith
 
-pub loop-left-init : goal.loop-left-init
-loop-left-init c = begun _ c.requires _ _ c.used_in-used.ensures c.if-used-eq0.false _ (c.put_alone.ensures ∙ ap one_record c.root_leaf.ensures)
+-- So many are to go.
+so-many : (t : Table) (x y : Tree) (n m : ℕ) → n ≡ m → Answers t x y n → Answers t x y m
+so-many t x y n m e a = subst (Answers t x y) e a
+
+pub loop-init : goal.loop-init
+loop-init c =
+    so-many _ _ _ _ _ (omega arith) (begun _ c.args.table.accepted _ c.if-tree-eq0.false _ c.put_root.ensures)
 
 pub remake-requires : goal.remake-requires
-remake-requires c = let ok = c.requires in record {
-  accepted = ok;
-  safe = c.loop-left.invariant.safe;
-  y_value = omega (arith, c.loop-left.invariant.to_go);
-  good = c.loop-left.invariant.good;
-}
+remake-requires c = c.loop.invariant.good
 
 pub returns-then-not-remake : goal.returns-then-not-remake
 returns-then-not-remake c =
-    (stops _ _ _ _ c.loop-left-test.true c.loop-left.invariant _ _ c.remake.ensures (c.if-not-remake.true), λ e. absurd (true≢false (sym e)))
+    let no = stops _ _ _ _ (some-left _ _ c.loop-test.true) c.loop.invariant _ _ c.remake.ensures c.if-not-remake.true in
+    record { answer = no; safe = safe-so _ c.args.table.accepted _ _ no }
 
-pub overflow_sub-left : goal.overflow_sub-left
-overflow_sub-left c = omega (arith, c.loop-left-test.true)
-
-pub loop-left-smaller : goal.loop-left-smaller
-loop-left-smaller c = omega (arith, c.loop-left-test.true)
-
-pub loop-left-preserved : goal.loop-left-preserved
-loop-left-preserved c = goes _ _ _ _ c.loop-left-test.true c.loop-left.invariant _ _ c.remake.ensures (c.if-not-remake.false)
+pub loop-preserved : goal.loop-preserved
+loop-preserved c =
+    so-many _ _ _ _ _ (omega arith) (goes _ _ _ _ (some-left _ _ c.loop-test.true) c.loop.invariant _ _ c.remake.ensures c.if-not-remake.false)
 
 pub returns : goal.returns
-returns c = compared _ _ _ _ c.loop-left-test.false c.loop-left.invariant _ c.same_nodes.ensures
+returns c =
+    let so = compared _ _ _ _ (none-left _ _ c.loop-test.false) c.loop.invariant _ c.same_nodes.ensures in
+    record { answer = so; safe = safe-so _ c.args.table.accepted _ _ so }

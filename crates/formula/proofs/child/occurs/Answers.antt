@@ -1,52 +1,34 @@
--- `occurs` meets its contract. The loop's invariant: the ways left answer for all.
--- Rests on `clauses`, Loops, on Some.antt, and on the contract of `names`.
-use mathlib.Core.Path.{refl, sym, ◌∙◌}
-use mathlib.Core.Bool.{true≢false}
-use Rattle.rules.specs.Leaf.{any}
+-- `occurs` meets its contract: a search over the ways finds one that names the fault, which has a bit then.
+-- Rests on the library's laws of `any`, on `clauses`, Parts, and on the contract of `names`.
+use mathlib.Core.Path.{◌≡◌, sym, ap, ◌∙◌}
+use mathlib.Core.Bool.{Bool, true, false, true≢false}
+use mathlib.Core.List.{List}
+use Prim.Native.Nat.{ℕ, ◌<◌}
+use lib.ListN.{length}
+use Rattle.rules.specs.declared.Way.{Way}
+use borrow.Author.Rules.{rules}
+use Rattle.std.specs.Bool.{MatchBool}
+use Rattle.std.specs.List.{HoldsAt, AllWithin}
+use Rattle.std.proofs.lemmas.Iterator.{cases_from_any}
+use Rattle.std.proofs.lemmas.Iterator.Consumers.{YieldsList-from_first}
+use Rattle.std.proofs.lemmas.Iterator.Search.{any_from_yields_List}
+use Rattle.rules.specs.Table.{bit, faults}
 use Rattle.rules.specs.Tree.{occurs}
-use Rattle.clauses.proofs.Loops.{forward, ended, fewer, some-left, no_more}
-use Rattle.formula.proofs.Some.{any_first, any_rest}
-use Rattle.formula.proofs.child.occurs.Invariants.{names}
+use Rattle.clauses.specs.Leaves.{ways_of}
+use Rattle.clauses.proofs.Parts.{any-is}
 use Rattle.formula.proofs.child.occurs.Goals as goal
 
-pub loop-left-init : goal.loop-left-init
-loop-left-init c = (c.requires, refl)
-
-pub taken-t-requires : goal.taken-t-requires
-taken-t-requires c = record {
-  in_table = c.loop-left.invariant.0;
-  c_value = some-left c.none_left.ensures c.loop-left-test.true;
-}
-
-pub returns-then-names : goal.returns-then-names
-unfolding occurs
-returns-then-names c = let t = c.taken-t in
-    let l = c.loop-left in
-    let f = c.args.f in
-    let n = c.names.ensures in (
-      sym (any_first (names f) t.result.way _ (sym n.0 ∙ c.if-names.true))
-          ∙ forward _ _ l.left (any (names f)) t.result t.ensures l.invariant.1,
-      λ e. n.1 c.if-names.true,
-    )
-
-pub loop-left-smaller : goal.loop-left-smaller
-loop-left-smaller c = let t = c.taken-t in
-    let l = c.loop-left in
-    fewer _ _ l.left t.result t.ensures
-
-pub loop-left-preserved : goal.loop-left-preserved
-loop-left-preserved c = let t = c.taken-t in
-    let l = c.loop-left in
-    let f = c.args.f in (
-      t.ensures.within,
-      sym (any_rest (names f) t.result.way _ (sym c.names.ensures.0 ∙ c.if-names.false))
-          ∙ forward _ _ l.left (any (names f)) t.result t.ensures l.invariant.1,
-    )
+-- Where a way names the fault, the fault has a bit.
+named : (f : ℕ) (vs : List Way) (r : Bool) → MatchBool r ((k : ℕ) × (k < length vs) × HoldsAt (λ v. f < 64) vs k) (AllWithin (λ v. Unit {0}) vs 0 (length vs))
+    → r ≡ true → f < 64
+named f vs true h e = h.2 (record { number = 0; present = 0; absent = 0 })
+named f vs false h e = absurd (true≢false (sym e))
 
 pub returns : goal.returns
-unfolding occurs any
-returns c = let l = c.loop-left in (
-  ended _ _ l.left (any (names c.args.f))
-      (no_more c.none_left.ensures c.loop-left-test.false) l.invariant.1,
-  λ t. absurd (true≢false (sym t)),
-)
+unfolding occurs
+returns c =
+    let a = c.args in
+    let gives = YieldsList-from_first (λ u. u) (λ w. ways_of w.left) (ways_of a.c) (ap ways_of c.ways.ensures) in (
+      any_from_yields_List (λ v. bit a.f (faults v)) _ _ c.any.result c.any.ensures.ran gives (λ x b q k. search rules) ∙ any-is _ (ways_of a.c),
+      named a.f _ _ (cases_from_any _ _ c.any.result (λ v. a.f < 64) (λ v. Unit {0}) c.any.ensures.ran gives (λ x q k. search rules) (λ x q k. search rules)),
+    )

@@ -1,45 +1,30 @@
--- `common_part` meets its contract. The loop's invariant: the words so far have in common with the ways left what the first way has with the others.
--- Rests on Meeting.antt, and on `clauses`, Loops.
+-- `common_part` meets its contract. The loop's invariant: the words so far have in common with the ways to come what the first way has with the others.
+-- Rests on Meeting.antt.
 use mathlib.Core.Path.{refl, sym, ap, ◌∙◌}
 use Rattle.rules.specs.Common.{meet_from, meet, shared}
-use Rattle.clauses.proofs.Loops.{none-left, forward, fewer, some-left, no_more}
+use Rattle.clauses.specs.Leaves.{ways_of}
 use Rattle.formula.proofs.Meeting.{common, cut_short, at_end}
 use Rattle.formula.proofs.common.common_part.Goals as goal
 
-pub returns-then-none_left : goal.returns-then-none_left
+pub returns-in_default : goal.returns-in_default
 unfolding shared meet
-returns-then-none_left c = let a = c.args in
-    sym (ap shared (none-left a.present.now a.absent.now a.c (sym c.none_left.ensures ∙ c.if-none_left.true)))
+returns-in_default c = sym (ap shared (sym (ap ways_of c.ways-ways.ensures) ∙ c.in_default.ensures.steps.0))
 
-pub taken-first-requires : goal.taken-first-requires
-taken-first-requires c = record {
-  in_table = c.requires;
-  c_value = sym c.none_left.ensures ∙ c.if-none_left.false;
-}
-
-pub loop-left-init : goal.loop-left-init
-loop-left-init c = (c.taken-first.ensures.within, refl)
+pub loop-v-init : goal.loop-v-init
+loop-v-init c = refl
 
 pub returns-then-p-q-eq0 : goal.returns-then-p-q-eq0
-returns-then-p-q-eq0 c = let t = c.taken-first in
-    cut_short _ _ _ t.ensures.first c.loop-left.p c.loop-left.q _ c.loop-left.invariant.1 c.if-p-q-eq0.true
+returns-then-p-q-eq0 c =
+    cut_short _ _ _ (sym (ap ways_of c.ways-ways.ensures) ∙ c.in-Some.ensures.steps) c.loop-v.p c.loop-v.q _
+    (c.loop-v.invariant ∙ ap (λ w. common c.in-Some.first.present c.in-Some.first.absent (ways_of w.left)) c.into_iter-v-iterator.ensures.into_iter_gives)
+    c.if-p-q-eq0.true
 
-pub taken-t-requires : goal.taken-t-requires
-taken-t-requires c = record {
-  in_table = c.loop-left.invariant.0;
-  c_value = some-left c.none_left-in-loop-left.ensures c.loop-left-test.true;
-}
-
-pub loop-left-smaller : goal.loop-left-smaller
-loop-left-smaller c = fewer _ _ _ _ c.taken-t.ensures
-
-pub loop-left-preserved : goal.loop-left-preserved
+pub loop-v-preserved : goal.loop-v-preserved
 unfolding meet_from
-loop-left-preserved c = let t = c.taken-t in
-    let l = c.loop-left in
-    (t.ensures.within, forward _ _ l.left (common l.p l.q) t.result t.ensures l.invariant.1)
+loop-v-preserved c = sym (ap (common c.loop-v.p c.loop-v.q) c.in-Some-v.ensures.steps) ∙ c.loop-v.invariant
 
 pub returns : goal.returns
-returns c = let t = c.taken-first in
-    at_end _ _ _ t.ensures.first c.loop-left.p c.loop-left.q _ c.loop-left.invariant.1
-    (none-left _ _ _ (no_more c.none_left-in-loop-left.ensures c.loop-left-test.false))
+returns c =
+    at_end _ _ _ (sym (ap ways_of c.ways-ways.ensures) ∙ c.in-Some.ensures.steps) c.loop-v.p c.loop-v.q _
+    (c.loop-v.invariant ∙ ap (λ w. common c.in-Some.first.present c.in-Some.first.absent (ways_of w.left)) c.into_iter-v-iterator.ensures.into_iter_gives)
+    c.in-None.ensures.steps.0

@@ -1,15 +1,9 @@
--- `common_part` meets its contract. The loop's invariant: the words so far have in common with the ways left what the first way has with the others.
--- Rests on Meeting.antt, and on `clauses`, Loops.
+-- `common_part` meets its contract. The loop's invariant: the words so far have in common with the ways to come what the first way has with the others.
+-- Rests on Meeting.antt.
 use mathlib.Core.Path.{◌≡◌}
-use lib.ListN.{length}
-use Rattle.clauses.specs.Leaves.{ways_of, InTable}
+use Rattle.clauses.specs.Leaves.{ways_of}
 use Rattle.formula.proofs.Meeting.{common}
 use Rattle.formula.proofs.common.common_part.Given as goal
 
-abbrev pub invariant-loop-left : goal.invariant-loop-left
-invariant-loop-left l =
-    InTable l.present l.absent l.left
-    × (common l.p l.q (ways_of l.present l.absent l.left) ≡ common l.initial.p l.initial.q (ways_of l.present l.absent l.initial.left))
-
-abbrev pub decreases-loop-left : goal.decreases-loop-left
-decreases-loop-left l = length (ways_of l.present l.absent l.left)
+abbrev pub invariant-loop-v : goal.invariant-loop-v
+invariant-loop-v l = common l.p l.q (ways_of l.v-iterator.left) ≡ common l.initial.p l.initial.q (ways_of l.initial.v-iterator.left)

@@ -5,6 +5,8 @@ use mathlib.Core.List.{List}
 use Prim.Native.Nat.{ℕ, ◌≤◌}
 use native.Mathlib.Omega.{arith}
 use lib.ListN.{length, length-append}
+use Rattle.std.specs.declared.ops.ControlFlow.{ControlFlow}
+use Rattle.std.specs.declared.ops.ControlFlow.TheVariants.{Break, Continue}
 use Rattle.rules.specs.Table.{Table}
 use Rattle.rules.specs.Tree.{Refinement}
 use Rattle.rules.specs.Run.{aim_of}
@@ -16,9 +18,7 @@ use Rattle.records.specs.declared.Tree.{Tree}
 use Rattle.records.proofs.Positions.{length_places}
 use Rattle.records.proofs.InPlace.{few-places}
 use Rattle.records.proofs.Live.{lean-at}
-use Rattle.store.specs.Lent.{tree_of}
-use Rattle.running.specs.declared.Step.{Step}
-use Rattle.running.specs.declared.Step.TheVariants.{Stop, Go}
+use Rattle.records.proofs.SafeTrees.{good_safe}
 use Rattle.running.specs.Decided.{decided}
 use Rattle.running.specs.Ran.{Ran}
 use Rattle.running.proofs.Turns.{Goes, whole, linked}
@@ -40,38 +40,35 @@ few-made t ns a b x made w =
 
 -- What `decide` answered on a run's way, with the tree x and so many refinements made.
 module _ (t : Table) (ns : List Refinement) (m : Limits) (x : Tree) (made : ℕ) (w : Going t ns (aim_of m) m.budget x made) where
-  module _ (r : Step) (e : r ≡ decided (aim_of m) x made m.budget) where
+  module _ (r : ControlFlow Verdict ℕ) (e : r ≡ decided (aim_of m) x made m.budget) where
     -- To stop is to have made the run.
-    stops : (v : Verdict) → r ≡ Stop v → Ran t ns m x (record { verdict = v; count = made })
+    stops : (v : Verdict) → r ≡ Break v → Ran t ns m x (record { verdict = v; made = made })
     stops v h = subst (Outcome t ns m x made w) h (means t ns m x made w e)
 
     -- To go on is to refine the leaf in record j, as the rules do, and the budget is not spent.
-    goes-there : (j : ℕ) → r ≡ Go j → Goes t (aim_of m) x j × (made ≡ m.budget → ⊥)
+    goes-there : (j : ℕ) → r ≡ Continue j → Goes t (aim_of m) x j × (made ≡ m.budget → ⊥)
     goes-there j h = subst (Outcome t ns m x made w) h (means t ns m x made w e)
 
 pub loop-verdict-init : goal.loop-verdict-init
-loop-verdict-init c = start _ _ _ (tree_of c.args.tree.now) c.requires.good c.requires.safe
+loop-verdict-init c = start _ _ _ c.args.tree.now c.requires
 
-pub decide-requires : goal.decide-requires
-decide-requires c = record {
-  linked = linked _ _ c.loop-verdict.invariant.good;
-  safe = c.loop-verdict.invariant.safe;
-  allowance_bound = c.requires.allowance_bound;
-}
+pub invariant_of-decide : goal.invariant_of-decide
+invariant_of-decide c = record { in_order = linked _ _ c.loop-verdict.invariant.good }
 
-pub returns-in-Stop : goal.returns-in-Stop
-returns-in-Stop c = let l = c.loop-verdict in stops _ _ c.args.limits _ _ l.invariant _ c.decide.ensures _ c.in-Stop.is
+pub returns-in-Break : goal.returns-in-Break
+returns-in-Break c = let l = c.loop-verdict in stops _ _ c.args.task.limits _ _ l.invariant _ c.decide.ensures _ c.in-Break.is
 
 pub refine_by_rule-requires : goal.refine_by_rule-requires
 refine_by_rule-requires c =
-    let m = c.args.limits in
+    let m = c.args.task.limits in
     let l = c.loop-verdict in
-    let ok = c.requires.accepted in
-    let goes = goes-there _ _ m _ _ l.invariant _ c.decide.ensures _ c.in-Go.is in
+    let ok = c.args.table.accepted in
+    let goes = goes-there _ _ m _ _ l.invariant _ c.decide.ensures _ c.in-Continue.is in
+    let space = room _ _ m _ _ l.invariant _ goes.0 ok in
     record {
-      accepted = ok;
-      safe = l.invariant.safe;
-      j_lt_tree_records = room _ _ m _ _ l.invariant _ goes.0 ok;
+      safe = good_safe _ ok _ l.invariant.good;
+      inside = space.0;
+      room = space.1;
       lean = lean-at _ ok _ l.invariant.good _;
     }
 
@@ -81,13 +78,13 @@ overflow_add-made c = omega (arith, few-made _ _ _ _ _ _ c.loop-verdict.invarian
 pub loop-verdict-smaller : goal.loop-verdict-smaller
 loop-verdict-smaller c =
     let l = c.loop-verdict in
-    let goes = goes-there _ _ c.args.limits _ _ l.invariant _ c.decide.ensures _ c.in-Go.is in
+    let goes = goes-there _ _ c.args.task.limits _ _ l.invariant _ c.decide.ensures _ c.in-Continue.is in
     omega (arith, l.invariant.sum, goes.1)
 
 pub loop-verdict-preserved : goal.loop-verdict-preserved
 loop-verdict-preserved c =
-    let m = c.args.limits in
+    let m = c.args.task.limits in
     let l = c.loop-verdict in
-    let goes = goes-there _ _ m _ _ l.invariant _ c.decide.ensures _ c.in-Go.is in
+    let goes = goes-there _ _ m _ _ l.invariant _ c.decide.ensures _ c.in-Continue.is in
     let r = c.refine_by_rule.ensures in
-    goes_on _ _ m _ _ l.invariant _ goes.0 c.requires.accepted _ r.grown r.two_more r.safe goes.1
+    goes_on _ _ m _ _ l.invariant _ goes.0 c.args.table.accepted _ r.grown r.two_more goes.1

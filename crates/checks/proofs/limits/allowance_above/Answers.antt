@@ -1,9 +1,0 @@
--- `allowance_above` meets its contract, which is the test that it makes.
--- Rests on the definition alone.
-use borrow.Author.Rules.{rules}
-use Rattle.rules.specs.Refusals.{allowance_above}
-use Rattle.checks.proofs.limits.allowance_above.Goals as goal
-
-pub returns : goal.returns
-unfolding allowance_above
-returns c = search rules

@@ -1,0 +1,7 @@
+-- `or` meets its contract, word by word.
+-- Rests on Pairs.antt.
+use Rattle.clauses.proofs.Pairs.{either_numbers}
+use Rattle.clauses.proofs.sets.Numbers.or.Goals as goal
+
+pub returns : goal.returns
+returns c = let a = c.args in either_numbers a.self.low a.self.high a.other.low a.other.high

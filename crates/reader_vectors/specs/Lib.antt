@@ -1,2 +1,0 @@
--- What a printed line says in the rules' terms.
-pub mod Lines

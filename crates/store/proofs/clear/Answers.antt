@@ -1,7 +1,0 @@
--- `clear` meets its contract: words that are all 0 are the tree without nodes.
--- Rests on Lent.antt.
-use Rattle.store.proofs.Lent.{cleared}
-use Rattle.store.proofs.clear.Goals as goal
-
-pub returns : goal.returns
-returns c = cleared

@@ -1,0 +1,2 @@
+-- The proofs of what the programs share.
+mod Front
