@@ -10,7 +10,7 @@ use lib.Bits.{bit_and}
 use lib.Count.{count_trailing_zeros, under}
 use lib.Dec.{eqb, eqb-zero-suc, eqb-suc-zero, eqb-suc-suc}
 use borrow.Author.Tests.{eq-eqb, ne_eqb}
-use Rattle.std.specs.List.{filter, range_with_len}
+use Rattle.std.specs.List.{filter, range_with_len, AllByRecursion}
 use Rattle.rules.specs.Table.{odd, bit}
 use Rattle.rules.proofs.Booleans.{or_right, or-first, or-second}
 use Rattle.rules.proofs.Bits.{bit-zero, rest-even, rest-odd-half, rest-even-half, lowest-below}
@@ -112,3 +112,17 @@ none_set = none 0 64
     none : (i k : ℕ) → filter (λ j. bit j 0) (range_with_len i k) ≡ []
     none i zero = refl
     none i (suc k) = rw (bit-zero i) (none (i + 1) k)
+
+-- Each is the number of one of 64 bits.
+pub set_below : (w : ℕ) → AllByRecursion (λ i. i < 64) (set_bits w)
+unfolding set_bits
+set_below w = below 0 64 (omega arith)
+  where
+    below : (i k : ℕ) → i + k ≤ 64 → AllByRecursion (λ i. i < 64) (filter (λ i. bit i w) (range_with_len i k))
+    below i zero l = tt
+    below i (suc k) l = by (bit i w) refl (below (i + 1) k (omega arith))
+      where
+        by : (b : Bool) → bit i w ≡ b → AllByRecursion (λ i. i < 64) (filter (λ i. bit i w) (range_with_len (i + 1) k))
+            → AllByRecursion (λ i. i < 64) (filter (λ i. bit i w) (range_with_len i (suc k)))
+        by true e rest = rw e (omega arith, rest)
+        by false e rest = rw e rest

@@ -35,6 +35,7 @@ fn over(direction: Direction, x: u64) -> Chance
 {
     let billionths = match direction {
         Direction::Down => x / S,
+        // Tried as `div_ceil`, which divides and compares: 1.03 of the instructions on the largest and the typical sheet.
         Direction::Up => (x + (S - 1)) / S,
     };
     Chance { billionths }

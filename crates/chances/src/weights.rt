@@ -16,7 +16,7 @@ pub struct Weights<'a> {
     ghost light: { overweight list.now ≡ false },
 }
 
-// Two flags, as the rules' `step` has them: a way names a fault in one sense, in neither, or, where no table was accepted, in both.
+// Two flags, as the rules' `step` has them. An enum would need all four cases, since a way's words may name a fault in both senses.
 /// The chance c with one fault of this weight: named present it multiplies in the weight, named absent the rest of S, else nothing.
 fn step(c: Chance, weight: Chance, present: bool, absent: bool, direction: Direction) -> Chance
     ensures { result ≡ Leaf.step direction weight present absent c }
@@ -47,6 +47,7 @@ impl<'a> Weights<'a> {
     {
         let mut chance = Chance::CERTAIN;
         for fault in Bits::of(way.present | way.absent) {
+            // A fault beyond the last does not count, where `of` has 0 for it.
             if fault < self.list.len() {
                 let weight = self.of(fault);
                 chance = step(

@@ -23,6 +23,7 @@ pub struct Table<'a> {
 }
 
 impl<'a> Table<'a> {
+    // A method, no conversion: nothing is made, two of the three lists are lent on.
     /// The words of its ways.
     pub fn rows(self) -> Rows<'a>
         ensures present { result.present.now ≡ self.entry.present.now }

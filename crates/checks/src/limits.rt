@@ -3,7 +3,7 @@
 ghost use Rattle.std.specs.Prelude.{◌≡◌};
 ghost use Rattle.rules.specs.Refusals.{answered, limit_refusals, allowance_above, budget_above};
 
-use rules::{Limits, Refusal, S};
+use rules::{Limits, MOST_REFINEMENTS, Refusal, S};
 
 /// 14: the allowance is above S.
 #[tactic(auto, unfolding(rules::specs::Refusals::allowance_above))]
@@ -18,7 +18,7 @@ fn allowance_above(m: Limits) -> bool
 fn budget_above(m: Limits) -> bool
     ensures { result ≡ budget_above m }
 {
-    255 < m.budget
+    MOST_REFINEMENTS < m.budget
 }
 
 /// The limits are refused by 14 or 15, or let pass.

@@ -1,10 +1,11 @@
 //! Tests on a number and on one list: how many faults and cues, weights, counts of ways, cue numbers.
 //! Rests on the definitions of `rules`, Refusals. A sheet's parts have the same tests in `sheet`: a slice and an iterator of parts are known as lists
-//! by different facts, so one function over both, or over numbers of both widths, would have more to ask than it does.
+//! by different facts, so one function over both, or over numbers of both widths, would have more to ask than it does. That two tests look alike
+//! but for a number is no twin: each says a rule of its own.
 ghost use Rattle.std.specs.Prelude.{◌≡◌};
 ghost use Rattle.rules.specs.Refusals;
 
-use rules::S;
+use rules::{MOST_CUES, MOST_FAULTS, MOST_WAYS, S};
 use std::iter::once;
 
 /// 2 and 9: a number of faults that is 0 or above 64.
@@ -12,7 +13,7 @@ use std::iter::once;
 pub fn faults_outside(n: usize) -> bool
     ensures { result ≡ Refusals.faults_outside n }
 {
-    !(1..=64).contains(&n)
+    !(1..=MOST_FAULTS).contains(&n)
 }
 
 /// 2: a number of cues that is 0 or above 24.
@@ -20,7 +21,7 @@ pub fn faults_outside(n: usize) -> bool
 pub fn cues_outside(n: usize) -> bool
     ensures { result ≡ Refusals.cues_outside n }
 {
-    !(1..=24).contains(&n)
+    !(1..=MOST_CUES).contains(&n)
 }
 
 /// 10: a weight is above S.
@@ -34,7 +35,7 @@ pub fn overweight(weights: &[u32]) -> bool
 pub fn crowded(counts: &[u16]) -> bool
     ensures { result ≡ Refusals.crowded counts.now }
 {
-    counts.iter().any(|&count| 128 < count)
+    counts.iter().any(|&count| MOST_WAYS < usize::from(count))
 }
 
 /// 5: the first cue number is 0, or some number is not above the one before it.

@@ -6,7 +6,7 @@ ghost use Rattle.std.specs.List.{list_any};
 ghost use Rattle.rules.specs.Table.{rows};
 ghost use Rattle.rules.specs.Refusals.{answered, words_amiss, names_beyond, names_both, way_refusals};
 
-use rules::{Refusal, Words};
+use rules::{MOST_WAYS, Refusal, Words};
 
 /// A word names a fault at or above n. No word names one at 64 or above, and a shift by 64 has no meaning.
 fn beyond(n: usize, word: u64) -> bool
@@ -34,7 +34,7 @@ pub fn way_both(way: Words) -> bool
 pub fn words_amiss(present: &[u64], absent: &[u64]) -> bool
     ensures { result ≡ words_amiss present.now absent.now }
 {
-    128 < present.len() || present.len() != absent.len()
+    MOST_WAYS < present.len() || present.len() != absent.len()
 }
 
 /// Some word of a list names a fault at or above n.

@@ -1,27 +1,22 @@
 -- Which numbers a part of a leaf has, for the proofs of callers: those of the leaf whose ways pass the test.
 -- Rests on Leaf.antt and Parts.antt.
-use mathlib.Core.Path.{◌≡◌, refl, sym, ap, ap₂, ◌∙◌, subst}
+use mathlib.Core.Path.{◌≡◌, refl, sym, ap, ◌∙◌}
 use mathlib.Core.Bool.{Bool, true, false, not, ◌&&◌, true≢false}
 use mathlib.Core.List.Memᴰ
 use mathlib.Core.List.{List, [], ◌∷◌, map}
 use Prim.Native.Nat.{ℕ, suc, ◌+◌}
 use native.Mathlib.Omega.{arith}
 use lib.Bits.{bit_or}
-use lib.Dec.{eqb}
 use lib.ListN.{length, get_or}
-use borrow.Author.Tests.{eq-eqb, ne_eqb}
 use Rattle.rules.specs.declared.Way.{Way}
 use Rattle.rules.specs.Members.{In}
 use Rattle.rules.specs.Table.{rows, absent_rows}
 use Rattle.rules.specs.Leaf.{select, sift, has_number, dropped, contradicted, remaining}
-use Rattle.rules.proofs.Booleans.{and-false}
-use Rattle.rules.proofs.Sets.{Rising}
 use Rattle.clauses.specs.declared.Clauses.{Clauses}
-use Rattle.clauses.specs.declared.sets.Numbers.{Numbers}
 use Rattle.clauses.specs.Numbers.{is_in}
 use Rattle.clauses.specs.Leaves.{gone_word, fix_more, row, way_at, ways_of, Becomes, Narrows}
-use Rattle.clauses.proofs.Leaf.{rising, numbers, number_in}
-use Rattle.clauses.proofs.Parts.{later, numbered, part-in, part-number, remaining-is, dropped-number}
+use Rattle.clauses.proofs.Leaf.{rising, numbers}
+use Rattle.clauses.proofs.Parts.{numbered, part-in, part-number, remaining-is, dropped-number}
 
 -- A way of ways that dropped faults is one of them that dropped them.
 from-dropped : (m : ℕ) (vs : List Way) (v : Way) → In v (map (dropped m) vs) → (u : Way) × In u vs × (v ≡ dropped m u)
@@ -92,29 +87,3 @@ fixed_numbers c r p q h i =
     let f : Way → Bool = λ v. not (contradicted p q v) in
     sym (numbers r i) ∙ ap (λ (vs : List Way). has_number vs i) (h.ways_are ∙ remaining-is p q (ways_of c))
     ∙ dropped-number (bit_or p q) (sift f (ways_of c)) i ∙ passing_numbers c f i
-
--- Ways that all pass a test are all kept.
-all-pass : (f : Way → Bool) (vs : List Way) → ((v : Way) → In v vs → f v ≡ true) → sift f vs ≡ vs
-unfolding sift
-all-pass f [] h = refl
-all-pass f (v ∷ vs) h = rw (h v (Memᴰ.head refl), sift) (ap (λ (us : List Way). v ∷ us) (all-pass f vs (λ u i. h u (Memᴰ.tail i))))
-
--- THE OTHERS OF A FIRST WAY are the leaf with the numbers but the first.
-pub others_are : (c r : Clauses) (v : Way) (vs : List Way) → ways_of c ≡ v ∷ vs → (others : Numbers)
-    → ((j : ℕ) → is_in others j ≡ (is_in c.numbers j && not (eqb j v.number))) → Narrows c (sift (λ u. is_in others u.number) (ways_of c)) r → ways_of r ≡ vs
-unfolding sift Rising
-others_are c r v vs e others h n = n.ways_are ∙ ap (sift f) e ∙ rw (out, sift) (all-pass f vs stays)
-  where
-    f : Way → Bool
-    f u = is_in others u.number
-
-    rises : Rising 0 (v ∷ vs)
-    rises = subst (λ (us : List Way). Rising 0 us) e (rising c)
-
-    out : is_in others v.number ≡ false
-    out = h v.number ∙ ap (λ (b : Bool). is_in c.numbers v.number && not b) (eq-eqb v.number v.number refl) ∙ and-false (is_in c.numbers v.number)
-
-    stays : (u : Way) → In u vs → f u ≡ true
-    stays u i =
-        let below = later (suc v.number) vs u rises.1 i in
-        h u.number ∙ ap₂ (λ (a b : Bool). a && not b) (number_in c u (rw e (Memᴰ.tail i))) (ne_eqb u.number v.number (λ q. omega (arith, q, below)))

@@ -114,18 +114,6 @@ sift-twice f g (v ∷ vs) = by (f v) (λ us. refl) (sift-twice f g vs)
     by true e ih = e (sift f vs) ∙ ap (λ (us : List Way). elim (g v) as (λ b. List Way) [ true ↦ v ∷ us | false ↦ us ]) ih
     by false e ih = ih
 
--- Where each way that passes h passes g too, h is passed in the part by g just if it is in the list.
-pub any-sift : (h g : Way → Bool) (vs : List Way) → ((v : Way) → In v vs → h v ≡ true → g v ≡ true) → any h (sift g vs) ≡ any h vs
-unfolding any sift
-any-sift h g [] k = refl
-any-sift h g (v ∷ vs) k = by (h v) (g v) (λ us. refl) (k v (Memᴰ.head refl)) (any-sift h g vs (λ u i. k u (Memᴰ.tail i)))
-  where
-    by : (x y : Bool) → ((us : List Way) → any h (v ∷ us) ≡ (x || any h us)) → (x ≡ true → y ≡ true) → any h (sift g vs) ≡ any h vs
-        → any h (elim y as (λ b. List Way) [ true ↦ v ∷ sift g vs | false ↦ sift g vs ]) ≡ (x || any h vs)
-    by x true q e ih = q (sift g vs) ∙ ap (λ (b : Bool). x || b) ih
-    by true false q e ih = absurd (true≢false (sym (e refl)))
-    by false false q e ih = ih
-
 -- The test on a list of ways is the library's.
 pub any-is : (h : Way → Bool) (vs : List Way) → list_any h vs ≡ any h vs
 unfolding any

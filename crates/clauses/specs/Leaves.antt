@@ -11,6 +11,7 @@ use Rattle.checks.specs.declared.accepted.Rows.{Rows}
 use Rattle.clauses.specs.declared.Clauses.{Clauses}
 use Rattle.clauses.specs.declared.lost.Gone.{Gone}
 use Rattle.clauses.specs.declared.staying.ByFault.{ByFault}
+use Rattle.clauses.specs.declared.taking.Ways.{Ways}
 use Rattle.clauses.specs.Numbers.{is_in}
 
 -- All the faults that are gone, as one word.
@@ -48,6 +49,10 @@ all_of r = rows 0 r.present.now r.absent.now
 -- The ways: those of the table with these numbers, without the faults that are gone.
 unfoldable pub ways_of : Clauses → List Way
 ways_of c = map (dropped (gone_word c.gone)) (select (is_in c.numbers) (all_of c.rows))
+
+-- The ways that are still to come.
+abbrev pub left_of : Ways → List Way
+left_of w = ways_of w.left
 
 -- A leaf over two lists of words has these ways, and the faults of g are gone.
 pub record Holds (ps qs : List ℕ) (g : Gone) (vs : List Way) (r : Clauses) : Type 0 where

@@ -87,7 +87,7 @@ impl<'a> Clauses<'a> {
         }
     }
 
-    // The word that is not 0 tells the sense, as for `restrict` and in the rules' `remaining`: a flag beside one word would say the same.
+    // Two words, as for `restrict` and in the rules' `remaining`; the one that is not 0 tells the sense: a flag beside one word would say the same.
     // No type of lean ways: they are read back from records, and only the lent tree, which owns no fact, knows them lean.
     /// What stays of the ways with one fault fixed besides, present (p) or absent (q). A way that lost the fault stays. Of
     /// those that did not name it each is left out that such a way subsumes: none, where it does not even subsume their cover.

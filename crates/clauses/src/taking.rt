@@ -6,7 +6,7 @@ ghost use Rattle.std.specs.Iterator.{YieldsFirst, item_count};
 ghost use Rattle.rules.specs.Table;
 ghost use Rattle.rules.specs.Leaf;
 ghost use Rattle.rules.specs.Group.{nonempty};
-ghost use Rattle.clauses.specs.Leaves.{way_at, ways_of};
+ghost use Rattle.clauses.specs.Leaves.{way_at, ways_of, left_of};
 
 use super::Clauses;
 use rules::Way;
@@ -52,11 +52,12 @@ pub struct Ways<'a> {
 impl<'a> Iterator for Ways<'a> {
     type Item = Way;
 
-    ghost next_gives = { YieldsFirst (λ w. ways_of w.left) };
+    ghost next_gives = { YieldsFirst left_of };
 
-    ghost remaining = { item_count (λ w. ways_of w.left) };
+    ghost remaining = { item_count left_of };
 
-    // The two words are taken alike. One function over both would be handed a word and an offset and hand back a number and a word: no plainer.
+    // The two words are taken alike. One function over both would be handed a word and an offset and hand back a number and a word, and `Bits` would be
+    // made of a word for one step and taken apart: no plainer.
     fn next(&mut self) -> Option<Way> {
         let low = self.left.numbers.low;
         if low != 0 {
@@ -75,7 +76,7 @@ impl<'a> Iterator for Ways<'a> {
 impl<'a> Clauses<'a> {
     /// The ways, the lowest number first.
     pub fn ways(self) -> Ways<'a>
-        ensures { result.left ≡ self.entry }
+        ensures { left_of result ≡ ways_of self.entry }
     {
         Ways { left: self }
     }

@@ -126,10 +126,10 @@ module _ (bs : List ℕ) (accepted : read_number bs ≡ 0) where
       rw (entries_stated bs accepted) at (each_apart bs (stated_in n bs) (bodies_in bs) joined (rw (counts_stated bs n) ways))
 
   -- They are at most 24, and the weights at most 64.
-  pub few-entries : length (entries_in bs) ≤ 24
-  few-entries =
+  pub few_entries : length (entries_in bs) ≤ 24
+  few_entries =
       let long = ap length (entries_stated bs accepted) in
       omega (arith, long, length_parts stated 8 (cues_in bs) (drop 12 bs), (accepted-few bs accepted).cues)
 
-  pub few-weights : length (weights_in bs) ≤ 64
-  few-weights = omega (arith, length-column 4 4 (weights_start (cues_in bs)) (faults_in bs) bs, (accepted-few bs accepted).faults)
+  pub few_weights : length (weights_in bs) ≤ 64
+  few_weights = omega (arith, length-column 4 4 (weights_start (cues_in bs)) (faults_in bs) bs, (accepted-few bs accepted).faults)

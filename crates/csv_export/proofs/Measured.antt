@@ -1,8 +1,9 @@
 -- How long the parts of a text are: of a way by the bits of its words, of a record by its fields.
 -- Rests on the library's counts of bits, on Faults.antt, Naming.antt and Records.antt.
 use Rattle.std.proofs.Common.{◌≡◌, ℕ, zero, suc, ◌+◌, ◌*◌, ◌/◌, ◌%◌, ◌^◌, ◌<◌, ◌≤◌, Bool, true, false, refl, ap, ◌∙◌, add-one, arith}
-use Rattle.std.proofs.Common.{List, [], ◌∷◌, ◌++◌, map, length, flat_map, length-append}
+use Rattle.std.proofs.Common.{List, [], ◌∷◌, ◌++◌, map, length, length-append}
 use Rattle.std.proofs.lemmas.Bool.{eqb-true, eqb-false}
+use Rattle.std.proofs.lemmas.Grind.{common_steps}
 use Rattle.std.proofs.Math.Nat.{pow-suc}
 use Rattle.std.specs.Int.Bits.{bit_or}
 use lib.Count.{ones, ones_step, ones-le}
@@ -11,12 +12,13 @@ use Rattle.rules.specs.declared.Limits.{Limits}
 use Rattle.rules.specs.Text.{bytes, decimal}
 use Rattle.rules.proofs.Decimal.{decimal-one}
 use Rattle.rules.specs.declared.Words.{Words}
+use Rattle.sheet.proofs.Stated.{length_parts}
 use Rattle.csv_text.specs.declared.Fault.{Fault}
 use Rattle.csv_text.specs.Texts.{fault_text, mark, faults_from, run_record, weights_record, further_fields}
 use Rattle.csv_export.specs.Parts.{faults_text, way_text, ended}
-use Rattle.csv_export.proofs.Faults.{decimal-two}
+use Rattle.csv_export.proofs.Faults.{decimal_two}
 use Rattle.csv_export.proofs.Naming.{some_way}
-use Rattle.csv_export.proofs.Records.{limits_bytes, fields_ended, weights_bytes, first_field, first_piece}
+use Rattle.csv_export.proofs.Records.{limits_bytes, fields_ended, weights_bytes, entry_alone, entry_ways}
 
 -- The text of the faults among n places from i on.
 abbrev fields_from : ℕ → ℕ → ℕ → ℕ → List ℕ
@@ -53,7 +55,7 @@ one-digit i h = ap length (decimal-one (i + 1) (omega arith))
 
 -- From the tenth on, two.
 two-digits : (i : ℕ) → 9 ≤ i → i < 99 → length (decimal (i + 1)) ≡ 2
-two-digits i h l = ap length (decimal-two (i + 1) (omega arith) (omega arith))
+two-digits i h l = ap length (decimal_two (i + 1) (omega arith) (omega arith))
 
 -- The faults from the tenth on: three bytes, four if absent.
 high-length : (n i p q : ℕ) → 9 ≤ i → i + n ≤ 99 → p < 2 ^ n → q < 2 ^ n → length (fields_from i n p q) ≡ 3 * ones p + 4 * ones q
@@ -79,9 +81,9 @@ low-length (suc k) (suc n) i p q e l few hp hq =
 
 module _ (w : Words) (hp : w.present < 2 ^ 64) (hq : w.absent < 2 ^ 64) where
   -- THE LENGTH OF A WAY that is not empty, by the bits of its words.
-  pub way-bits : (bit_or w.present w.absent ≡ 0 → ⊥)
+  pub way_bits : (bit_or w.present w.absent ≡ 0 → ⊥)
       → length (faults_text w) ≡ (2 * ones w.present + ones (w.present / 512)) + (3 * ones w.absent + ones (w.absent / 512))
-  way-bits h =
+  way_bits h =
       let nine : (v : ℕ) → halves 9 v ≡ v / 512 = λ v. omega arith in
       ap length (some_way w hp hq h)
       ∙ rw (← nine w.present, ← nine w.absent) (low-length 9 64 0 w.present w.absent refl (omega arith) (omega arith) hp hq)
@@ -96,28 +98,22 @@ module _ (w : Words) (hp : w.present < 2 ^ 64) (hq : w.absent < 2 ^ 64) where
   )
 
 -- The record of a way.
-pub way-length : (d : List ℕ) (w : Words) → length (way_text d w) ≡ length d + 2 + length (faults_text w)
+pub way_length : (d : List ℕ) (w : Words) → length (way_text d w) ≡ length d + 2 + length (faults_text w)
 unfolding way_text
-way-length d w = omega (arith, length-append (d ++ faults_text w) (13 ∷ 10 ∷ []), length-append d (faults_text w))
+way_length d w = omega (arith, length-append (d ++ faults_text w) (13 ∷ 10 ∷ []), length-append d (faults_text w))
 
 -- The limits: the word and the end take 5 bytes.
-pub limits-counted : (m : Limits) → length (ended (run_record m)) ≡ 5 + length (44 ∷ decimal m.allowance) + length (44 ∷ decimal m.budget)
-limits-counted m =
+pub limits_counted : (m : Limits) → length (ended (run_record m)) ≡ 5 + length (44 ∷ decimal m.allowance) + length (44 ∷ decimal m.budget)
+limits_counted m =
     let a = 44 ∷ decimal m.allowance in
     let b = 44 ∷ decimal m.budget in
     let word : List ℕ = 114 ∷ 117 ∷ 110 ∷ [] in
     omega (arith, ap length (limits_bytes m), length-append (word ++ a ++ b) (13 ∷ 10 ∷ []), length-append (word ++ a) b)
 
 -- The weights: the word takes 7 bytes.
-pub weights-counted : (ws : List ℕ) → length (ended (weights_record ws)) ≡ 7 + length (fields_ended ws)
+pub weights_counted : (ws : List ℕ) → length (ended (weights_record ws)) ≡ 7 + length (fields_ended ws)
 unfolding bytes
-weights-counted ws = ap length (weights_bytes ws) ∙ omega arith
+weights_counted ws = ap length (weights_bytes ws) ∙ omega arith
 
--- The field of the first weight, and the others.
-pub fields-counted : {ws rest : List ℕ} {w : ℕ} → ws ≡ w ∷ rest → length (fields_ended ws) ≡ length (44 ∷ decimal w) + length (fields_ended rest)
-fields-counted {rest = rest} {w = w} e = ap length (first_field e) ∙ length-append (44 ∷ decimal w) (fields_ended rest)
-
--- The first of pieces, and the others.
-pub pieces-counted : {A : Type 0} (f : A → List ℕ) {xs rest : List A} {x : A} → xs ≡ x ∷ rest
-    → length (flat_map f xs) ≡ length (f x) + length (flat_map f rest)
-pieces-counted f {rest = rest} {x = x} e = ap length (first_piece f e) ∙ length-append (f x) (flat_map f rest)
+-- What the length of an entry's records rests on.
+pub ruleset measuring = (common_steps, entry_alone, entry_ways, way_length, length_parts)

@@ -1,15 +1,16 @@
 -- The faults that two words name, place by place.
 -- Rests on the definitions of Parts, on `rules`, Bits, and on `chances`, Bits, for the places.
-use Rattle.std.proofs.Common.{◌≡◌, ℕ, zero, suc, ◌+◌, ◌*◌, ◌/◌, ◌%◌, ◌^◌, ◌<◌, ◌≤◌, Bool, true, false, refl, sym, ap, ap₂, ◌∙◌, add-one, arith}
-use Rattle.std.proofs.Common.{List, [], ◌∷◌, ◌++◌, map, length}
+use Rattle.std.proofs.Common.{◌≡◌, ℕ, zero, suc, ◌+◌, ◌*◌, ◌/◌, ◌%◌, ◌^◌, ◌<◌, Bool, true, false, refl, sym, ap, ap₂, ◌∙◌, add-one, arith}
+use Rattle.std.proofs.Common.{List, [], ◌∷◌, map, length}
 use Rattle.std.proofs.lemmas.Bool.{eqb-false}
 use Rattle.std.proofs.Math.Nat.{pow-suc, div-div-eq-div-mul}
-use Rattle.std.specs.List.{filter, range_with_len, AllByRecursion}
+use Rattle.std.specs.List.{filter, range_with_len}
 use Rattle.std.specs.Int.Bits.{bit_and, bit_or}
 use Rattle.rules.specs.Table.{odd, bit}
 use Rattle.rules.specs.Text.{bytes}
 use Rattle.rules.proofs.Bits.{bit-shift, bit-zero, bit-and, bit-or, or-zero}
 use Rattle.chances.specs.Bits.{set_bits}
+use Rattle.chances.proofs.First.{set_below}
 use Rattle.rules.specs.declared.Words.{Words}
 use Rattle.csv_text.specs.declared.Fault.{Fault}
 use Rattle.csv_text.specs.Texts.{fault_text, mark, faults_from, or_zero, further_fields}
@@ -65,31 +66,6 @@ named_places w apart = named w.present w.absent apart
 abbrev pub places_text : ℕ → List ℕ → List ℕ
 places_text q places = further_fields (map fault_text (map (λ i. record { place = i; absent = bit i q }) places))
 
--- The first of them, and the others.
-pub first_place : (q : ℕ) {places rest : List ℕ} {i : ℕ} {b : Bool} → places ≡ i ∷ rest → b ≡ bit i q
-    → places_text q places ≡ (44 ∷ fault_text (record { place = i; absent = b })) ++ places_text q rest
-unfolding further_fields
-first_place q e k = rw (e, k) refl
-
--- At no places there is none.
-pub no_places : (q : ℕ) {places : List ℕ} → places ≡ [] → places_text q places ≡ []
-unfolding further_fields
-no_places q e = rw e refl
-
--- Each place of a word is one of 64.
-pub places_below : (w : ℕ) → AllByRecursion (λ i. i < 64) (set_bits w)
-unfolding set_bits
-places_below w = below 0 64 (omega arith)
-  where
-    below : (i n : ℕ) → i + n ≤ 64 → AllByRecursion (λ i. i < 64) (filter (λ i. bit i w) (range_with_len i n))
-    below i zero l = tt
-    below i (suc n) l = split (bit i w) refl (below (i + 1) n (omega arith))
-      where
-        split : (b : Bool) → bit i w ≡ b → AllByRecursion (λ i. i < 64) (filter (λ i. bit i w) (range_with_len (i + 1) n))
-            → AllByRecursion (λ i. i < 64) (filter (λ i. bit i w) (range_with_len i (suc n)))
-        split true e rest = rw e (omega arith, rest)
-        split false e rest = rw e rest
-
 -- ---- the whole way
 
 -- Words of 0 name nothing.
@@ -118,9 +94,9 @@ named-zero i (suc n) p q hp hq e =
         (omega (arith, z.0), omega (arith, z.1))
 
 -- The empty way is `0`.
-pub empty-way : (w : Words) → bit_or w.present w.absent ≡ 0 → faults_text w ≡ 44 ∷ 48 ∷ []
+pub empty_way : (w : Words) → bit_or w.present w.absent ≡ 0 → faults_text w ≡ 44 ∷ 48 ∷ []
 unfolding faults_text or_zero further_fields bytes
-empty-way w e =
+empty_way w e =
     let z = or-zero w.present w.absent e in
     rw (z.0, z.1) (ap (λ (fs : List Fault). further_fields (or_zero (map fault_text fs))) (none_named 0 64))
 
@@ -133,3 +109,6 @@ some_way w hp hq h = split (faults_from 0 64 w.present w.absent) refl
     split : (fs : List Fault) → faults_from 0 64 w.present w.absent ≡ fs → further_fields (or_zero (map fault_text fs)) ≡ further_fields (map fault_text fs)
     split [] e = let z = named-zero 0 64 w.present w.absent hp hq e in absurd (h (ap₂ bit_or z.0 z.1))
     split (f ∷ fs) e = refl
+
+-- What the text of a way's faults rests on.
+pub ruleset naming = (empty_way, some_way, named_places, set_below)

@@ -31,11 +31,6 @@ pub first_field : {ws rest : List ℕ} {w : ℕ} → ws ≡ w ∷ rest → field
 unfolding further_fields
 first_field {rest = rest} {w = w} e = rw e (append_assoc (44 ∷ decimal w) (further_fields (map decimal rest)) (13 ∷ 10 ∷ []))
 
--- No weights are left.
-pub no_fields : {ws : List ℕ} → ws ≡ [] → fields_ended ws ≡ 13 ∷ 10 ∷ []
-unfolding further_fields
-no_fields e = rw e refl
-
 -- ---- the records of cues
 
 -- Records behind others.
@@ -70,11 +65,3 @@ module _ (bs : List ℕ) (e : Entry) where
   -- An entry with ways: their records.
   pub entry_ways : (e.ways ≡ 0 → ⊥) → entry_text bs e ≡ flat_map (way_text (decimal e.cue)) (ways_of bs e)
   entry_ways some = cue_ways e.cue (ways_of bs e) (λ z. some (sym (length_parts words 16 e.ways (drop e.start bs)) ∙ z))
-
--- The first of pieces, and the others.
-pub first_piece : {A : Type 0} (f : A → List ℕ) {xs rest : List A} {x : A} → xs ≡ x ∷ rest → flat_map f xs ≡ f x ++ flat_map f rest
-first_piece f e = rw e refl
-
--- No pieces are left.
-pub no_pieces : {A : Type 0} (f : A → List ℕ) {xs : List A} → xs ≡ [] → flat_map f xs ≡ []
-no_pieces f e = rw e refl

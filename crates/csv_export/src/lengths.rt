@@ -1,7 +1,8 @@
 //! How long the text of a sheet is, measured before anything is written. Each length comes with a bound, so that no sum can wrap.
 //! What measures a piece stands apart from what writes it, and no trait has both: a way is measured by counting the bits of its words and written
 //! fault by fault, and a trait would want a struct for each piece, to hold what writing it asks for. It would be no plainer.
-//! The sums are loops. Tried as `map` and `sum` for the weights: the proof does not close, for what `sum` tells does not hand on the pieces' bounds.
+//! The three sums are loops. Tried as `map` and `sum`, for the weights, the shortest: the proof does not close, since what `sum` tells does not hand on
+//! the pieces' bounds.
 //! Rests on the definitions of Parts and on `csv_text`, Texts.
 ghost use Rattle.std.specs.Prelude.{◌≡◌, ◌∷◌, ◌+◌, ◌*◌, ◌≤◌, length};
 ghost use Rattle.rules.specs.Text.{decimal};
@@ -23,6 +24,7 @@ fn field_length(number: u64) -> usize
 
 /// What stands behind the cue: a comma before each fault, a minus before one that is absent,
 /// and one digit for each of the first nine faults, two for any other.
+#[tactic(auto, using(crate::proofs::Naming::empty_way, crate::proofs::Measured::way_bits, crate::proofs::Measured::few_bits))]
 fn faults_length(way: Words) -> usize
     ensures value { result ≡ length (faults_text way) }
     ensures most { result ≤ 448 }
@@ -36,6 +38,7 @@ fn faults_length(way: Words) -> usize
 }
 
 /// The records of an entry.
+#[tactic(auto, using(crate::proofs::Measured::measuring))]
 fn entry_length(sheet: Sheet<'_>, entry: Entry) -> usize
     ensures value { result ≡ length (entry_text sheet.entry.bytes.now entry) }
     ensures most { result ≤ 470 * 65535 }
@@ -52,6 +55,7 @@ fn entry_length(sheet: Sheet<'_>, entry: Entry) -> usize
 }
 
 /// The records of all entries.
+#[tactic(auto, using(crate::proofs::Entries::few_entries))]
 fn entries_length(sheet: Sheet<'_>) -> usize
     ensures value { result ≡ length (entries_text sheet.entry.bytes.now) }
     ensures most { result ≤ 24 * (470 * 65535) }
@@ -64,6 +68,7 @@ fn entries_length(sheet: Sheet<'_>) -> usize
 }
 
 /// The limits, with the end of their record.
+#[tactic(auto, using(crate::proofs::Measured::limits_counted))]
 fn limits_length(limits: Limits) -> usize
     ensures value { result ≡ length (ended (run_record limits)) }
     ensures most { result ≤ 47 }
@@ -72,6 +77,7 @@ fn limits_length(limits: Limits) -> usize
 }
 
 /// The weights, with the end of their record.
+#[tactic(auto, using(crate::proofs::Measured::weights_counted), unfolding(csv_text::specs::Texts::further_fields))]
 fn weights_length(weights: Parts<'_, u32>) -> usize
     requires { length weights ≤ 64 }
     ensures value { result ≡ length (ended (weights_record weights.entry)) }
@@ -85,6 +91,7 @@ fn weights_length(weights: Parts<'_, u32>) -> usize
 }
 
 /// The text.
+#[tactic(auto, using(crate::proofs::Entries::few_weights, std::proofs::lemmas::Grind::common_steps))]
 pub fn text_length(sheet: Sheet<'_>) -> usize
     ensures { result ≡ length (sheet_text sheet.entry.bytes.now) }
 {

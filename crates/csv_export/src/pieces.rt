@@ -28,7 +28,9 @@ fn put_sign(out: &mut Out, absent: bool)
     }
 }
 
+// Tried as `digits_of`, whose digits are copied: the largest export takes twice the instructions.
 /// A number of one digit or two.
+#[tactic(auto, using(crate::proofs::Faults::short_one, crate::proofs::Faults::decimal_two))]
 fn put_short(out: &mut Out, number: u8)
     requires few { number < 100 }
     requires room { Room out.old (decimal number) }
@@ -41,6 +43,7 @@ fn put_short(out: &mut Out, number: u8)
 }
 
 /// A comma and a fault.
+#[tactic(auto, using(crate::proofs::Faults::fault_parts))]
 fn put_fault(out: &mut Out, fault: Fault)
     requires place { fault.place < 64 }
     requires room { Room out.old (44 ∷ fault_text fault) }
@@ -50,7 +53,9 @@ fn put_fault(out: &mut Out, fault: Fault)
     put_short(out, fault.place as u8 + 1);
 }
 
+// `Apart` is a clause here and below: 13 is judged over all ways of a sheet, and a type of parted words would be made of each as it is read.
 /// What stands behind the cue: the faults that a way names, rising, or `0` if it names none.
+#[tactic(auto, using(crate::proofs::Naming::naming), unfolding(csv_text::specs::Texts::further_fields))]
 fn put_faults(out: &mut Out, way: Words)
     requires apart { Apart way }
     requires room { Room out.old (faults_text way) }
@@ -83,6 +88,7 @@ fn put_way(out: &mut Out, cue: &[u8], way: Words)
 }
 
 /// The records of an entry; without ways, the cue's number alone.
+#[tactic(auto, using(crate::proofs::Records::entry_ways))]
 pub fn put_entry(out: &mut Out, sheet: Sheet<'_>, entry: Entry)
     requires apart { AllByRecursion Apart (ways_of sheet.bytes.now entry) }
     requires room { Room out.old (entry_text sheet.bytes.now entry) }

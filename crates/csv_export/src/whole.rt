@@ -23,6 +23,7 @@ fn put_field(out: &mut Out, number: u64)
 }
 
 /// The limits, with the end of their record.
+#[tactic(auto, using(crate::proofs::Measured::limits_counted))]
 fn put_limits(out: &mut Out, limits: Limits)
     requires { Room out.old (ended (run_record limits)) }
     ensures { Wrote out.old (ended (run_record limits)) out.new }
@@ -34,6 +35,7 @@ fn put_limits(out: &mut Out, limits: Limits)
 }
 
 /// The weights, with the end of their record.
+#[tactic(auto, using(crate::proofs::Records::weights_bytes), unfolding(csv_text::specs::Texts::further_fields, rules::specs::Text::bytes))]
 fn put_weights(out: &mut Out, weights: Parts<'_, u32>)
     requires { Room out.old (ended (weights_record weights)) }
     ensures { Wrote out.old (ended (weights_record weights.entry)) out.new }
@@ -46,6 +48,7 @@ fn put_weights(out: &mut Out, weights: Parts<'_, u32>)
 }
 
 /// The records of all entries.
+#[tactic(auto, using(crate::proofs::Entries::entries_apart))]
 fn put_entries(out: &mut Out, sheet: Sheet<'_>)
     requires { Room out.old (entries_text sheet.bytes.now) }
     ensures { Wrote out.old (entries_text sheet.entry.bytes.now) out.new }

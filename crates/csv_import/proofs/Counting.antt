@@ -1,11 +1,9 @@
 -- The cues so far, with the record of one way more: what is counted, and whether it may follow.
 -- Rests on Joining.antt and on `csv_rows`, Fronts.
-use Rattle.std.proofs.Common.{◌≡◌, refl, sym, ap, ap₂, ◌∙◌, ℕ, ◌⊎◌, inl, inr, ◌+◌, min, Bool, true, false, ◌&&◌, ltb, lt-ltb, ne_eqb, eq-eqb, List, [], ◌∷◌, ◌++◌, length, length-append, take, Some, None, arith}
-use Rattle.std.specs.Prelude as std
+use Rattle.std.proofs.Common.{◌≡◌, refl, sym, ap, ap₂, ◌∙◌, ℕ, ◌⊎◌, inl, inr, ◌+◌, min, Bool, true, false, ◌&&◌, ltb, lt-ltb, ne_eqb, eq-eqb, List, [], ◌∷◌, ◌++◌, length, length-append, take, Some, None, arith, Option}
 use Rattle.std.specs.Int.{from_bool}
 use Rattle.std.proofs.lemmas.List.{map-append}
 use Rattle.std.proofs.Math.Seq.{take-nil}
-use Rattle.std.proofs.Math.Option.{some}
 use Rattle.arrayvec.specs.ArrayVec.{ArrayVec}
 use Rattle.rules.specs.Table.{indicator}
 use Rattle.rules.specs.Sheet.{Cue, numbers_of, counts_of}
@@ -30,7 +28,7 @@ module _ {cs : List Cue} {k : Cues} (h : Counting cs k) where
   latest-some e = rw e at h.latest
 
   -- It is counted with those in front of it.
-  pub closed : {l : Last} → k.last ≡ Some l → (numbers counts : ArrayVec ℕ) (last : std.Option Last)
+  pub closed : {l : Last} → k.last ≡ Some l → (numbers counts : ArrayVec ℕ) (last : Option Last)
       → numbers.items ≡ take 25 (k.numbers.items ++ l.number ∷ []) → counts.items ≡ take 25 (k.counts.items ++ l.ways ∷ [])
       → Counted cs (record { numbers = numbers; counts = counts; last = last })
   unfolding cut_all
@@ -54,7 +52,7 @@ module _ {cs : List Cue} {k : Cues} (h : Counting cs k) where
       }
 
   -- The last cue is the last of them.
-  last-some : {l : Last} (e : k.last ≡ Some l) → last_of cs ≡ some (latest-some e).0
+  last-some : {l : Last} (e : k.last ≡ Some l) → last_of cs ≡ Some (latest-some e).0
   last-some e = ap last_of (latest-some e).1 ∙ last-is h.front (latest-some e).0
 
 -- A way or none, as a number.
@@ -115,7 +113,7 @@ module _ {cs : List Cue} {k : Cues} (h : Counting cs k) (c : Cue) (b : Bool) (wa
   unfolding follows last_of joined
   apart other = split k.last refl
     where
-      split : (o : std.Option Last) → k.last ≡ o → (follows (last_of cs) c ≡ true) × (joined cs c ≡ cs ++ c ∷ [])
+      split : (o : Option Last) → k.last ≡ o → (follows (last_of cs) c ≡ true) × (joined cs c ≡ cs ++ c ∷ [])
       split None e = let empty : cs ≡ [] = (rw e at h.latest).0 in rw empty (refl, refl)
       split (Some l) e =
           let d : Cue = (latest-some h e).0 in

@@ -1,8 +1,7 @@
 -- Cues joined to groups, one more at the end: it joins the last one, or begins another. What that makes of their lists, and what may follow.
 -- Rests on specs, Gather, and on `csv_text`, Shapes.
-use Rattle.std.proofs.Common.{◌≡◌, refl, sym, ap, ap₂, ◌∙◌, ℕ, ◌<◌, Bool, true, false, ◌&&◌, eqb, ltb, lt-ltb, ne_eqb, eq-eqb, eqb-true, ltb-true, List, [], ◌∷◌, ◌++◌, length, length-append, get_or, append_assoc, append-nil, arith}
+use Rattle.std.proofs.Common.{◌≡◌, refl, sym, ap, ap₂, ◌∙◌, ℕ, ◌<◌, Bool, true, false, ◌&&◌, eqb, ltb, lt-ltb, ne_eqb, eq-eqb, eqb-true, ltb-true, List, [], ◌∷◌, ◌++◌, length, length-append, get_or, append_assoc, append-nil, arith, Some}
 use Rattle.std.proofs.lemmas.Bool.{eqb-false}
-use Rattle.std.proofs.Math.Option.{some}
 use Rattle.rules.specs.Sheet.{Cue, numbers_of, counts_of, present_of, absent_of}
 use Rattle.rules.proofs.Booleans.{and_right}
 use Rattle.csv_text.specs.Shapes.{follows, attach, grouped}
@@ -95,7 +94,7 @@ joined-last (f ∷ []) d c = refl
 joined-last (f ∷ g ∷ fs) d c = ap (λ (l : List Cue). f ∷ l) (joined-last (g ∷ fs) d c)
 
 -- The last of cues is the one that stands behind the others.
-pub last-is : (front : List Cue) (d : Cue) → last_of (front ++ d ∷ []) ≡ some d
+pub last-is : (front : List Cue) (d : Cue) → last_of (front ++ d ∷ []) ≡ Some d
 unfolding last_of
 last-is [] d = refl
 last-is (f ∷ []) d = refl
@@ -129,12 +128,12 @@ module _ (front : List Cue) (d c : Cue) where
       ∙ sym (append_assoc front (d ∷ []) (c ∷ []))
 
 -- What may follow the last cue, once a record is joined, is what may follow that record.
-pub follows-alike : (cs : List Cue) (c : Cue) → follows (last_of cs) c ≡ true → (e : Cue) → follows (last_of (joined cs c)) e ≡ follows (some c) e
+pub follows-alike : (cs : List Cue) (c : Cue) → follows (last_of cs) c ≡ true → (e : Cue) → follows (last_of (joined cs c)) e ≡ follows (Some c) e
 unfolding follows last_of joined
 follows-alike cs c h e = split (ends cs) h
   where
-    last : (front : List Cue) (d : Cue) → follows (some d) c ≡ true → (x : Bool) → eqb d.number c.number ≡ x
-        → follows (last_of (joined (front ++ d ∷ []) c)) e ≡ follows (some c) e
+    last : (front : List Cue) (d : Cue) → follows (Some d) c ≡ true → (x : Bool) → eqb d.number c.number ≡ x
+        → follows (last_of (joined (front ++ d ∷ []) c)) e ≡ follows (Some c) e
     last front d h true q =
         let same : d.number ≡ c.number = eqb-true d.number c.number q in
         let ways : ltb 0 (length d.present) && ltb 0 (length c.present) ≡ true = rw q at h in
@@ -145,7 +144,7 @@ follows-alike cs c h e = split (ends cs) h
     last front d h false q =
         rw (joined-other front d c (eqb-false d.number c.number q), last-is (front ++ d ∷ []) c)
 
-    split : {cs : List Cue} → Ends cs → follows (last_of cs) c ≡ true → follows (last_of (joined cs c)) e ≡ follows (some c) e
+    split : {cs : List Cue} → Ends cs → follows (last_of cs) c ≡ true → follows (last_of (joined cs c)) e ≡ follows (Some c) e
     split none-yet h = refl
     split (ends-in front d) h = last front d (ap (λ o. follows o c) (sym (last-is front d)) ∙ h) (eqb d.number c.number) refl
 

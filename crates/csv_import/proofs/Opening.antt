@@ -1,7 +1,6 @@
 -- The first two records of a text, and with what its other records say, the whole: laws on plain lists.
 -- Rests on `csv_rows`, Reading and Scanning.
 use Rattle.std.proofs.Common.{◌≡◌, ◌≢◌, refl, sym, ap, ◌∙◌, subst, ℕ, true, false, true≢false, List, [], ◌∷◌, map, take, get_or, drop, Some, None, Result, Ok, Err, arith}
-use Rattle.std.proofs.Math.Option.{none}
 use Rattle.rules.specs.declared.Limits.{Limits}
 use Rattle.rules.specs.Sheet.{same_numbers}
 use Rattle.rules.specs.Text.{bytes}
@@ -51,7 +50,7 @@ not-weights (b ∷ t) h = ap misread_weights (begun b t) ∙ rw (h, misread_weig
 
 -- One that is it.
 weights-first : (t : List ℕ) → is_weights (first t) ≡ true
-    → (records_in t ≡ first t ∷ behind t) × (misread_weights (records_in t) ≡ misread_rows 3 none (behind t))
+    → (records_in t ≡ first t ∷ behind t) × (misread_weights (records_in t) ≡ misread_rows 3 None (behind t))
 unfolding misread_weights is_weights same_numbers bytes fields_in raw_fields unquoted quoted first_line line_span
 weights-first [] h = absurd (true≢false (sym h))
 weights-first (b ∷ t) h = (begun b t, ap misread_weights (begun b t) ∙ rw (h, misread_weights))
@@ -83,19 +82,19 @@ module _ (t : List ℕ) {m : Limits} (s : List ℕ) (run : (run_said (first t) �
     weighed : (is_weights (first s) ≡ true) × (take 65 (cut_all 4294967295 (weights_said (first s))) ≡ ws.first.items)
     weighed = let both = said-true (is_weights (first s)) _ ws weights.0 in (both.0, ap (λ (w : WeightsKept 65). w.first.items) both.1)
 
-    second : (records_in s ≡ first s ∷ records_in r) × (misread_weights (records_in s) ≡ misread_rows 3 none (records_in r))
+    second : (records_in s ≡ first s ∷ records_in r) × (misread_weights (records_in s) ≡ misread_rows 3 None (records_in r))
     second = rw weights.1 (weights-first s weighed.0)
 
     -- The records behind it decide.
-    after_weights : misread t ≡ misread_rows 3 none (records_in r)
+    after_weights : misread t ≡ misread_rows 3 None (records_in r)
     after_weights = started.1 ∙ second.1
 
     -- One of them is misread.
-    misread-later : {e : ImportError} → Misreads (misread_rows 3 none (records_in r)) e → Misreads (misread t) e
+    misread-later : {e : ImportError} → Misreads (misread_rows 3 None (records_in r)) e → Misreads (misread t) e
     misread-later h = rw after_weights h
 
     -- None is: the text says these.
-    said : {g : Rows} → (misread_rows 3 none (records_in r) ≡ 0) × Holds (grouped (map row_in (records_in r))) g
+    said : {g : Rows} → (misread_rows 3 None (records_in r) ≡ 0) × Holds (grouped (map row_in (records_in r))) g
         → Said t (record { limits = m; weights = ws.first; rows = g })
     unfolding sheet_in sheet_said
     said {g} rows =

@@ -1,8 +1,6 @@
 -- What is gathered from the records of ways, one after the other: their cues, counted, and the words of their ways.
 -- Rests on `csv_text`, Shapes, and on `csv_rows`, Told. A list of a fixed room keeps the front of what belongs in it.
-use Rattle.std.specs.Prelude.{◌≡◌, ◌≢◌, Bool, false, true, ◌||◌, List, [], ◌∷◌, ◌++◌, map, take, length, ℕ, min, Result, Ok, Err, Some, None}
-use Rattle.std.specs.Prelude as std
-use Rattle.std.proofs.Math.Option.{Option, none, some}
+use Rattle.std.specs.Prelude.{◌≡◌, ◌≢◌, Bool, false, true, ◌||◌, List, [], ◌∷◌, ◌++◌, map, take, length, ℕ, min, Option, Some, None, Result, Ok, Err}
 use Rattle.rules.specs.Refusals.{some_above}
 use Rattle.rules.specs.Sheet.{Cue, Lists, numbers_of, counts_of, present_of, absent_of}
 use Rattle.writer.specs.Given.{given}
@@ -20,8 +18,8 @@ use Rattle.csv_import.specs.declared.ways.Ways.{Ways}
 
 -- The last of some cues.
 unfoldable pub last_of : List Cue → Option Cue
-last_of [] = none
-last_of (c ∷ []) = some c
+last_of [] = None
+last_of (c ∷ []) = Some c
 last_of (c ∷ d ∷ cs) = last_of (d ∷ cs)
 
 -- A record's cue behind those of others: joined with the last of them if that has the same number.
@@ -40,7 +38,7 @@ abbrev pub last_as : Cue → Last
 last_as c = record { number = c.number; ways = min (length c.present) 65535 }
 
 -- The last of some cues is not counted yet, those in front of it are.
-abbrev pub Latest : List Cue → List Cue → std.Option Last → Type 0
+abbrev pub Latest : List Cue → List Cue → Option Last → Type 0
 Latest cs front None = (cs ≡ []) × (front ≡ [])
 Latest cs front (Some l) = (c : Cue) × (cs ≡ front ++ c ∷ []) × (l ≡ last_as c)
 
@@ -61,7 +59,7 @@ unfoldable pub wide_words : List ℕ → List ℕ → Bool
 wide_words ps qs = some_above 18446744073709551615 ps || some_above 18446744073709551615 qs
 
 -- The words of ways, in lists that have room for 3072; none are kept if one is none of 64 bits.
-abbrev pub Worded : List ℕ → List ℕ → std.Option Ways → Type 0
+abbrev pub Worded : List ℕ → List ℕ → Option Ways → Type 0
 Worded ps qs None = wide_words ps qs ≡ true
 Worded ps qs (Some w) = (wide_words ps qs ≡ false) × (w.present.items ≡ take 3072 ps) × (w.absent.items ≡ take 3072 qs)
 
@@ -95,7 +93,7 @@ lists_kept g w =
     }
 
 -- They are handed over where the words of the ways are kept.
-abbrev pub GivenIf : Gathered → std.Option Slices → Type 0
+abbrev pub GivenIf : Gathered → Option Slices → Type 0
 GivenIf g None = g.rows.ways ≡ None
 GivenIf g (Some l) = (w : Ways) × (g.rows.ways ≡ Some w) × (given l ≡ lists_kept g w)
 
@@ -107,8 +105,8 @@ Misreads k e = (k ≢ 0) × (e ≡ ImportError.Misread k)
 
 -- The records of ways: the first that is misread, or all are gathered.
 abbrev pub ReadsRows : List (List (List ℕ)) → Rows → Result (Unit {0}) ImportError → Type 0
-ReadsRows rs g (Err e) = Misreads (misread_rows 3 none rs) e
-ReadsRows rs g (Ok u) = (misread_rows 3 none rs ≡ 0) × Holds (grouped (map row_in rs)) g
+ReadsRows rs g (Err e) = Misreads (misread_rows 3 None rs) e
+ReadsRows rs g (Ok u) = (misread_rows 3 None rs ≡ 0) × Holds (grouped (map row_in rs)) g
 
 -- A text of which no record is misread: the limits, the first 65 weights, cut to 32 bits, and the cues.
 pub record Said (t : List ℕ) (g : Gathered) : Type 0 where

@@ -8,9 +8,10 @@ use arrayvec::ArrayVec;
 use csv_rows::Row;
 use csv_rows::lists::keep;
 use csv_text::ImportError;
+use rules::MOST_CUES;
 
 /// Room for one cue more than a sheet may have, so that it is seen and refused.
-const ROOM: usize = 25;
+const ROOM: usize = MOST_CUES + 1;
 
 /// The last cue so far: its number, and how many ways it has.
 #[derive(Clone, Copy, PartialEq, Eq, Debug)]

@@ -6,15 +6,18 @@ use super::rows::Rows;
 use arrayvec::ArrayVec;
 use csv_rows::heads::{run, weights};
 use csv_text::ImportError;
-use rules::Limits;
+use rules::{Limits, MOST_FAULTS};
 use writer::lists::Lists;
 
+/// Room for one weight more than a sheet may have, so that it is seen and refused.
+const ROOM: usize = MOST_FAULTS + 1;
+
 // Filled where it stands. Tried as a constructor: handing over its 50,000 bytes makes the typical import half as slow again, above 1.2 of Rust.
-/// What a text says. There is room for one weight more than a sheet may have, so that it is seen and refused.
+/// What a text says.
 #[derive(Drop)]
 pub struct Gathered {
     pub limits: Limits,
-    pub weights: ArrayVec<u32, 65>,
+    pub weights: ArrayVec<u32, ROOM>,
     pub rows: Rows,
 }
 

@@ -48,7 +48,7 @@ impl Rows {
         Ok(())
     }
 
-    // No iterator of records: it would hold the text and give each record or the error, and the count would still stand here.
+    // No iterator of records: it would hold the text and the count, and give each record or the error, for this loop alone.
     /// The records of ways, of which the first is the third of the text.
     pub fn read(&mut self, text: &[u8]) -> Result<(), ImportError>
         ensures { Gathers [] self.old → ReadsRows (records_in text.now) self.new result }

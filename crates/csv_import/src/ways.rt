@@ -3,13 +3,16 @@ ghost use Rattle.std.specs.Prelude.{◌≡◌, [], ◌∷◌, ◌++◌, take};
 
 use arrayvec::ArrayVec;
 use csv_rows::lists::keep;
-use rules::Words;
+use rules::{MOST_CUES, MOST_WAYS, Words};
 
-/// The two words of each way. There is room for 24 cues of 128 ways, which is the largest sheet. They are two lists, since the writer takes two slices.
+/// Room for the ways of the largest sheet.
+const ROOM: usize = MOST_CUES * MOST_WAYS;
+
+/// The two words of each way. They are two lists, since the writer takes two slices.
 #[derive(Default, Drop)]
 pub struct Ways {
-    pub present: ArrayVec<u64, 3072>,
-    pub absent: ArrayVec<u64, 3072>,
+    pub present: ArrayVec<u64, ROOM>,
+    pub absent: ArrayVec<u64, ROOM>,
 }
 
 impl Ways {

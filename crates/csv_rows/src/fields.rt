@@ -6,6 +6,7 @@ ghost use Rattle.csv_rows.specs.Fields.{Plain, numeral_said, signed_said, fault_
 
 use csv_text::Fault;
 
+// No `Result`: neither side is an error.
 /// What is left behind a field: the further fields of its record, or the lines behind that record.
 #[derive(Clone, Copy, PartialEq, Eq, Debug)]
 pub enum Rest<'a> {
@@ -111,6 +112,7 @@ fn spelled<'a>(text: &'a [u8], word: &[u8]) -> Option<((), &'a [u8])>
     Some(((), text.strip_prefix(word)?))
 }
 
+// What `read` says is named by the proof of each caller, in one line. A trait could say it, but would want a type and an impl for each reading.
 /// The first field, bare or in quotes, of which the bytes are read by `read`.
 #[inline(always)]
 fn field<'a, T: Drop, R: Fn(&'a [u8]) -> Option<(T, &'a [u8])>>(

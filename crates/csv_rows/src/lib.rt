@@ -9,6 +9,7 @@ pub mod ways;
 
 use rules::Words;
 
+// No `Option<Words>`: in a row it would stand in another one, and neither `None` would say which it is.
 /// The faults that a way names: by the words of the near ones, at places below 64, or one is far, at a place that no word has.
 #[derive(Clone, Copy)]
 pub enum Named {

@@ -1,6 +1,6 @@
-//! The record of a way: its cue number, and the faults that it names. Rests on fields.rt: a text is read field by field, each byte once.
-//! A near fault, at a place below 64, is looked for in the word so far; only a far one is looked for among the fields behind it.
-//! No iterator goes over the fields: the lines behind the record would have to be got out of it at its end.
+//! The record of a way: its cue number, and the faults that it names. Rests on fields.rt: a text is read field by field.
+//! A near fault, at a place below 64, the width of a word, is looked for in the word so far; only a far one is looked for among the fields behind it.
+//! No iterator goes over the fields: the lines behind the record would have to be got out of it at its end, and `among` alone is not worth one.
 ghost use Rattle.std.specs.Prelude.{◌≡◌, true, ◌<◌, map};
 ghost use Rattle.csv_text.specs.Shapes.{fault_in, all_faults, among};
 ghost use Rattle.csv_rows.specs.Fields.{fields_left};

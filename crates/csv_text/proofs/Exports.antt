@@ -3,7 +3,6 @@
 use mathlib.Core.Path.{◌≡◌, refl, sym, ap, ◌∙◌}
 use mathlib.Core.Bool.{true}
 use mathlib.Core.List.{List, [], ◌∷◌, ◌++◌, append_assoc}
-use mathlib.Core.Option.{none}
 use Prim.Native.Nat.{ℕ, zero, suc, ◌^◌, ◌<◌, ◌≤◌}
 use native.Mathlib.Omega.{arith}
 use lib.ListN.{length}
@@ -15,7 +14,7 @@ use Rattle.rules.specs.Refusals.{Test, test, overweight, not_rising, rising, way
 use Rattle.rules.specs.declared.Refusal.{Refusal}
 use Rattle.rules.specs.Sheet.{Cue, Sheet, same_numbers, AllBelow, Within, lists_of, numbers_of, present_of, absent_of, encode, decode}
 use Rattle.rules.specs.Sheet.{read_refusals, read_number, written_by}
-use Rattle.std.specs.Prelude.{Ok}
+use Rattle.std.specs.Prelude.{None, Ok}
 use Rattle.rules.proofs.Answering.{answered-free}
 use Rattle.rules.specs.Text.{bytes}
 use Rattle.rules.proofs.Booleans.{and_both}
@@ -90,13 +89,13 @@ module _ (s : Sheet) (w : Within s) where
   weights_back = weights-read s.weights (below-mono (suc S) (10 ^ 10) s.weights (omega arith) (none_above S s.weights kept.weights))
 
   -- The records of the cues.
-  cues_back : Well none (cue_records (length s.weights) s.cues) s.cues
+  cues_back : Well None (cue_records (length s.weights) s.cues) s.cues
   unfolding lists_of not_rising
   cues_back =
       let n : ℕ = length s.weights in
       let words = words-below n 0 (present_of s.cues) (absent_of s.cues) (kept_agree (lists_of s) kept).paired kept.beyond in
       let up : rising 0 (numbers_of s.cues) ≡ true = not-false (rising 0 (numbers_of s.cues)) kept.rising in
-      cues_well n w.few_faults none 0 s.cues tt up tested.numbered w.paired (words-cues n s.cues words.0 words.1)
+      cues_well n w.few_faults None 0 s.cues tt up tested.numbered w.paired (words-cues n s.cues words.0 words.1)
 
   -- Its records are plain.
   pub csv_plain : Every PlainRecord (sheet_records s)
@@ -113,7 +112,7 @@ module _ (s : Sheet) (w : Within s) where
   unfolding misread misread_records misread_weights sheet_records
   csv_read =
       ap misread_records csv_records
-      ∙ rw (run_back.0, misread_records) (rw (weights_back.0, misread_weights) (steps-read 3 none _ cues_back.steps))
+      ∙ rw (run_back.0, misread_records) (rw (weights_back.0, misread_weights) (steps-read 3 None _ cues_back.steps))
 
   -- They say the sheet.
   pub sheet_csv : sheet_in (csv_of s) ≡ s

@@ -5,7 +5,7 @@ use mathlib.Core.Path.{◌≡◌, refl, sym, ◌∙◌}
 use mathlib.Core.Logic.{◌↔◌}
 use mathlib.Core.Bool.{Bool, true, false, not, ◌&&◌, true≢false}
 use mathlib.Core.List.{List, [], ◌∷◌}
-use mathlib.Core.Option.{Option, none, some}
+use Rattle.std.specs.Prelude.{Option, Some, None}
 use Prim.Native.Nat.{ℕ, zero, suc, ◌+◌, ◌<◌, max}
 use native.Mathlib.Decide.{dec_lt, ℕ_discrete}
 use native.Mathlib.Omega.{arith}
@@ -50,7 +50,7 @@ pub record FirstAmiss (rs : List (List (List ℕ))) (k : ℕ) : Type 0 where
 -- What stands before place j: a cue, or nothing.
 abbrev previous : Option Cue → List (List (List ℕ)) → ℕ → Option Cue
 previous b rs zero = b
-previous b rs (suc j) = some (row_in (get_or rs j []))
+previous b rs (suc j) = Some (row_in (get_or rs j []))
 
 -- The record at place j is there, is a row, and follows what stands before.
 record Row (b : Option Cue) (rs : List (List (List ℕ))) (j : ℕ) : Type 0 where
@@ -59,12 +59,12 @@ record Row (b : Option Cue) (rs : List (List (List ℕ))) (j : ℕ) : Type 0 whe
   after : follows (previous b rs j) (row_in (get_or rs j [])) ≡ true
 
 -- One record more in front: every place moves by one.
-row-down : (b : Option Cue) (r : List (List ℕ)) (rs : List (List (List ℕ))) (j : ℕ) → Row (some (row_in r)) rs j → Row b (r ∷ rs) (suc j)
+row-down : (b : Option Cue) (r : List (List ℕ)) (rs : List (List (List ℕ))) (j : ℕ) → Row (Some (row_in r)) rs j → Row b (r ∷ rs) (suc j)
 row-down b r rs zero h = record { there = omega (arith, h.there); row = h.row; after = h.after }
 row-down b r rs (suc j) h = record { there = omega (arith, h.there); row = h.row; after = h.after }
 
 -- And back.
-row_up : (b : Option Cue) (r : List (List ℕ)) (rs : List (List (List ℕ))) (j : ℕ) → Row b (r ∷ rs) (suc j) → Row (some (row_in r)) rs j
+row_up : (b : Option Cue) (r : List (List ℕ)) (rs : List (List (List ℕ))) (j : ℕ) → Row b (r ∷ rs) (suc j) → Row (Some (row_in r)) rs j
 row_up b r rs zero h = record { there = omega (arith, h.there); row = h.row; after = h.after }
 row_up b r rs (suc j) h = record { there = omega (arith, h.there); row = h.row; after = h.after }
 
@@ -76,10 +76,10 @@ row_first b r rs e = let both = and_split (is_row r) (follows b (row_in r)) e in
 rows_none : (k : ℕ) (b : Option Cue) (rs : List (List (List ℕ))) → misread_rows (suc k) b rs ≡ 0 → (j : ℕ) → j < length rs → Row b rs j
 unfolding misread_rows
 rows_none k b [] e = λ j h. absurd (omega arith)
-rows_none k b (r ∷ rs) e = split (is_row r && follows b (row_in r)) refl (rows_none (suc k) (some (row_in r)) rs)
+rows_none k b (r ∷ rs) e = split (is_row r && follows b (row_in r)) refl (rows_none (suc k) (Some (row_in r)) rs)
   where
     split : (x : Bool) → is_row r && follows b (row_in r) ≡ x
-        → (misread_rows (suc (suc k)) (some (row_in r)) rs ≡ 0 → (j : ℕ) → j < length rs → Row (some (row_in r)) rs j)
+        → (misread_rows (suc (suc k)) (Some (row_in r)) rs ≡ 0 → (j : ℕ) → j < length rs → Row (Some (row_in r)) rs j)
         → (j : ℕ) → j < length (r ∷ rs) → Row b (r ∷ rs) j
     split true x rest zero h = row_first b r rs x
     split true x rest (suc j) h = row-down b r rs j (rest (rw (x, misread_rows) at e) j (omega arith))
@@ -95,10 +95,10 @@ record Told (b : Option Cue) (rs : List (List (List ℕ))) (i : ℕ) : Type 0 wh
 rows_told : (k n : ℕ) (b : Option Cue) (rs : List (List (List ℕ))) → misread_rows (suc k) b rs ≡ suc n → (i : ℕ) × (n ≡ k + i) × Told b rs i
 unfolding misread_rows
 rows_told k n b [] e = absurd (omega arith)
-rows_told k n b (r ∷ rs) e = split (is_row r && follows b (row_in r)) refl (rows_told (suc k) n (some (row_in r)) rs)
+rows_told k n b (r ∷ rs) e = split (is_row r && follows b (row_in r)) refl (rows_told (suc k) n (Some (row_in r)) rs)
   where
     split : (x : Bool) → is_row r && follows b (row_in r) ≡ x
-        → (misread_rows (suc (suc k)) (some (row_in r)) rs ≡ suc n → (i : ℕ) × (n ≡ suc k + i) × Told (some (row_in r)) rs i)
+        → (misread_rows (suc (suc k)) (Some (row_in r)) rs ≡ suc n → (i : ℕ) × (n ≡ suc k + i) × Told (Some (row_in r)) rs i)
         → (i : ℕ) × (n ≡ k + i) × Told b (r ∷ rs) i
     split true x rest =
         let found = rest (rw (x, misread_rows) at e) in
@@ -125,7 +125,7 @@ rows_told k n b (r ∷ rs) e = split (is_row r && follows b (row_in r)) refl (ro
 -- ---- a row, in the plain words
 
 -- To follow is to join.
-pub follows-joins : (b c : Cue) → follows (some b) c ≡ true → Joins b c
+pub follows-joins : (b c : Cue) → follows (Some b) c ≡ true → Joins b c
 unfolding follows
 follows-joins b c e same =
     or_cases (not (eqb b.number c.number)) (ltb 0 (length b.present) && ltb 0 (length c.present))
@@ -133,11 +133,11 @@ follows-joins b c e same =
     (λ h. let both = and_split (ltb 0 (length b.present)) (ltb 0 (length c.present)) h in (ltb-true 0 _ both.0, ltb-true 0 _ both.1)) e
 
 -- And to join is to follow.
-joins-follows : (b c : Cue) → Joins b c → follows (some b) c ≡ true
+joins-follows : (b c : Cue) → Joins b c → follows (Some b) c ≡ true
 unfolding follows
 joins-follows b c h = split (ℕ_discrete b.number c.number)
   where
-    split : Dec (b.number ≡ c.number) → follows (some b) c ≡ true
+    split : Dec (b.number ≡ c.number) → follows (Some b) c ≡ true
     split (yes same) =
         or-second (not (eqb b.number c.number)) _
         (and_both _ _ (lt-ltb 0 (length b.present) (h same).0) (lt-ltb 0 (length c.present) (h same).1))
@@ -145,12 +145,12 @@ joins-follows b c h = split (ℕ_discrete b.number c.number)
 
 module _ (r w : List (List ℕ)) (rs : List (List (List ℕ))) where
   -- A row that follows is a fine record behind the first two.
-  row_fine : (j : ℕ) → Row none rs j → Fine (r ∷ w ∷ rs) (suc (suc j))
+  row_fine : (j : ℕ) → Row None rs j → Fine (r ∷ w ∷ rs) (suc (suc j))
   row_fine zero h = (omega (arith, h.there), h.row)
   row_fine (suc j) h = (omega (arith, h.there), (h.row, follows-joins (row_in (get_or rs j [])) (row_in (get_or rs (suc j) [])) h.after))
 
   -- And back.
-  fine_row : (j : ℕ) → Fine (r ∷ w ∷ rs) (suc (suc j)) → Row none rs j
+  fine_row : (j : ℕ) → Fine (r ∷ w ∷ rs) (suc (suc j)) → Row None rs j
   unfolding follows
   fine_row zero h = record { there = omega (arith, h.0); row = h.1; after = refl }
   fine_row (suc j) h =
@@ -176,19 +176,19 @@ module _ (r w : List (List ℕ)) (rs : List (List (List ℕ))) where
   weights_told (suc (suc k)) x y e = absurd (omega arith)
 
   -- A further one is.
-  rows_amiss : (k : ℕ) → is_run r ≡ true → is_weights w ≡ true → (i : ℕ) × (k ≡ 2 + i) × Told none rs i → FirstAmiss (r ∷ w ∷ rs) k
+  rows_amiss : (k : ℕ) → is_run r ≡ true → is_weights w ≡ true → (i : ℕ) × (k ≡ 2 + i) × Told None rs i → FirstAmiss (r ∷ w ∷ rs) k
   rows_amiss zero x y t = absurd (omega (arith, t.1))
   rows_amiss (suc zero) x y t = absurd (omega (arith, t.1))
   rows_amiss (suc (suc k)) x y t =
       let e : t.0 ≡ k = omega (arith, t.1) in
-      let told : Told none rs k = rw e at t.2 in
+      let told : Told None rs k = rw e at t.2 in
       record {
         asked = omega (arith, told.there);
         before = λ j h. fine j h told.before;
         amiss = λ h. told.amiss (fine_row r w rs k h);
       }
     where
-      fine : (j : ℕ) → j < suc (suc k) → ((i : ℕ) → i < k → Row none rs i) → Fine (r ∷ w ∷ rs) j
+      fine : (j : ℕ) → j < suc (suc k) → ((i : ℕ) → i < k → Row None rs i) → Fine (r ∷ w ∷ rs) j
       fine zero h rest = (omega arith, x)
       fine (suc zero) h rest = (omega arith, y)
       fine (suc (suc j)) h rest = row_fine r w rs j (rest j (omega arith))
@@ -208,7 +208,7 @@ all-fine (r ∷ w ∷ rs) e = split (is_run r) (is_weights w) refl refl
     split true true x y zero h = (omega arith, x)
     split true true x y (suc zero) h = (omega arith, y)
     split true true x y (suc (suc j)) h =
-        row_fine r w rs j (rows_none 2 none rs (rw (y, misread_weights) at (rw (x, misread_records) at e)) j (omega arith))
+        row_fine r w rs j (rows_none 2 None rs (rw (y, misread_weights) at (rw (x, misread_records) at e)) j (omega arith))
     split true false x y j h = absurd (let z : ◌≡◌ {A = ℕ} 2 0 = rw (y, misread_weights) at (rw (x, misread_records) at e) in omega arith)
     split false y' x y j h = absurd (let z : ◌≡◌ {A = ℕ} 1 0 = rw (x, misread_records) at e in omega arith)
 
@@ -230,7 +230,7 @@ first-told k (r ∷ []) e = split (is_run r) refl
 first-told k (r ∷ w ∷ rs) e = split (is_run r) (is_weights w) refl refl
   where
     split : (x y : Bool) → is_run r ≡ x → is_weights w ≡ y → FirstAmiss (r ∷ w ∷ rs) k
-    split true true x y = rows_amiss r w rs k x y (rows_told 2 k none rs (rw (y, misread_weights) at (rw (x, misread_records) at e)))
+    split true true x y = rows_amiss r w rs k x y (rows_told 2 k None rs (rw (y, misread_weights) at (rw (x, misread_records) at e)))
     split true false x y = weights_told r w rs k x y (rw (y, misread_weights) at (rw (x, misread_records) at e))
     split false y' x y = head-told r (w ∷ rs) k x (rw (x, misread_records) at e)
 

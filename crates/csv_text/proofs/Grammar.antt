@@ -5,7 +5,7 @@ use mathlib.Core.Path.{◌≡◌, refl, sym, ap, ap₂, ◌∙◌, subst}
 use mathlib.Core.Logic.{◌↔◌}
 use mathlib.Core.Bool.{Bool, true, false, ◌&&◌, true≢false}
 use mathlib.Core.List.{List, [], ◌∷◌, ◌++◌, map, append-nil}
-use mathlib.Core.Option.{Option, none, some}
+use Rattle.std.specs.Prelude.{Option, Some, None}
 use Prim.Native.Nat.{ℕ, zero, suc, ◌-◌, ◌≤◌, ◌<◌}
 use native.Mathlib.Omega.{arith}
 use lib.ListN.{length, take, drop, get_or, length-append}
@@ -339,9 +339,9 @@ texts-rfc (suc n) (b ∷ bs) l h = build (first-line b bs) (texts-rfc n)
 rows-texts : (k : ℕ) (b : Option Cue) (rs : List (List (List ℕ))) → misread_rows (suc k) b rs ≡ 0 → Every AllTexts rs
 unfolding misread_rows
 rows-texts k b [] e = tt
-rows-texts k b (r ∷ rs) e = split (is_row r && follows b (row_in r)) refl (rows-texts (suc k) (some (row_in r)) rs)
+rows-texts k b (r ∷ rs) e = split (is_row r && follows b (row_in r)) refl (rows-texts (suc k) (Some (row_in r)) rs)
   where
-    split : (x : Bool) → is_row r && follows b (row_in r) ≡ x → (misread_rows (suc (suc k)) (some (row_in r)) rs ≡ 0 → Every AllTexts rs) → Every AllTexts (r ∷ rs)
+    split : (x : Bool) → is_row r && follows b (row_in r) ≡ x → (misread_rows (suc (suc k)) (Some (row_in r)) rs ≡ 0 → Every AllTexts rs) → Every AllTexts (r ∷ rs)
     split true x rest = (row-text r (and_left (is_row r) _ x), rest (rw (x, misread_rows) at e))
     split false x rest = absurd (let z : suc k ≡ 0 = rw (x, misread_rows) at e in omega arith)
 
@@ -352,7 +352,7 @@ weights-texts [] e = absurd (omega arith)
 weights-texts (w ∷ rs) e = split (is_weights w) refl
   where
     split : (x : Bool) → is_weights w ≡ x → Every AllTexts (w ∷ rs)
-    split true x = (weights-text w x, rows-texts 2 none rs (rw (x, misread_weights) at e))
+    split true x = (weights-text w x, rows-texts 2 None rs (rw (x, misread_weights) at e))
     split false x = absurd (let z : ◌≡◌ {A = ℕ} 2 0 = rw (x, misread_weights) at e in omega arith)
 
 -- So all of them.
@@ -390,7 +390,7 @@ rows_walk k b =
       tells = misread_rows k b;
       test = λ r. is_row r && follows b (row_in r);
       texts = λ r e. row-text r (and_left (is_row r) _ e);
-      next = λ r rs. misread_rows (suc k) (some (row_in r)) rs;
+      next = λ r rs. misread_rows (suc k) (Some (row_in r)) rs;
       stop = k;
       passed = λ r rs e. rw (e, misread_rows);
       stopped = λ r rs e. rw (e, misread_rows);
@@ -404,7 +404,7 @@ weights_walk =
       tells = misread_weights;
       test = is_weights;
       texts = weights-text;
-      next = λ r rs. misread_rows 3 none rs;
+      next = λ r rs. misread_rows 3 None rs;
       stop = 2;
       passed = λ r rs e. rw (e, misread_weights);
       stopped = λ r rs e. rw (e, misread_weights);
@@ -473,14 +473,14 @@ rows-rfc : {t : List ℕ} {rs : List (List (List ℕ))} → Rfc t rs → (k : �
 unfolding rows_walk
 rows-rfc no_record k b = walk-rfc (rows_walk k b) no_record tt
 rows-rfc (last_unended long h) k b = walk-rfc (rows_walk k b) (last_unended long h) tt
-rows-rfc (record_ended {r = r} h g) k b = walk-rfc (rows_walk k b) (record_ended h g) (rows-rfc g (suc k) (some (row_in r)))
+rows-rfc (record_ended {r = r} h g) k b = walk-rfc (rows_walk k b) (record_ended h g) (rows-rfc g (suc k) (Some (row_in r)))
 
 -- So from the second record.
 weights-rfc : {t : List ℕ} {rs : List (List (List ℕ))} → Rfc t rs → misread_weights (records_in t) ≡ misread_weights rs
 unfolding weights_walk
 weights-rfc no_record = walk-rfc weights_walk no_record tt
 weights-rfc (last_unended long h) = walk-rfc weights_walk (last_unended long h) tt
-weights-rfc (record_ended h g) = walk-rfc weights_walk (record_ended h g) (rows-rfc g 3 none)
+weights-rfc (record_ended h g) = walk-rfc weights_walk (record_ended h g) (rows-rfc g 3 None)
 
 -- FOR EVERY TEXT OF RFC 4180, whatever is quoted in it, the import misreads the record that the grammar's records say, or none.
 pub rfc-misread : {t : List ℕ} {rs : List (List (List ℕ))} → Rfc t rs → misread t ≡ misread_records rs

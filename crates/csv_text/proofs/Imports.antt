@@ -4,7 +4,6 @@ use mathlib.Core.Path.{◌≡◌, refl, sym, ap, ◌∙◌}
 use mathlib.Core.Bool.{Bool, true, false, ◌&&◌, ◌||◌, true≢false}
 use mathlib.Core.List.Memᴰ
 use mathlib.Core.List.{List, [], ◌∷◌, ◌++◌, map}
-use mathlib.Core.Option.{Option, none, some}
 use Prim.Native.Nat.{ℕ, zero, suc, ◌<◌, ◌≤◌}
 use native.Mathlib.Omega.{arith}
 use lib.ListN.{length, take, drop, length-append}
@@ -18,7 +17,7 @@ use Rattle.rules.specs.Sheet.{Cue, Sheet, Lists, AllBelow, Within, lists_of, she
 use Rattle.rules.specs.Sheet.{lists_refusals, write_refusals, write_number, write_answer, written_by}
 use Rattle.rules.specs.Answers.{Reply, counted_by, write_reply}
 use Rattle.rules.specs.Text.{decimal_value}
-use Rattle.std.specs.Prelude.{Result, Ok, Err}
+use Rattle.std.specs.Prelude.{Option, Some, None, Result, Ok, Err}
 use Rattle.rules.proofs.Answering.{answered-free}
 use Rattle.rules.proofs.Booleans.{and_left, and_right, and_both, or-first, or-second}
 use Rattle.rules.proofs.First.{first-none, first-here, first-later, first_below}
@@ -123,10 +122,10 @@ row_below (c ∷ f ∷ fs) h = cue-below c (f ∷ fs) h
 rows-below : (k : ℕ) (o : Option Cue) (rs : List (List (List ℕ))) → 0 < k → misread_rows k o rs ≡ 0 → AllBelow 65536 (numbers_of (grouped (map row_in rs)))
 unfolding misread_rows grouped numbers_of
 rows-below k o [] h e = tt
-rows-below k o (r ∷ rs) h e = split (is_row r && follows o (row_in r)) refl (rows-below (suc k) (some (row_in r)) rs (omega arith))
+rows-below k o (r ∷ rs) h e = split (is_row r && follows o (row_in r)) refl (rows-below (suc k) (Some (row_in r)) rs (omega arith))
   where
     split : (x : Bool) → is_row r && follows o (row_in r) ≡ x
-        → (misread_rows (suc k) (some (row_in r)) rs ≡ 0 → AllBelow 65536 (numbers_of (grouped (map row_in rs))))
+        → (misread_rows (suc k) (Some (row_in r)) rs ≡ 0 → AllBelow 65536 (numbers_of (grouped (map row_in rs))))
         → AllBelow 65536 (numbers_of (attach (row_in r) (grouped (map row_in rs))))
     split true q rest = attach-below 65536 (row_in r) (grouped (map row_in rs)) (row_below r (and_left (is_row r) _ q)) (rest (rw (q, misread_rows) at e))
     split false q rest = let k0 : k ≡ 0 = rw (q, misread_rows) at e in absurd (omega arith)
@@ -139,7 +138,7 @@ records-below (r ∷ []) e = tt
 records-below (r ∷ w ∷ rs) e = split (is_run r) refl
   where
     weigh : (x : Bool) → is_weights w ≡ x → misread_weights (w ∷ rs) ≡ 0 → AllBelow 65536 (numbers_of (grouped (map row_in rs)))
-    weigh true q z = rows-below 3 none rs (omega arith) (rw (q, misread_weights) at z)
+    weigh true q z = rows-below 3 None rs (omega arith) (rw (q, misread_weights) at z)
     weigh false q z = let two : ◌≡◌ {A = ℕ} 2 0 = rw (q, misread_weights) at z in absurd (omega arith)
 
     split : (x : Bool) → is_run r ≡ x → AllBelow 65536 (numbers_of (grouped (map row_in rs)))

@@ -3,18 +3,17 @@
 use mathlib.Core.Path.{◌≡◌, refl, sym, ap, ap₂, ◌∙◌, subst}
 use mathlib.Core.Bool.{Bool, true, false, ◌&&◌, ◌||◌}
 use mathlib.Core.List.{List, [], ◌∷◌, map, Permᴰ}
-use mathlib.Core.Option.{Option, none, some}
+use Rattle.std.specs.Prelude.{Option, Some, None}
 use Prim.Native.Nat.{ℕ, suc, ◌^◌}
 use native.Mathlib.Omega.{arith}
 use lib.ListN.{length}
 use lib.Dec.{eqb}
 use lib.Bits.{bit_or}
-use borrow.Author.Tests.{eqb-true, eq-eqb}
 use Rattle.rules.specs.Table.{bit}
 use Rattle.rules.specs.Sheet.{Cue}
 use Rattle.rules.specs.Text.{decimal_value}
 use Rattle.rules.proofs.Bits.{bit-or, bits-ext}
-use Rattle.rules.proofs.Booleans.{same_test}
+use Rattle.rules.proofs.Booleans.{eqb_swap}
 use Rattle.csv_text.specs.Cut.{records_in}
 use Rattle.csv_text.specs.Shapes.{Fault, is_fault, fault_in, all_faults, same_sense, among, repeats, word_of, is_empty_way, is_names, is_row, faults_named, row_in}
 use Rattle.csv_text.specs.Shapes.{is_run, is_weights, follows, misread_rows, misread_weights, misread_records, misread, limits_said, weights_said, grouped}
@@ -61,10 +60,6 @@ sense-swap true true = refl
 sense-swap true false = refl
 sense-swap false true = refl
 sense-swap false false = refl
-
--- So does being equal.
-eqb_swap : (m n : ℕ) → eqb m n ≡ eqb n m
-eqb_swap m n = same_test (eqb m n) (eqb n m) (λ e. eq-eqb n m (sym (eqb-true m n e))) (λ e. eq-eqb m n (sym (eqb-true n m e)))
 
 -- The word of one fault and others.
 word_by : Bool → ℕ → ℕ → ℕ
@@ -236,10 +231,10 @@ rows_same k o [] (s ∷ ss) h = absurd h
 rows_same k o (r ∷ rs) [] h = absurd h
 rows_same k o (r ∷ rs) (s ∷ ss) h =
     let here = row_same r s h.0 in
-    let rest = rows_same (suc k) (some (row_in s)) rs ss h.1 in
+    let rest = rows_same (suc k) (Some (row_in s)) rs ss h.1 in
     let good : is_row r && follows o (row_in r) ≡ is_row s && follows o (row_in s) = rw (here.0, here.1) in
-    let on : misread_rows (suc k) (some (row_in r)) rs ≡ misread_rows (suc k) (some (row_in s)) ss =
-    ap (λ (c : Cue). misread_rows (suc k) (some c) rs) here.1 ∙ rest.0
+    let on : misread_rows (suc k) (Some (row_in r)) rs ≡ misread_rows (suc k) (Some (row_in s)) ss =
+    ap (λ (c : Cue). misread_rows (suc k) (Some c) rs) here.1 ∙ rest.0
     in
     (ap₂ (read_on k) good on, ap₂ (λ (x : Cue) (xs : List Cue). x ∷ xs) here.1 rest.1)
 
@@ -247,12 +242,12 @@ module _ (r w : List (List ℕ)) (rs ss : List (List (List ℕ))) (h : ShuffledR
   -- Behind the same first two records, the same record is misread, if any.
   misread_same : misread_records (r ∷ w ∷ rs) ≡ misread_records (r ∷ w ∷ ss)
   unfolding misread_records misread_weights
-  misread_same = ap (λ (k : ℕ). read_on 1 (is_run r) (read_on 2 (is_weights w) k)) (rows_same 3 none rs ss h).0
+  misread_same = ap (λ (k : ℕ). read_on 1 (is_run r) (read_on 2 (is_weights w) k)) (rows_same 3 None rs ss h).0
 
   -- And the same sheet is said.
   sheet_same : sheet_said (r ∷ w ∷ rs) ≡ sheet_said (r ∷ w ∷ ss)
   unfolding sheet_said
-  sheet_same = ap (λ (cs : List Cue). record { limits = limits_said r; weights = weights_said w; cues = grouped cs }) (rows_same 3 none rs ss h).1
+  sheet_same = ap (λ (cs : List Cue). record { limits = limits_said r; weights = weights_said w; cues = grouped cs }) (rows_same 3 None rs ss h).1
 
   -- Any order: two texts whose records are equal but for the order of the faults in the records of ways import alike.
   pub order_same : (t u : List ℕ) → records_in t ≡ r ∷ w ∷ rs → records_in u ≡ r ∷ w ∷ ss → ImportAlike t u

@@ -4,7 +4,7 @@ use mathlib.Core.Path.{◌≡◌, refl, ap, ap₂, ◌∙◌}
 use mathlib.Core.Bool.{true, false, not}
 use mathlib.Core.List.Memᴰ
 use mathlib.Core.List.{List, [], ◌∷◌, ◌++◌, map}
-use mathlib.Core.Option.{Option, none, some}
+use Rattle.std.specs.Prelude.{Option, Some, None}
 use Prim.Native.Nat.{ℕ, suc, ◌^◌, ◌<◌, ◌≤◌}
 use native.Mathlib.Omega.{arith}
 use lib.ListN.{length}
@@ -110,13 +110,13 @@ way-row n c p q few h l m =
 -- Each is a row and follows the one before it.
 abbrev pub Steps : Option Cue → List (List (List ℕ)) → Type 0
 Steps before [] = Unit {0}
-Steps before (r ∷ rs) = (is_row r ≡ true) × (follows before (row_in r) ≡ true) × Steps (some (row_in r)) rs
+Steps before (r ∷ rs) = (is_row r ≡ true) × (follows before (row_in r) ≡ true) × Steps (Some (row_in r)) rs
 
 -- Then none is misread.
 pub steps-read : (k : ℕ) (before : Option Cue) (rs : List (List (List ℕ))) → Steps before rs → misread_rows k before rs ≡ 0
 unfolding misread_rows
 steps-read k before [] h = refl
-steps-read k before (r ∷ rs) h = rw (and_both _ _ h.0 h.1, misread_rows) (steps-read (suc k) (some (row_in r)) rs h.2)
+steps-read k before (r ∷ rs) h = rw (and_both _ _ h.0 h.1, misread_rows) (steps-read (suc k) (Some (row_in r)) rs h.2)
 
 -- Records that are read well after another, say these cues, and are plain.
 pub record Well (before : Option Cue) (rs : List (List (List ℕ))) (cs : List Cue) : Type 0 where
@@ -126,7 +126,7 @@ pub record Well (before : Option Cue) (rs : List (List (List ℕ))) (cs : List C
 
 -- One more record in front.
 well-cons : (before : Option Cue) (r : List (List ℕ)) (rs : List (List (List ℕ))) (c : Cue) (cs : List Cue)
-    → Said r c → follows before c ≡ true → Well (some c) rs cs → Well before (r ∷ rs) (attach c cs)
+    → Said r c → follows before c ≡ true → Well (Some c) rs cs → Well before (r ∷ rs) (attach c cs)
 unfolding grouped
 well-cons before r rs c cs w f k =
     record {
@@ -137,14 +137,14 @@ well-cons before r rs c cs w f k =
 
 -- The record before is of a cue up to m.
 abbrev pub Under : Option Cue → ℕ → Type 0
-Under none m = Unit {0}
-Under (some b) m = b.number ≤ m
+Under None m = Unit {0}
+Under (Some b) m = b.number ≤ m
 
 -- A cue of a higher number follows any other.
 follows-under : (before : Option Cue) (m : ℕ) (c : Cue) → Under before m → m < c.number → follows before c ≡ true
 unfolding follows
-follows-under none m c u h = refl
-follows-under (some b) m c u h = or-first _ _ (ap not (ne_eqb b.number c.number (λ e. omega arith)))
+follows-under None m c u h = refl
+follows-under (Some b) m c u h = or-first _ _ (ap not (ne_eqb b.number c.number (λ e. omega arith)))
 
 -- Cues of which the first, if any, is not of this number.
 attach-apart : (m : ℕ) (c : Cue) (cs : List Cue) → c.number ≡ m → rising m (numbers_of cs) ≡ true → attach c cs ≡ c ∷ cs
@@ -161,7 +161,7 @@ unfolding attach
 attach-same c p q ps qs cs = rw (eq-eqb c c refl, attach)
 
 -- Two ways of one cue follow each other.
-same-follows : (c p q x y : ℕ) → follows (some (single c p q)) (single c x y) ≡ true
+same-follows : (c p q x y : ℕ) → follows (Some (single c p q)) (single c x y) ≡ true
 unfolding follows
 same-follows c p q x y = or-second (not (eqb c c)) true refl
 
@@ -174,7 +174,7 @@ module _ (n : ℕ) (few : n ≤ 64) where
   -- The ways of one cue, at least one.
   ways_well : (before : Option Cue) (c p q : ℕ) (ps qs : List ℕ) (rest : List (List (List ℕ))) (cs : List Cue)
       → c < 65536 → length qs ≡ length ps → AllBelow (2 ^ n) (p ∷ ps) → AllBelow (2 ^ n) (q ∷ qs) → rising c (numbers_of cs) ≡ true
-      → ((x y : ℕ) → follows before (single c x y) ≡ true) → ((x y : ℕ) → Well (some (single c x y)) rest cs)
+      → ((x y : ℕ) → follows before (single c x y) ≡ true) → ((x y : ℕ) → Well (Some (single c x y)) rest cs)
       → Well before (way_records n c (p ∷ ps) (q ∷ qs) ++ rest) (record { number = c; present = p ∷ ps; absent = q ∷ qs } ∷ cs)
   unfolding way_records
   ways_well before c p q [] [] rest cs h e l m r f k =
@@ -183,7 +183,7 @@ module _ (n : ℕ) (few : n ≤ 64) where
   ways_well before c p q [] (q' ∷ qs) rest cs h e l m r f k = absurd (omega arith)
   ways_well before c p q (p' ∷ ps) [] rest cs h e l m r f k = absurd (omega arith)
   ways_well before c p q (p' ∷ ps) (q' ∷ qs) rest cs h e l m r f k =
-      let next = ways_well (some (single c p q)) c p' q' ps qs rest cs h (omega arith) l.1 m.1 r (same-follows c p q) k in
+      let next = ways_well (Some (single c p q)) c p' q' ps qs rest cs h (omega arith) l.1 m.1 r (same-follows c p q) k in
       let rs : List (List (List ℕ)) = way_records n c (p' ∷ ps) (q' ∷ qs) ++ rest in
       let w = well-cons before (way_record n c p q) rs (single c p q) _ (way-row n c p q few h l.0 m.0) (f p q) next in
       rw (attach-same c p q (p' ∷ ps) (q' ∷ qs) cs) at w
@@ -195,7 +195,7 @@ module _ (n : ℕ) (few : n ≤ 64) where
   cues_well before m [] u r b p w = record { steps = tt; cues = refl; plain = tt }
   cues_well before m (c ∷ cs) u r b p w =
       split c.present c.absent (p c (Memᴰ.head refl)) w.0 w.1
-      (λ x h. cues_well (some x) c.number cs h up.1 b.1 (λ d i. p d (Memᴰ.tail i)) w.2)
+      (λ x h. cues_well (Some x) c.number cs h up.1 b.1 (λ d i. p d (Memᴰ.tail i)) w.2)
     where
       up : (ltb m c.number ≡ true) × (rising c.number (numbers_of cs) ≡ true)
       up = and_split (ltb m c.number) _ r
@@ -204,7 +204,7 @@ module _ (n : ℕ) (few : n ≤ 64) where
       above = ltb-true m c.number up.0
 
       split : (ps qs : List ℕ) → length qs ≡ length ps → AllBelow (2 ^ n) ps → AllBelow (2 ^ n) qs
-          → ((x : Cue) → x.number ≤ c.number → Well (some x) (cue_records n cs) cs)
+          → ((x : Cue) → x.number ≤ c.number → Well (Some x) (cue_records n cs) cs)
           → Well before (or_alone c.number (way_records n c.number ps qs) ++ cue_records n cs)
           (record { number = c.number; present = ps; absent = qs } ∷ cs)
       split [] [] e l k rest =

@@ -5,7 +5,7 @@ use mathlib.Core.Path.{◌≡◌, refl, sym, ap, ap₂, ◌∙◌}
 use mathlib.Core.Bool.{Bool, true, false, not, ◌&&◌, ◌||◌, true≢false}
 use mathlib.Core.List.Memᴰ
 use mathlib.Core.List.{List, [], ◌∷◌, ◌++◌, map}
-use mathlib.Core.Option.{Option, none, some}
+use Rattle.std.specs.Prelude.{Option, Some, None}
 use Prim.Native.Nat.{ℕ, zero, suc, ◌+◌, ◌-◌, ◌*◌, ◌^◌, ◌≤◌, ◌<◌, max}
 use native.Mathlib.Decide.{dec_lt, ℕ_discrete}
 use native.Mathlib.Omega.{arith}
@@ -465,13 +465,13 @@ joins-attach b c (d ∷ ds) j = split (eqb c.number d.number) refl
     split false q = rw (q, attach) j
 
 -- So does a record before those behind it, if none is misread.
-rows-joined : (k : ℕ) (c : Cue) (rs : List (List (List ℕ))) → misread_rows (suc k) (some c) rs ≡ 0 → JoinsFirst c (grouped (map row_in rs))
+rows-joined : (k : ℕ) (c : Cue) (rs : List (List (List ℕ))) → misread_rows (suc k) (Some c) rs ≡ 0 → JoinsFirst c (grouped (map row_in rs))
 unfolding misread_rows grouped
 rows-joined k c [] e = tt
-rows-joined k c (r ∷ rs) e = split (is_row r && follows (some c) (row_in r)) refl
+rows-joined k c (r ∷ rs) e = split (is_row r && follows (Some c) (row_in r)) refl
   where
-    split : (x : Bool) → is_row r && follows (some c) (row_in r) ≡ x → JoinsFirst c (attach (row_in r) (grouped (map row_in rs)))
-    split true q = joins-attach c (row_in r) (grouped (map row_in rs)) (follows-joins c (row_in r) (and_right (is_row r) (follows (some c) (row_in r)) q))
+    split : (x : Bool) → is_row r && follows (Some c) (row_in r) ≡ x → JoinsFirst c (attach (row_in r) (grouped (map row_in rs)))
+    split true q = joins-attach c (row_in r) (grouped (map row_in rs)) (follows-joins c (row_in r) (and_right (is_row r) (follows (Some c) (row_in r)) q))
     split false q = absurd (let z : suc k ≡ 0 = rw (q, misread_rows) at e in omega arith)
 
 -- Records of ways: their bytes, and how many there are.
@@ -483,11 +483,11 @@ rows-length : (k : ℕ) (o : Option Cue) (rs : List (List (List ℕ))) → misre
     → Every (λ (r : List (List ℕ)). FairCue (row_in r)) rs → RowsLength rs
 unfolding misread_rows grouped records_length
 rows-length k o [] e w = (omega arith, omega arith)
-rows-length k o (r ∷ rs) e w = split (is_row r && follows o (row_in r)) refl (λ z. rows-length (suc k) (some (row_in r)) rs z w.1)
+rows-length k o (r ∷ rs) e w = split (is_row r && follows o (row_in r)) refl (λ z. rows-length (suc k) (Some (row_in r)) rs z w.1)
   where
-    split : (x : Bool) → is_row r && follows o (row_in r) ≡ x → (misread_rows (suc (suc k)) (some (row_in r)) rs ≡ 0 → RowsLength rs) → RowsLength (r ∷ rs)
+    split : (x : Bool) → is_row r && follows o (row_in r) ≡ x → (misread_rows (suc (suc k)) (Some (row_in r)) rs ≡ 0 → RowsLength rs) → RowsLength (r ∷ rs)
     split true q rest =
-        let z : misread_rows (suc (suc k)) (some (row_in r)) rs ≡ 0 = rw (q, misread_rows) at e in
+        let z : misread_rows (suc (suc k)) (Some (row_in r)) rs ≡ 0 = rw (q, misread_rows) at e in
         let both = rest z in (
           omega (arith, both.0, row-length r (and_left (is_row r) (follows o (row_in r)) q) w.0),
           omega (arith, both.1, attach-count (row_in r) (grouped (map row_in rs)) (rows-joined (suc k) (row_in r) rs z)),
@@ -541,11 +541,11 @@ weights-length (w ∷ fs) h l =
 
 -- The first two are of their shapes, and none of the others is misread.
 read-parts : (r w : List (List ℕ)) (rs : List (List (List ℕ))) → misread_records (r ∷ w ∷ rs) ≡ 0
-    → (is_run r ≡ true) × (is_weights w ≡ true) × (misread_rows 3 none rs ≡ 0)
+    → (is_run r ≡ true) × (is_weights w ≡ true) × (misread_rows 3 None rs ≡ 0)
 unfolding misread_records misread_weights
 read-parts r w rs e = split (is_run r) (is_weights w) refl refl
   where
-    split : (x y : Bool) → is_run r ≡ x → is_weights w ≡ y → (is_run r ≡ true) × (is_weights w ≡ true) × (misread_rows 3 none rs ≡ 0)
+    split : (x y : Bool) → is_run r ≡ x → is_weights w ≡ y → (is_run r ≡ true) × (is_weights w ≡ true) × (misread_rows 3 None rs ≡ 0)
     split true true x y = (x, y, rw (y, misread_weights) at (rw (x, misread_records) at e))
     split true false x y = absurd (let z : ◌≡◌ {A = ℕ} 2 0 = rw (y, misread_weights) at (rw (x, misread_records) at e) in omega arith)
     split false y' x y = absurd (let z : ◌≡◌ {A = ℕ} 1 0 = rw (x, misread_records) at e in omega arith)
@@ -559,7 +559,7 @@ records-length (r ∷ w ∷ rs) e s =
     let cues : List Cue = grouped (map row_in rs) in
     let parts = read-parts r w rs e in
     let fair = grouped-fair rs (all_fair cues (within-fair (sheet_said (r ∷ w ∷ rs)) s)) in
-    let both = rows-length 2 none rs parts.2 fair in
+    let both = rows-length 2 None rs parts.2 fair in
     let few : length cues ≤ 24 = s.few_cues in
     omega (
       arith,
@@ -593,16 +593,9 @@ further-quoted (f ∷ fs) =
 
 -- A record whose fields are all quoted is longer by two bytes for each.
 record-quoted : (r : List (List ℕ)) → length (record_text (map quotes r)) ≡ length (record_text r) + 2 * length r
-unfolding record_text
+unfolding further_fields record_text
 record-quoted [] = refl
-record-quoted (f ∷ fs) =
-    omega (
-      arith,
-      length-append (f ++ 34 ∷ []) (further_fields (map quotes fs)),
-      length-append f (34 ∷ []),
-      length-append f (further_fields fs),
-      further-quoted fs,
-    )
+record-quoted (f ∷ fs) = omega (arith, further-quoted (f ∷ fs))
 
 -- So is a text.
 rendered-quoted : (rs : List (List (List ℕ))) → length (rendered (map (map quotes) rs)) ≡ length (rendered rs) + 2 * fields_of rs

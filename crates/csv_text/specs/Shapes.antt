@@ -1,7 +1,6 @@
 -- The shapes of records, what each says, and the first record that is missing or of no shape (RULES 13.4 to 13.10).
 -- A record of a way is read as a cue of its own with that way only; cues of one number that follow each other are joined.
-use Rattle.std.specs.Prelude.{Bool, true, false, not, ◌&&◌, ◌||◌, List, [], ◌∷◌, ◌++◌, map, ℕ, suc, ◌-◌, ◌^◌, length, drop, get_or, eqb, ltb}
-use Rattle.std.proofs.Math.Option.{Option, none, some}
+use Rattle.std.specs.Prelude.{Bool, true, false, not, ◌&&◌, ◌||◌, List, [], ◌∷◌, ◌++◌, map, ℕ, suc, ◌-◌, ◌^◌, length, drop, get_or, eqb, ltb, Option, Some, None}
 use Rattle.std.specs.Int.Bits.{bit_or}
 use Rattle.rules.specs.declared.Limits.{Limits}
 use Rattle.rules.specs.Sheet.{Cue, Sheet, same_numbers}
@@ -114,8 +113,8 @@ row_in (c ∷ f ∷ fs) =
 
 -- A cue without ways is its only record.
 unfoldable pub follows : Option Cue → Cue → Bool
-follows none c = true
-follows (some b) c = not (eqb b.number c.number) || (ltb 0 (length b.present) && ltb 0 (length c.present))
+follows None c = true
+follows (Some b) c = not (eqb b.number c.number) || (ltb 0 (length b.present) && ltb 0 (length c.present))
 
 -- ---- the whole text
 
@@ -123,12 +122,12 @@ follows (some b) c = not (eqb b.number c.number) || (ltb 0 (length b.present) &&
 unfoldable pub misread_rows : ℕ → Option Cue → List (List (List ℕ)) → ℕ
 misread_rows k before [] = 0
 misread_rows k before (r ∷ rs) =
-    elim (is_row r && follows before (row_in r)) as (λ x. ℕ) [ true ↦ misread_rows (suc k) (some (row_in r)) rs | false ↦ k ]
+    elim (is_row r && follows before (row_in r)) as (λ x. ℕ) [ true ↦ misread_rows (suc k) (Some (row_in r)) rs | false ↦ k ]
 
 -- From the second record on, which must be that of the weights.
 unfoldable pub misread_weights : List (List (List ℕ)) → ℕ
 misread_weights [] = 2
-misread_weights (w ∷ rs) = elim (is_weights w) as (λ x. ℕ) [ true ↦ misread_rows 3 none rs | false ↦ 2 ]
+misread_weights (w ∷ rs) = elim (is_weights w) as (λ x. ℕ) [ true ↦ misread_rows 3 None rs | false ↦ 2 ]
 
 -- From the first record on, which must be that of the run.
 unfoldable pub misread_records : List (List (List ℕ)) → ℕ

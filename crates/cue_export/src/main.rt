@@ -11,6 +11,7 @@ use streams::{SHEET_READ, filled, read_up_to};
 /// The length of the longest text.
 const LONGEST: usize = 781021;
 
+// As in cue_import: one function for both would be handed two lengths and the call, which is all that either says.
 /// Fails only for want of memory: a read that fails is taken for the end, and output that cannot be written is lost.
 fn main(rt: HostRuntime) -> io::Result<()> {
     let sheet = read_up_to(rt.alloc(), rt.reader(), SHEET_READ)?;

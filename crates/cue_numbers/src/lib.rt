@@ -5,6 +5,8 @@
 
 pub mod numbers;
 
+use rules::{MOST_FAULTS, MOST_WAYS};
+
 /// The answer of a call on a tree, and of a call that fills a space: writer, report, import and export. `verdict` is 0 none, 1 met, 2 done, 3 full, 4 spent.
 /// `figure` is that of an accepted run, and 0 in every other answer.
 #[repr(C)]
@@ -57,9 +59,9 @@ pub struct CueTable {
     pub past: u64,
     pub faults: u64,
     pub ways: u64,
-    pub weights: [u32; 64],
-    pub present: [u64; 128],
-    pub absent: [u64; 128],
+    pub weights: [u32; MOST_FAULTS],
+    pub present: [u64; MOST_WAYS],
+    pub absent: [u64; MOST_WAYS],
 }
 
 /// The answer of counting one log or several, and of adding fractions: the fraction, or the number that refuses it and 0 of 0.

@@ -13,7 +13,7 @@ use super::{CueAnswer, CueEntry, CueFraction, CueOrder, CueSheet, CueSpot, CueTa
 use arrayvec::ArrayVec;
 use captures::Fraction;
 use csv_text::ImportError;
-use rules::{Ended, Entry, Figures, Head, Kind, Refusal, S};
+use rules::{Ended, Entry, Figures, Head, Kind, MOST_FAULTS, MOST_WAYS, Refusal, S};
 use sheet::table::TableArrays;
 use std::cmp::Ordering;
 
@@ -27,7 +27,7 @@ pub fn kind_asked(what: u64, fault: u64) -> Kind
         0 => Kind::IndependentOr,
         1 => Kind::Shannon(fault),
         2 => Kind::IndependentAnd,
-        _ => Kind::Shannon(64),
+        _ => Kind::Shannon(MOST_FAULTS as u64),
     }
 }
 
@@ -184,7 +184,7 @@ impl From<Result<Option<Entry>, Refusal>> for CueEntry {
 }
 
 impl CueTable {
-    /// Where there is no table to hand over: refused by a number, or past the last cue.
+    /// Where there is no table to hand over: refused by a number, or past the last cue. Both are numbers already, as C gets them.
     #[tactic(auto, using(sheet::proofs::Sized::sizing))]
     pub fn none(number: u64, past: u64) -> CueTable
         ensures { result ≡ flat_table number past no_table }
@@ -194,9 +194,9 @@ impl CueTable {
             past,
             faults: 0,
             ways: 0,
-            weights: [0; 64],
-            present: [0; 128],
-            absent: [0; 128],
+            weights: [0; MOST_FAULTS],
+            present: [0; MOST_WAYS],
+            absent: [0; MOST_WAYS],
         }
     }
 }

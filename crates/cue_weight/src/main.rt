@@ -45,6 +45,7 @@ fn read_piece<F: Read>(file: &mut F, log: Log) -> io::Result<Option<Log>>
     ensures grows { IfOk result (λ piece. GoesOn log piece) }
     ensures bytes { IfOk result (λ piece. Hears (F.remaining file.old) (F.remaining file.new) log piece) }
 {
+    // A buffer and a length: `Read` fills what it is lent and says how far.
     let mut buf = [0u8; 65536];
     let n = file.read(&mut buf)?;
     if n == 0 {

@@ -1,6 +1,6 @@
 //! The C interface (include/cue_risk.h): trees, slices and spaces are lent and written where they are, answers are handed back as plain numbers.
-//! Each export is one call of `dtree`, `page`, `sheet`, `writer`, `report`, `csv_import`, `csv_export` or `captures`, and carries its promise whole
-//! (specs/Told.antt); `cue_numbers` says which numbers stand for which answer. No enum crosses this border, and a number that a rule
+//! Each export but `cue_version` calls `dtree`, `page`, `sheet`, `writer`, `report`, `csv_import`, `csv_export` or `captures`, and carries the promise
+//! whole (specs/Told.antt); `cue_numbers` says which numbers stand for which answer. No enum crosses this border, and a number that a rule
 //! judges crosses it whole, in 64 bits. Lists come one by one, since C has no slice of pairs.
 #![tactic(auto, using(crate::proofs::Telling::telling))]
 

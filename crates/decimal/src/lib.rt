@@ -10,6 +10,7 @@ use std::marker::Model;
 /// The most digits that a word has.
 const MOST: usize = 20;
 
+// No `ArrayVec`: it is not `Copy`, as digits were, and they are found from the last one on.
 // No `itoa`: it lends digits from a buffer of its caller's, and `digits_of`, which hands them on, would copy them into this array: no plainer.
 /// The digits of a number, seen as their list: they stand at the end of the array, zeros in front, so that the list gives the fields back.
 #[derive(Clone, Copy)]
@@ -26,6 +27,7 @@ impl Model for Digits {
 
     ghost view = { λ d. drop d.from d.bytes };
 
+    // One predicate of three facts: a `Model` has one invariant.
     ghost invariant = { λ d. (d.from < 20) × (length d.bytes ≡ 20) × (take d.from d.bytes ≡ replicate d.from 48) };
 
     ghost inverse = { λ v. record { bytes = replicate (20 - length v) 48 ++ v; from = 20 - length v } };
@@ -64,6 +66,7 @@ pub fn digits_of(n: u64) -> Digits
     let mut bytes = [b'0'; MOST];
     let mut from = MOST - 1;
     let mut rest = n;
+    // A loop: the number ends it, not the array.
     while rest > 9 {
         bytes[from] = b'0' + (rest % 10) as u8;
         from -= 1;

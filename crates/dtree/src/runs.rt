@@ -24,7 +24,8 @@ fn figure(n: Node) -> u64
     n.low + n.width() / 2
 }
 
-// Clauses: `Good` for the reason at `run_on` (running); `accepted` since `run_on` makes its run for any budget, and a `Task` bounds the allowance alone.
+// Clauses: `Good` for the reason at `run_on` (running); `accepted` since `run_on` is promised for any budget, so that a `Task` may bound the allowance
+// alone.
 /// The run itself, on a good tree, where neither 14 nor 15 applies.
 pub fn run_good(table: Table, tree: &mut Tree, task: Task) -> Ended
     requires accepted { first (limit_refusals task.limits) ≡ 0 }

@@ -24,7 +24,7 @@ led xs i (some p) = walk xs p i
 abbrev pub found : List Node → List ℕ → Option ℕ
 found xs bs = led xs 0 (place_of bs)
 
--- As Rust has it.
+-- As Rust has it. Places and the walk to them are over the logic's own Option, as the rules' definitions and their theorems are.
 abbrev pub reached_of : Option ℕ → Reached ℕ
 reached_of none = None
 reached_of (some j) = Some j

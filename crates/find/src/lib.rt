@@ -14,11 +14,10 @@ use checks::accepted::Rows;
 use formula::child::possible;
 use node::told::ways_of;
 use records::{Node, Tree};
-use rules::{Kind, Refusal};
+use rules::{Kind, MOST_STEPS, Refusal};
 
-/// The longest place that is looked for.
-const LONGEST: usize = 64;
-
+// `Safe` is a clause: a view that carries it would be made for the one call and end with it, since the tree is written next. `Links` (pick) would ask
+// for more, links in order, than a step down needs.
 /// The record of the place that the bytes name, going down from the root's record by the left links.
 fn find(tree: &Tree, place: &[u8]) -> Option<usize>
     requires { Safe tree.now.nodes }
@@ -57,7 +56,7 @@ pub fn leaf_at(rows: Rows, tree: &Tree, place: &[u8], kind: Kind) -> Result<usiz
     requires { Safe tree.now.nodes }
     ensures { Tells (word_table rows.entry.present.now rows.entry.absent.now) tree.now place.now kind result }
 {
-    Refusal::NoLeaf.test(LONGEST < place.len())?;
+    Refusal::NoLeaf.test(MOST_STEPS < place.len())?;
     let leaf = find(tree, place).ok_or(Refusal::NoLeaf)?;
     check_leaf(rows, tree, &tree.nodes[leaf], kind)?;
     Ok(leaf)

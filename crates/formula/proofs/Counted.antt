@@ -6,16 +6,16 @@ use mathlib.Core.List.{List, [], ◌∷◌}
 use Prim.Native.Nat.{ℕ, zero, suc, ◌+◌, ◌≤◌, ◌<◌}
 use native.Mathlib.Decide.{ℕ_discrete}
 use native.Mathlib.Omega.{arith}
-use lib.ListN.{length, get_or, set, replicate, length-set, get_or-replicate}
-use lib.Seq.{get_or-set_same, get_or-set_other}
+use lib.ListN.{length, get_or, replicate, get_or-replicate}
 use lib.Dec.{eqb}
 use borrow.Author.Tests.{eq-eqb, ne_eqb}
 use Rattle.std.specs.Prelude.{cond}
-use Rattle.std.specs.List.{filter, range_with_len}
+use Rattle.std.specs.List.{filter, range_with_len, AllByRecursion}
 use Rattle.rules.specs.declared.Way.{Way}
 use Rattle.rules.specs.Table.{bit, faults, indicator}
 use Rattle.rules.specs.Run.{named}
 use Rattle.chances.specs.Bits.{set_bits}
+use Rattle.chances.proofs.First.{set_below}
 
 -- ---- how often a number stands in a list
 
@@ -50,45 +50,17 @@ pub times-set : (f w : ℕ) → f < 64 → times_in f (set_bits w) ≡ indicator
 unfolding set_bits
 times-set f w l = (times-passing (λ i. bit i w) f 0 64).1 (omega arith) (omega arith)
 
--- Every set bit is below 64.
-below : (P : ℕ → Bool) (i k f : ℕ) (fs : List ℕ) → filter P (range_with_len i k) ≡ f ∷ fs → f < i + k
-below P i zero f fs e = cc
-below P i (suc k) f fs e = by (P i) e (λ q. below P (i + 1) k f fs q)
-  where
-    by : (b : Bool) → cond b (i ∷ filter P (range_with_len (i + 1) k)) (filter P (range_with_len (i + 1) k)) ≡ f ∷ fs
-        → (filter P (range_with_len (i + 1) k) ≡ f ∷ fs → f < i + 1 + k) → f < i + suc k
-    by true q ih = let same : i ≡ f = cc in omega arith
-    by false q ih = omega (arith, ih q)
-
-pub set-small : (w f : ℕ) (fs : List ℕ) → set_bits w ≡ f ∷ fs → f < 64
-unfolding set_bits
-set-small w f fs e = below (λ i. bit i w) 0 64 f fs e
-
 -- ---- one word
 
--- Each count, with the bits to come, makes what it was with all bits of the word.
+-- Each count, with the bits to come, makes what it was with all bits of the word. Each of these is one of 64.
 pub record Adding (old : List ℕ) (w : ℕ) (n fs : List ℕ) : Type 0 where
+  pub below : AllByRecursion (λ i. i < 64) fs
   pub long : length n ≡ 64
   pub sum : (f : ℕ) → f < 64 → get_or n f 0 + times_in f fs ≡ get_or old f 0 + indicator (bit f w)
 
 -- At first all are to come.
 pub begun : (old : List ℕ) (w : ℕ) → length old ≡ 64 → Adding old w old (set_bits w)
-begun old w l = record { long = l; sum = λ f h. ap (λ (x : ℕ). get_or old f 0 + x) (times-set f w h) }
-
--- One is counted.
-pub added : (old : List ℕ) (w : ℕ) (n : List ℕ) (i : ℕ) (fs : List ℕ) → i < 64 → Adding old w n (i ∷ fs) → Adding old w (set n i (get_or n i 0 + 1)) fs
-added old w n i fs l a = record { long = simp length-set a.long; sum = λ f h. by f h (ℕ_discrete f i) }
-  where
-    by : (f : ℕ) → f < 64 → Dec (f ≡ i) → get_or (set n i (get_or n i 0 + 1)) f 0 + times_in f fs ≡ get_or old f 0 + indicator (bit f w)
-    by f h (yes e) =
-        omega (
-          arith,
-          a.sum f h,
-          ap indicator (eq-eqb f i e),
-          ap (λ (j : ℕ). get_or (set n i (get_or n i 0 + 1)) j 0) e ∙ get_or-set_same n i (get_or n i 0 + 1) 0 (omega (arith, a.long)),
-          ap (λ (j : ℕ). get_or n j 0) e,
-        )
-    by f h (no q) = omega (arith, a.sum f h, ap indicator (ne_eqb f i q), get_or-set_other n i f (get_or n i 0 + 1) 0 q)
+begun old w l = record { below = set_below w; long = l; sum = λ f h. ap (λ (x : ℕ). get_or old f 0 + x) (times-set f w h) }
 
 -- ---- all ways
 

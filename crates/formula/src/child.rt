@@ -43,21 +43,25 @@ pub fn children<'a>(c: Clauses<'a>, k: Kind) -> Children<'a>
 
 /// The way names the fault. No way names one from 64 on, where its words have no bits.
 fn names(f: usize, v: Way) -> bool
-    ensures { (result ≡ bit f (Table.faults v)) × (result ≡ true → f < 64) }
+    ensures answer { result ≡ bit f (Table.faults v) }
+    ensures fits { result ≡ true → f < 64 }
 {
     has(faults(v), f)
 }
 
 /// The fault occurs in one of the ways.
 pub fn occurs(f: usize, c: Clauses) -> bool
-    ensures { (result ≡ Tree.occurs f (ways_of c.entry)) × (result ≡ true → f < 64) }
+    ensures answer { result ≡ Tree.occurs f (ways_of c.entry) }
+    ensures fits { result ≡ true → f < 64 }
 {
     c.ways().any(|v| names(f, v))
 }
 
 /// A refinement of this kind can be made: the ways fall apart, they have a common part, or the fault occurs in them. Then `children` takes the kind.
+#[tactic(auto, unfolding(rules::specs::Tree::possible, crate::specs::Leaves::FaultFits))]
 pub fn possible(k: Kind, c: Clauses) -> bool
-    ensures { (result ≡ Tree.possible k (ways_of c.entry)) × (result ≡ true → FaultFits k) }
+    ensures answer { result ≡ Tree.possible k (ways_of c.entry) }
+    ensures fits { result ≡ true → FaultFits k }
 {
     match k {
         Kind::IndependentOr => falls_apart(c),

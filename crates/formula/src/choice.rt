@@ -8,9 +8,10 @@ ghost use Rattle.clauses.specs.Leaves.{ways_of};
 use chances::bits::Bits;
 use clauses::Clauses;
 use clauses::taking::faults;
+use rules::MOST_FAULTS;
 
 /// Adds one to the count of each fault of the word.
-fn count_faults(counts: &mut [u64; 64], word: u64)
+fn count_faults(counts: &mut [u64; MOST_FAULTS], word: u64)
     requires { (f : ℕ) → f < 64 → get_or counts.old f 0 ≤ 128 }
     ensures { (f : ℕ) → f < 64 → get_or counts.new f 0 ≡ get_or counts.old f 0 + indicator (bit f word) }
 {
@@ -20,10 +21,10 @@ fn count_faults(counts: &mut [u64; 64], word: u64)
 }
 
 /// In how many of the ways each fault is named: every way adds one to the count of each fault that it names.
-fn counts(c: Clauses) -> [u64; 64]
+fn counts(c: Clauses) -> [u64; MOST_FAULTS]
     ensures { (f : ℕ) → f < 64 → get_or result f 0 ≡ named f (ways_of c.entry) }
 {
-    let mut counts = [0; 64];
+    let mut counts = [0; MOST_FAULTS];
     for v in c.ways() {
         count_faults(&mut counts, faults(v));
     }

@@ -41,6 +41,7 @@ pub fn other_ways<'a>(c: Clauses<'a>) -> Clauses<'a>
     };
     let mut word = faults(first);
     let mut outside = c.numbers;
+    // Until a sweep finds nothing more: there is no index to go over.
     loop {
         let s = sweep(c.within(outside), word);
         outside = s.rest;

@@ -31,42 +31,35 @@ pub record Climb (ws : List ℕ) (t : Tree) (j : ℕ) (u : Tree) (i k : ℕ) : T
   pub same : u.used ≡ t.used
   pub rest : raise ws k u.nodes i ≡ raise ws 64 t.nodes j
 
--- What raising the tree t from record j comes to.
-abbrev Raised : List ℕ → Tree → ℕ → Tree → Type 0
-Raised ws t j u = (u.nodes ≡ raise ws 64 t.nodes j) × (u.used ≡ t.used) × Safe u.nodes
-
 module _ {ws : List ℕ} {t : Tree} {j : ℕ} {u : Tree} {i m : ℕ} (inv : Climb ws t j u i m) where
   -- With no record left to do the tree is raised.
-  pub spent : m ≡ 0 → Raised ws t j u
+  pub spent : m ≡ 0 → u.nodes ≡ raise ws 64 t.nodes j
   unfolding raise
-  spent z = (rw z at inv.rest, inv.same, inv.safe)
+  spent z = rw z at inv.rest
 
   abbrev x : Node
   x = record_in u.nodes i
 
   -- With k more to do, record i is joined with its children's, which gives n.
-  module _ (k : ℕ) (more : m ≡ suc k) (n : Node) (n-is : (n ≡ joined ws x (record_in u.nodes x.left) (record_in u.nodes (x.left + 1))) × SafeNode n) where
+  module _ (k : ℕ) (more : m ≡ suc k) (n : Node) (n-is : n ≡ joined ws x (record_in u.nodes x.left) (record_in u.nodes (x.left + 1))) where
     abbrev v : Tree
     v = record { nodes = set u.nodes i n; used = u.used }
 
     written : v.nodes ≡ join_at ws u.nodes i
     unfolding join_at
-    written = rw (n-is.0, add-one)
+    written = rw (n-is, add-one)
 
     left-over : raise ws (suc k) u.nodes i ≡ raise ws 64 t.nodes j
     left-over = rw more at inv.rest
 
-    kept : Safe v.nodes
-    kept = safe-set u.nodes i n inv.safe n-is.1
-
-    pub turn : (i ≡ 0 → ⊥) → Climb ws t j v x.parent k
-    turn z =
+    pub turn : SafeNode n → (i ≡ 0 → ⊥) → Climb ws t j v x.parent k
+    turn s z =
         record {
           inside = (inv.safe.each i).parent_inside;
-          safe = kept;
+          safe = safe-set u.nodes i n inv.safe s;
           same = inv.same;
           rest = rw written (sym (above_root ws u.nodes i k z) ∙ left-over);
         }
 
-    pub done : i ≡ 0 → Raised ws t j v
-    done z = (written ∙ sym (at-root ws u.nodes i k z) ∙ left-over, inv.same, kept)
+    pub done : i ≡ 0 → v.nodes ≡ raise ws 64 t.nodes j
+    done z = written ∙ sym (at-root ws u.nodes i k z) ∙ left-over

@@ -8,20 +8,20 @@ ghost use Rattle.records.specs.Safe.{Safe};
 use chances::weights::Weights;
 use node::join::joined;
 use records::Tree;
-
-/// The most records from one that is refined up to the root.
-const HIGHEST: usize = 64;
+use rules::MOST_STEPS;
 
 // `Safe` is a clause, for the reason that stands at `grow`.
 /// Joins the intervals from record j up to the root anew.
 pub fn raise(weights: Weights, tree: &mut Tree, j: usize)
     requires safe { Safe tree.old.nodes }
-    requires j_lt_tree_records { j < tree_records }
-    ensures { (tree.new.nodes ≡ Growing.raise weights.entry.list.now 64 tree.old.nodes j)
-        × (tree.new.used ≡ tree.old.used) × Safe tree.new.nodes }
+    requires inside { j < tree_records }
+    ensures raised { tree.new.nodes ≡ Growing.raise weights.entry.list.now 64 tree.old.nodes j }
+    ensures same { tree.new.used ≡ tree.old.used }
+    ensures safe { Safe tree.new.nodes }
 {
+    // By the links to the parents: the turns are counted, the records are not.
     let mut i = j;
-    for _ in 0..HIGHEST {
+    for _ in 0..MOST_STEPS {
         let x = tree.nodes[i];
         let left = tree.nodes[x.left];
         let right = tree.nodes[x.left + 1];

@@ -28,13 +28,15 @@ struct Branch {
     right: Node,
 }
 
+// `SafeNode` is a clause, for the reason that stands at `joined` (node).
 /// The records that a refinement of the leaf x in record j writes, where c are its ways and its left leaf goes to record `next`.
 fn branch_of(weights: Weights, x: &Node, c: Clauses, kind: Kind, j: usize, next: usize) -> Branch
     requires gone { c.gone ≡ gone_in x.now }
     requires lean { Lean (ways_of c) }
     requires fault_fits { FaultFits kind }
-    requires safe_node { SafeNode x.now }
-    requires j_lt_tree_records { (j < tree_records) × (next + 1 < tree_records) }
+    requires safe { SafeNode x.now }
+    requires inside { j < tree_records }
+    requires room { next + 1 < tree_records }
     ensures { Branched weights.entry.list.now x.now (ways_of c.entry) kind j next result }
 {
     let node = refined(x, kind, next);
@@ -44,7 +46,7 @@ fn branch_of(weights: Weights, x: &Node, c: Clauses, kind: Kind, j: usize, next:
     Branch { node, left, right }
 }
 
-// The facts stand one by one: a struct that holds the lent tree would owe them at each write, and three records are written before they hold again.
+// The facts stand one by one: a struct that holds the lent tree would owe them at each of four writes, and they are shown once, behind the last.
 /// Refines the leaf in record j, where c are its ways: its leaves go to the next two records, and the intervals from j up to the root are joined
 /// anew.
 pub fn grow(table: Table, tree: &mut Tree, c: Clauses, kind: Kind, j: usize)
@@ -52,9 +54,11 @@ pub fn grow(table: Table, tree: &mut Tree, c: Clauses, kind: Kind, j: usize)
     requires lean { Lean (record_ways (table_of table) (record_in tree.old.nodes j)) }
     requires fault_fits { FaultFits kind }
     requires safe { Safe tree.old.nodes }
-    requires j_lt_tree_records { (j < tree_records) × (tree.old.used + 1 < tree_records) }
-    ensures { (tree.new.nodes ≡ grown_at (table_of table.entry) tree.old.nodes tree.old.used j kind)
-        × (tree.new.used ≡ tree.old.used + 2) × Safe tree.new.nodes }
+    requires inside { j < tree_records }
+    requires room { tree.old.used + 1 < tree_records }
+    ensures grown { tree.new.nodes ≡ grown_at (table_of table.entry) tree.old.nodes tree.old.used j kind }
+    ensures two_more { tree.new.used ≡ tree.old.used + 2 }
+    ensures safe { Safe tree.new.nodes }
 {
     let weights = Weights::from(table);
     let next = tree.used;

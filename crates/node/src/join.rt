@@ -38,7 +38,8 @@ fn overlap(own: Chance, other: Chance, direction: Direction) -> Chance
     }
 }
 
-// Both ends by one function: a type of intervals would be no plainer, since the ends of a record may be crossed.
+// Both ends by one function: a type of intervals would be no plainer, since the ends of a record may be crossed. The words of the records come as they
+// are: six chances would be made at two calls, and here three.
 /// The end of an inner record's interval, from its own as a leaf and from those of its children.
 fn joined_end(
     kind: Kind,
@@ -48,7 +49,9 @@ fn joined_end(
     right: u64,
     direction: Direction,
 ) -> Chance
-    requires { (own ≤ S) × (left ≤ S) × (right ≤ S) }
+    requires own_fits { own ≤ S }
+    requires left_fits { left ≤ S }
+    requires right_fits { right ≤ S }
     ensures { result ≡ Tree.overlap direction own (Tree.combine kind direction weights.entry.list.now left right) }
 {
     let left = Chance { billionths: left };
@@ -61,10 +64,16 @@ fn joined_end(
     )
 }
 
+// `SafeNode` is a clause: the records come from a tree that C lends as plain numbers, and the result is written there at once, so that a type that
+// holds the fact would be made and taken apart at the one call.
 /// The record x with its interval joined from its own as a leaf and from its children's records.
+#[tactic(auto, unfolding(records::specs::Growing::joined))]
 pub fn joined(weights: Weights, x: &Node, left: &Node, right: &Node) -> Node
-    requires { SafeNode x.now × SafeNode left.now × SafeNode right.now }
-    ensures { (result ≡ Growing.joined weights.entry.list.now x.now left.now right.now) × SafeNode result }
+    requires safe { SafeNode x.now }
+    requires left_safe { SafeNode left.now }
+    requires right_safe { SafeNode right.now }
+    ensures value { result ≡ Growing.joined weights.entry.list.now x.now left.now right.now }
+    ensures safe { SafeNode result }
 {
     let kind = x.kind();
     let low = joined_end(

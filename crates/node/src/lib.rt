@@ -23,9 +23,10 @@ use rules::Kind;
 
 /// The record of a leaf with these ways below a parent. Of the table only the weights count once the ways are known.
 pub fn leaf_record(c: Clauses, weights: Weights, parent: usize) -> Node
-    ensures { (result ≡ fresh_record (table weights.entry.list.now [] [])
-        (spot_with c.entry.gone (ways_of c.entry)) parent)
-        × (result.low ≤ S) × (result.high ≤ S) }
+    ensures value { result ≡ fresh_record (table weights.entry.list.now [] [])
+        (spot_with c.entry.gone (ways_of c.entry)) parent }
+    ensures low_fits { result.low ≤ S }
+    ensures high_fits { result.high ≤ S }
 {
     let e = ends(c, weights);
     let low = e.low;
@@ -72,11 +73,13 @@ fn fault_code(k: Kind) -> u64
     }
 }
 
+// `SafeNode` is a clause, for the reason that stands at `joined`.
 /// The record of a leaf that is refined, with its left child in record `left`.
 pub fn refined(x: &Node, k: Kind, left: usize) -> Node
-    requires safe_node { SafeNode x.now }
-    requires left_bound { left + 1 < tree_records }
-    ensures { (result ≡ refined_record x.now k left) × SafeNode result }
+    requires safe { SafeNode x.now }
+    requires room { left + 1 < tree_records }
+    ensures value { result ≡ refined_record x.now k left }
+    ensures safe { SafeNode result }
 {
     Node {
         kind: kind_code(k),

@@ -9,6 +9,7 @@ use records::Node;
 
 // The numbers and the faults of a record are taken apart here and put together in `leaf_record`, once each: two conversions would be no plainer.
 /// The remaining ways of a record.
+#[tactic(auto, unfolding(records::specs::Records::record_ways, rules::specs::Table::ways))]
 pub fn ways_of<'a>(rows: Rows<'a>, x: &Node) -> Clauses<'a>
     ensures { LeafWays rows.entry.present.now rows.entry.absent.now x.now result }
 {

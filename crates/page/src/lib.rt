@@ -7,6 +7,7 @@ ghost use Rattle.page.specs.Widest.{counting, widest_of, WidestLaw};
 
 use records::{Found, Node};
 
+// As `open_leaf` (pick) but for the test, which is all that either says: one function would be handed it.
 /// What the record n at position `at` is to the search: itself, if it is marked as an open leaf and has its low below its high.
 #[tactic(auto, using(crate::proofs::Counted::in_order), unfolding(crate::specs::Widest::counting))]
 fn counting(at: usize, n: &Node) -> Option<Found>

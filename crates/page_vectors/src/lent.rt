@@ -1,4 +1,4 @@
-//! Records that no tree has, lent to the search. Rests on `page` and the records of `records`.
+//! Records that no tree has, lent to the search. Rests on `page` and the records of `records`. Ends stand in figures.
 use super::print;
 use page::widest;
 use records::{INDEPENDENT_AND, INDEPENDENT_OR, LEAF, NO_NODES, Node, RECORDS, SHANNON};
@@ -26,7 +26,7 @@ const ALIKE: [(Fields, usize); 14] = [
     // Blanks.
     ((BLANK, CLOSED, 0, 0), 600),
     // Closed leaves, though they are wide.
-    ((LEAF, CLOSED, 0, 1000000000), 511),
+    ((LEAF, CLOSED, 0, 1000000000), RECORDS),
     // A mark that is neither 0 nor 1.
     ((LEAF, 2, 0, 1000000000), 600),
     // The mark of an open leaf on records that are no leaves: a blank, and the three kinds of inner nodes.
@@ -40,7 +40,7 @@ const ALIKE: [(Fields, usize); 14] = [
     ((LEAF, OPEN, u64::MAX, 0), 600),
     // All are equally wide: the first, 0 each time.
     ((LEAF, OPEN, 5, 7), 1),
-    ((LEAF, OPEN, 0, 1), 511),
+    ((LEAF, OPEN, 0, 1), RECORDS),
     ((LEAF, OPEN, 0, u64::MAX), 600),
 ];
 

@@ -1,6 +1,6 @@
 -- The leaves from left to right, where the links are in order: laws say which come below a record and which come after it by the links alone,
 -- whatever the depth allowed. Rests on specs/Leaves.antt and specs/Picks.antt.
-use mathlib.Core.Path.{◌≡◌, refl, sym, ap, ap₂, subst, ◌∙◌}
+use mathlib.Core.Path.{◌≡◌, refl, sym, ap, ap₂, ◌∙◌}
 use mathlib.Core.List.{List, [], ◌∷◌, ◌++◌, append_assoc, append-nil}
 use Prim.Native.Nat.{ℕ, zero, suc, ◌+◌, ◌<◌, ◌≤◌}
 use native.Mathlib.Numerals.{add-one}
@@ -14,6 +14,7 @@ use Rattle.records.specs.declared.Tree.{Tree}
 use Rattle.pick.specs.Picks.{Linked}
 use Rattle.std.specs.Prelude.{Some, None}
 use Rattle.records.specs.Found.{left_child}
+use Rattle.records.proofs.Children.{no_child, a_child}
 use Rattle.pick.specs.Leaves.{leaves, beside, after, leaves_at, leaves_after, leaves_from}
 
 -- After the root comes nothing.
@@ -140,23 +141,14 @@ module _ {t : Tree} (linked : Linked t.nodes t.used) (i : ℕ) (inside : i < t.u
   -- Down to the left child.
   pub down_to : (l : ℕ) → left_child (record_in t.nodes i) ≡ Some l
       → (i < l) × (l < t.used) × (leaves_at t l ++ leaves_after t l ≡ leaves_at t i ++ leaves_after t i)
-  down_to l e = by (ℕ_discrete (record_in t.nodes i).left 0)
-    where
-      by : Dec ((record_in t.nodes i).left ≡ 0) → (i < l) × (l < t.used) × (leaves_at t l ++ leaves_after t l ≡ leaves_at t i ++ leaves_after t i)
-      by (yes z) = absurd (cc ((rw (eq-eqb _ 0 z) at e)))
-      by (no q) =
-          let same : (record_in t.nodes i).left ≡ l = cc (rw (ne_eqb _ 0 q) at e) in
-          let d = down linked i inside q in
-          let b = behind linked i inside q in
-          subst (λ j. (i < j) × (j < t.used) × (leaves_at t j ++ leaves_after t j ≡ leaves_at t i ++ leaves_after t i)) same (b, d.0, d.1)
+  down_to l e =
+      let (q, same) = a_child (record_in t.nodes i) _ refl l e in
+      let d = down linked i inside q in
+      rw same (behind linked i inside q, d.0, d.1)
 
   -- No link down: a leaf.
   pub no_further : left_child (record_in t.nodes i) ≡ None → leaves_from t (Some i) ≡ leaves_at t i ++ leaves_after t i
-  no_further e = by (ℕ_discrete (record_in t.nodes i).left 0)
-    where
-      by : Dec ((record_in t.nodes i).left ≡ 0) → leaves_from t (Some i) ≡ leaves_at t i ++ leaves_after t i
-      by (yes z) = bottom linked i inside z
-      by (no q) = absurd (cc (rw (ne_eqb _ 0 q) at e))
+  no_further e = bottom linked i inside (no_child (record_in t.nodes i) _ refl e)
 
 -- At the root the way up ends.
 pub top : (t : Tree) → [] ≡ leaves_after t 0

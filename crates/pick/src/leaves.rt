@@ -33,6 +33,7 @@ impl<'a> Links<'a> {
         ensures in_use { result < self.entry.tree.now.used }
         ensures leaves { leaves_from self.entry.tree.now (Some result) ≡ leaves_at self.entry.tree.now i ++ leaves_after self.entry.tree.now i }
     {
+        // Down the links: there is no index to go over.
         let mut at = i;
         while let Some(left) = self.tree.nodes[at].left_child() {
             at = left;
@@ -47,6 +48,7 @@ impl<'a> Links<'a> {
         ensures in_use { (j : ℕ) → result ≡ Some j → j < self.entry.tree.now.used }
         ensures leaves { leaves_from self.entry.tree.now result ≡ leaves_after self.entry.tree.now i }
     {
+        // Up the links, which end at the root.
         let mut at = i;
         while at != 0 {
             let above = self.tree.nodes[at].parent;

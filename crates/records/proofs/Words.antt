@@ -15,7 +15,7 @@ use Rattle.rules.specs.declared.Way.{Way}
 use Rattle.rules.specs.Leaf.{select, has_number, remaining, drop_all}
 use Rattle.rules.specs.Tree.{Place, Refinement, tree, Subtree, subtree, series}
 use Rattle.rules.specs.Tree.{Node as Spot}
-use Rattle.rules.proofs.Booleans.{same_test}
+use Rattle.rules.proofs.Booleans.{same_test, eqb_swap}
 use Rattle.rules.proofs.Bits.{bit-zero, bit-or, bit-pow}
 use Rattle.rules.proofs.Sets.{ways-rising, select-same}
 use Rattle.rules.proofs.HandedDown.{handed-own}
@@ -23,10 +23,7 @@ use Rattle.records.specs.Records.{low_word, high_word, in_words, record_ways, su
 
 -- ---- the words hold the numbers
 
--- Tests for equality, the other way round and both less 64.
-eqb_swap : (m n : ℕ) → eqb m n ≡ eqb n m
-eqb_swap m n = same_test _ _ (λ h. eq-eqb n m (sym (eqb-true m n h))) (λ h. eq-eqb m n (sym (eqb-true n m h)))
-
+-- A test for equality, the other way round and both less 64.
 eqb-less : (m n : ℕ) → 64 ≤ m → 64 ≤ n → eqb (m - 64) (n - 64) ≡ eqb n m
 eqb-less m n h k =
     same_test _ _ (λ q. eq-eqb n m (omega (arith, eqb-true (m - 64) (n - 64) q))) (λ q. eq-eqb (m - 64) (n - 64) (omega (arith, eqb-true n m q)))

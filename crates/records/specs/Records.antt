@@ -80,7 +80,7 @@ above (b ∷ c ∷ p) = b ∷ above (c ∷ p)
 
 -- ---- the codes of a record
 
--- Leaf, independent-or, independent-and, Shannon.
+-- Leaf, independent-or, independent-and, Shannon: by the Option of the rules' definitions, with which `kind_at` (`rules`, Tree) tells of a place.
 unfoldable pub kind_code : Option Kind → ℕ
 kind_code none = 1
 kind_code (some IndependentOr) = 2

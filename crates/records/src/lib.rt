@@ -7,10 +7,10 @@ ghost use Rattle.records.specs.Records.{is_live, kind_of, no_nodes, same_node, s
 ghost use Rattle.records.specs.Growing.{record_width};
 ghost use Rattle.records.specs.Found.{wider, left_child, is_full};
 
-use rules::Kind;
+use rules::{Kind, MOST_REFINEMENTS};
 
-/// The records of a tree, one for each node that 255 refinements make; in definitions `tree_records`.
-pub const RECORDS: usize = 511;
+/// The records of a tree, one for each node that the most refinements make; in definitions `tree_records`.
+pub const RECORDS: usize = 2 * MOST_REFINEMENTS as usize + 1;
 
 /// The kind of a leaf's record.
 pub const LEAF: u64 = 1;
@@ -151,6 +151,7 @@ impl Node {
 }
 
 impl Found {
+    // No `max_by_key`, which takes the last of equals: the two would stand the other way round.
     /// The wider of two, the first if they are equally wide.
     pub fn wider(self, other: Found) -> Found
         ensures { result ≡ wider self other }
@@ -179,9 +180,11 @@ impl Tree {
         self.used >= RECORDS
     }
 
+    // Never inlined: in its one caller the compiler would compare word by word, and by itself it compares two at a time.
     /// All records of two trees are equal. Every field is compared, with no way out before the last: the loop has nothing to decide, and trees that
     /// are compared are mostly equal. Tried as `self.nodes == other.nodes`: it takes a quarter longer.
     #[tactic(auto, using(crate::proofs::Compared::comparing), unfolding(crate::specs::Records::same_nodes))]
+    #[inline(never)]
     pub fn same_nodes(&self, other: &Tree) -> bool
         ensures { result ≡ same_nodes self.now.nodes other.now.nodes }
     {

@@ -2,10 +2,11 @@
 //! Rests on the definition of Appended. A byte for which there is no room is left out; the text of a sheet has room for all (`rules`, TextLength).
 #![tactic(auto, using(crate::proofs::Appending::appending), unfolding(crate::specs::Appended::appended))]
 
+use rules::MOST_CUES;
 use std::marker::Model;
 
-/// Room for a heading of 27 bytes and 24 lines of at most 38.
-const ROOM: usize = 939;
+/// Room for a heading of 27 bytes and a line of at most 38 for each cue.
+const ROOM: usize = 27 + 38 * MOST_CUES;
 
 /// A printed text. Behind it there are zeros, so that the text gives the fields back.
 /// No `ArrayVec`, which would be as plain: that a report is `Copy` was promised, and callers may copy it.

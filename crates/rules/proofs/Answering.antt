@@ -119,15 +119,6 @@ answered-alike (x ∷ xs) a c r h = split x.applies refl (answered-alike xs a c 
     split true e rest = answered-here x xs c e ∙ cc (sym (answered-here x xs a e) ∙ h)
     split false e rest = answered-later x xs c e ∙ rest (sym (answered-later x xs a e) ∙ h)
 
--- What refuses nothing at the end of a list changes nothing.
-pub answered-end : {A : Type 0} (xs ys : List Test) (a : A) → first ys ≡ 0 → answered (xs ++ ys) a ≡ answered xs a
-answered-end [] ys a h = answered-free ys a h ∙ sym (answered-none a)
-answered-end (x ∷ xs) ys a h = split x.applies refl (answered-end xs ys a h)
-  where
-    split : (t : Bool) → x.applies ≡ t → answered (xs ++ ys) a ≡ answered xs a → answered (x ∷ xs ++ ys) a ≡ answered (x ∷ xs) a
-    split true e rest = answered-here x (xs ++ ys) a e ∙ sym (answered-here x xs a e)
-    split false e rest = answered-later x (xs ++ ys) a e ∙ rest ∙ sym (answered-later x xs a e)
-
 -- The first part, which answered w, refuses: that is what is handed on.
 pub stops : {A B : Type 0} (xs ys : List Test) (a : A) (b : B) (w : Result A Refusal) (v : Result B Refusal) (r : Refusal)
     → w ≡ Err r → v ≡ Err r → w ≡ answered xs a → v ≡ answered (xs ++ ys) b

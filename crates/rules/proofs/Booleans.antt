@@ -2,6 +2,9 @@
 use mathlib.Core.Path.{◌≡◌, refl, sym, ◌∙◌}
 use mathlib.Core.Bool.{Bool, true, false, ◌&&◌, ◌||◌, true≢false}
 use mathlib.Core.List.{List, ◌∷◌}
+use Prim.Native.Nat.{ℕ}
+use lib.Dec.{eqb}
+use borrow.Author.Tests.{eqb-true, eq-eqb}
 use Rattle.rules.specs.Table.{Way}
 use Rattle.rules.specs.Leaf.{any}
 
@@ -78,6 +81,10 @@ pub same_test : (x y : Bool) → (x ≡ true → y ≡ true) → (y ≡ true →
 same_test true y f g = sym (f refl)
 same_test false true f g = g refl
 same_test false false f g = refl
+
+-- Being equal is the same the other way round.
+pub eqb_swap : (m n : ℕ) → eqb m n ≡ eqb n m
+eqb_swap m n = same_test (eqb m n) (eqb n m) (λ e. eq-eqb n m (sym (eqb-true m n e))) (λ e. eq-eqb m n (sym (eqb-true n m e)))
 
 -- ---- tests over a list of ways
 

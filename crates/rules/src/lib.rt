@@ -1,4 +1,4 @@
-//! The types that the rules and the code share: what a refinement does, a run's limits and verdict, what each call answers, why one is refused.
+//! The types that the rules speak of, and mostly the code too: what a refinement does, a run's limits and verdict, what each call answers, why one is refused.
 //! specs/ has the rules (docs/RULES.md) as definitions over these types, proofs/ the theorems about them. Of code only a refusal's test stands here,
 //! the numbers of refusals and verdicts, and the other direction of rounding, and how a refusal prints.
 #![tactic(auto)]
@@ -13,6 +13,22 @@ use std::fmt;
 /// One billion: weights, chances and the allowance are in billionths.
 pub const S: u64 = 1000000000;
 
+// The limits, for the code. The definitions state them in figures, as the rules do, and clauses follow the definitions.
+/// The most faults of a table.
+pub const MOST_FAULTS: usize = 64;
+
+/// The most cues of a sheet.
+pub const MOST_CUES: usize = 24;
+
+/// The most ways of a cue.
+pub const MOST_WAYS: usize = 128;
+
+/// The most refinements of a tree, and so the largest budget.
+pub const MOST_REFINEMENTS: u64 = 255;
+
+/// The most steps of a place: a leaf that can be refined lies above that level.
+pub const MOST_STEPS: usize = 64;
+
 /// Which way a number is rounded: down for a low end, up for a high end.
 #[derive(Clone, Copy, PartialEq, Eq, Debug)]
 pub enum Direction {
@@ -20,6 +36,7 @@ pub enum Direction {
     Up,
 }
 
+// The words stand here side by side, not as `Words`: no function takes the words of a numbered way by themselves, and every rule speaks of them.
 /// A way, the standard term is clause: its number, the word of the faults that it names present and that of those it names absent.
 #[derive(Clone, Copy)]
 pub struct Way {
@@ -38,7 +55,7 @@ pub enum Kind {
     Shannon(u64),
 }
 
-/// The words of a way: the faults that it names present, and those that it names absent.
+/// The words of a way that has no number yet, as a sheet or a text gives them: the faults that it names present, and those that it names absent.
 #[derive(Clone, Copy, PartialEq, Eq, Debug)]
 pub struct Words {
     pub present: u64,
@@ -169,6 +186,7 @@ impl Direction {
 
 impl Refusal {
     /// Refuses if its test applies.
+    #[tactic(auto, unfolding(crate::specs::Refusals::answered))]
     pub fn test(self, applies: bool) -> Result<(), Refusal>
         ensures { result ≡ answered (test self applies ∷ []) tt }
     {
@@ -184,6 +202,7 @@ impl From<Verdict> for u64 {
     }
 }
 
+// In two widths: 8 bits, which hold every number and are promised to callers, and 64, as C has them.
 impl From<Refusal> for u8 {
     ghost from_gives = { λ r n. n ≡ number r };
 

@@ -21,6 +21,7 @@ pub struct Task {
 impl Task {
     ghost use Rattle.running.specs.Tasks.{Accepting};
 
+    // Tables, lists and fractions are accepted under this name: a `TryFrom` would say the same and not name it.
     /// The task that the limits set, or why they are refused.
     pub fn accept(limits: Limits) -> Result<Task, Refusal>
         ensures { Accepting limits result }

@@ -1,6 +1,6 @@
 -- A number of fixed width as the code puts it together, from bytes in place of which there are zeros beyond the end.
 -- Rests on the definitions of `rules`, Sheet, and of Handed.
-use Rattle.std.proofs.Common.{◌≡◌, ℕ, zero, suc, ◌+◌, ◌*◌, ◌^◌, List, [], ◌∷◌, take, drop, length, get_or, slice_index, refl, ap, ◌∙◌, arith, take_all}
+use Rattle.std.proofs.Common.{◌≡◌, ℕ, zero, suc, ◌+◌, ◌*◌, ◌^◌, List, [], ◌∷◌, take, drop, get_or, slice_index, refl, sym, ap, ◌∙◌, arith, take_all}
 use Rattle.std.specs.Int.{sum_through, byte_worth}
 use native.Mathlib.Nat.{pow-suc}
 use lib.Seq.{take-nil}
@@ -35,10 +35,10 @@ value-sum zero [] = refl
 value-sum zero (b ∷ bs) = omega arith
 value-sum (suc m) bs = omega (arith, value-sum m bs, value-next (suc m) bs, worth (suc m) (get_or bs (suc m) 0))
 
--- The number that bytes at i, padded with zeros, give.
-pub padded : (m i : ℕ) (bs : List ℕ) {a : List ℕ} → a ≡ sized (suc m) (drop i bs)
-    → sum_through (λ j. byte_worth j (slice_index a j)) m ≡ field (suc m) i bs
+-- The number at i is what the bytes there, padded with zeros, give.
+pub padded : (m i : ℕ) (bs : List ℕ) → field (suc m) i bs ≡ sum_through (λ j. byte_worth j (slice_index (sized (suc m) (drop i bs)) j)) m
 unfolding field
-padded m i bs {a} e =
-    let long : length a ≡ suc m = ap length e ∙ length-sized (suc m) (drop i bs) in
-    value-sum m a ∙ ap value (take_all (suc m) a (omega arith) ∙ e) ∙ value-sized (suc m) (drop i bs)
+padded m i bs =
+    let n : ℕ = suc m in
+    let xs = drop i bs in
+    sym (value-sum m (sized n xs) ∙ ap value (take_all n (sized n xs) (omega (arith, length-sized n xs))) ∙ value-sized n xs)

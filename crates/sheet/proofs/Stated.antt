@@ -3,8 +3,13 @@
 use Rattle.std.proofs.Common.{◌≡◌, ℕ, zero, suc, ◌+◌, ◌≤◌, Bool, ◌||◌, ltb, List, []}
 use Rattle.std.proofs.Common.{◌∷◌, map, length, take, drop, add-one, ◌<◌, refl, ap, ap₂, ◌∙◌, sym, arith}
 use lib.Seq.{drop-drop}
+use denote.Param.Members.{Mut}
+use Rattle.std.specs.Fn.{Called}
+use Rattle.std.specs.Iterator.{YieldsFirst, ChecksAny}
 use Rattle.std.specs.List.{list_any}
 use Rattle.std.proofs.lemmas.List.{map-id, take_all, drop_all}
+use Rattle.std.proofs.lemmas.Iterator.Search.{any_from_yields_List}
+use Rattle.std.proofs.lemmas.Iterator.Consumers.{YieldsList-from_first}
 use Rattle.std.proofs.lemmas.Grind.{common_steps}
 use Rattle.rules.specs.Refusals.{some_above}
 use Rattle.rules.specs.Sheet.{value, field, column}
@@ -67,9 +72,6 @@ unfolding some_above
 above-each f limit [] = refl
 above-each f limit (x ∷ xs) = ap (λ b. ltb limit (f x) || b) (above-each f limit xs)
 
-pub any_above : {A : Type 0} (f : A → ℕ) (limit : ℕ) (xs : List A) {ns : List ℕ} → map f xs ≡ ns → list_any (λ x. ltb limit (f x)) xs ≡ some_above limit ns
-any_above f limit xs e = above-each f limit xs ∙ ap (some_above limit) e
-
 module _ (bs : List ℕ) (n : ℕ) where
   pub numbers_stated : map (λ e. e.cue) (stated_in n bs) ≡ column 2 8 12 n bs
   numbers_stated = column_of stated (λ e. e.cue) 2 8 0 (omega arith) (λ xs. refl) 12 n bs
@@ -107,11 +109,30 @@ unfolding any rows absent_rows
 any_row f k [] = refl
 any_row f k (w ∷ ws) = ap (λ b. f w.present w.absent || b) (any_row f (suc k) ws)
 
-pub rows_any : (f : ℕ → ℕ → Bool) (i n : ℕ) (bs : List ℕ)
-    → list_any (λ w. f w.present w.absent) (words_in i n bs)
-    ≡ any (λ v. f v.present v.absent) (rows 0 (column 8 16 i n bs) (column 8 16 (i + 8) n bs))
-rows_any f i n bs =
-    any_row f 0 (words_in i n bs) ∙ ap₂ (λ ps qs. any (λ v. f v.present v.absent) (rows 0 ps qs)) (present_stated i n bs) (absent_stated i n bs)
+-- What the library's `any` answers of parts with a test that a closure makes.
+module _ {A F : Type 0} {call : Mut F (A × Unit {0}) Bool} {ps qs xs : List A} {f : F} {b : Bool} (ran : ChecksAny (YieldsFirst (λ p. p)) call ps f b qs)
+    (are : ps ≡ xs) where
+  -- Each call of the closure is the test.
+  abbrev Tests : (A → Bool) → Type 0
+  Tests test = (x : A) (r : Bool) (q : F) → Called call f (x, tt) r q → (q ≡ f) × (r ≡ test x)
+
+  -- Whether some part passes the test.
+  any_part : (test : A → Bool) → Tests test → b ≡ list_any test xs
+  any_part test k = any_from_yields_List test _ _ _ ran (YieldsList-from_first (λ p. p) (λ ps. ps) _ are) k
+
+  -- Whether a number of some part is above a limit.
+  pub part_above : (n : A → ℕ) (limit : ℕ) {ns : List ℕ} → map n xs ≡ ns → Tests (λ x. ltb limit (n x)) → b ≡ some_above limit ns
+  part_above n limit e k = any_part (λ x. ltb limit (n x)) k ∙ above-each n limit xs ∙ ap (some_above limit) e
+
+-- The same of the words of ways: whether some way passes a test of its two words.
+pub row_passes : {F : Type 0} {call : Mut F (Words × Unit {0}) Bool} {ps qs : List Words} {f : F} {b : Bool} (i n : ℕ) (bs : List ℕ)
+    → ChecksAny (YieldsFirst (λ p. p)) call ps f b qs → ps ≡ words_in i n bs → (test : ℕ → ℕ → Bool)
+    → ((w : Words) (r : Bool) (q : F) → Called call f (w, tt) r q → (q ≡ f) × (r ≡ test w.present w.absent))
+    → b ≡ any (λ v. test v.present v.absent) (rows 0 (column 8 16 i n bs) (column 8 16 (i + 8) n bs))
+row_passes i n bs ran are test k =
+    any_part ran are (λ w. test w.present w.absent) k
+    ∙ any_row test 0 (words_in i n bs)
+    ∙ ap₂ (λ ps qs. any (λ v. test v.present v.absent) (rows 0 ps qs)) (present_stated i n bs) (absent_stated i n bs)
 
 -- Of a list that begins with x, one element more is taken than behind it.
 pub take_first : {A : Type 0} (n k : ℕ) (x : A) (xs : List A) → k + 1 ≡ n → take n (x ∷ xs) ≡ x ∷ take k xs

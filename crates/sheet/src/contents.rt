@@ -1,5 +1,5 @@
 //! The contents of a sheet's bytes, and the tests on them, each over all cues. Rests on the definitions of `rules`, Refusals and Sheet, and of Parts.
-//! The tests are those of `checks`, lists.rt, which has them for slices and says why they stand twice.
+//! 5 and 6 are the tests of `checks`, lists.rt, which has them for slices and says why they stand twice.
 //! Where a body starts is counted on from the weights; a stated place is only compared with that.
 ghost use Rattle.std.specs.Prelude.{◌≡◌, not, ◌*◌, ◌≤◌, length};
 ghost use Rattle.rules.specs.Refusals;
@@ -8,7 +8,7 @@ ghost use Rattle.sheet.specs.Parts.{stated_in};
 
 use super::fields::Raw;
 use super::parts::Parts;
-use rules::Entry;
+use rules::{Entry, MOST_WAYS};
 use std::iter::once;
 
 impl<'a> Raw<'a> {
@@ -44,7 +44,8 @@ impl<'a> Raw<'a> {
     pub fn crowded(self) -> bool
         ensures { result ≡ Refusals.crowded (counts_in self.entry.bytes.now) }
     {
-        self.entries().any(|entry| 128 < entry.ways)
+        self.entries()
+            .any(|entry| MOST_WAYS < usize::from(entry.ways))
     }
 
     /// 7: a stated place is not where the body starts.

@@ -25,6 +25,7 @@ impl<'a> Raw<'a> {
     // Three functions: `from_le_bytes` is each type's own, so that one function over a trait would need an impl with the same line for each type.
 
     /// The number in the two bytes at i.
+    #[tactic(auto, using(crate::proofs::Numbers::padded))]
     pub fn u16_at(self, i: usize) -> u16
         ensures { result ≡ field 2 i self.entry.bytes.now }
     {
@@ -32,6 +33,7 @@ impl<'a> Raw<'a> {
     }
 
     /// The number in the four bytes at i.
+    #[tactic(auto, using(crate::proofs::Numbers::padded))]
     pub fn u32_at(self, i: usize) -> u32
         ensures { result ≡ field 4 i self.entry.bytes.now }
     {
@@ -39,6 +41,7 @@ impl<'a> Raw<'a> {
     }
 
     /// The number in the eight bytes at i.
+    #[tactic(auto, using(crate::proofs::Numbers::padded))]
     pub fn u64_at(self, i: usize) -> u64
         ensures { result ≡ field 8 i self.entry.bytes.now }
     {

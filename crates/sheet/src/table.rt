@@ -9,15 +9,15 @@ ghost use Rattle.sheet.specs.Handed.{table_at, as_table};
 use super::fields::Raw;
 use super::parts::Parts;
 use arrayvec::ArrayVec;
-use rules::{Entry, Words};
+use rules::{Entry, MOST_FAULTS, MOST_WAYS, Words};
 
 /// A cue's table: a weight for each fault, a present and an absent word for each way.
 /// No `Copy`, which the kit's `ArrayVec` does not have. Two lists for the ways, as C and a run take them.
 #[derive(Clone, Default, Drop)]
 pub struct TableArrays {
-    pub weights: ArrayVec<u32, 64>,
-    pub present: ArrayVec<u64, 128>,
-    pub absent: ArrayVec<u64, 128>,
+    pub weights: ArrayVec<u32, MOST_FAULTS>,
+    pub present: ArrayVec<u64, MOST_WAYS>,
+    pub absent: ArrayVec<u64, MOST_WAYS>,
 }
 
 impl TableArrays {
@@ -26,7 +26,7 @@ impl TableArrays {
         ensures { as_table self.new ≡ table (take 64 weights.entry) self.old.present.items self.old.absent.items }
     {
         self.weights.clear();
-        for weight in weights.take(64) {
+        for weight in weights.take(MOST_FAULTS) {
             self.weights.push(weight);
         }
     }
@@ -38,7 +38,7 @@ impl TableArrays {
     {
         self.present.clear();
         self.absent.clear();
-        for way in ways.take(128) {
+        for way in ways.take(MOST_WAYS) {
             self.present.push(way.present);
             self.absent.push(way.absent);
         }

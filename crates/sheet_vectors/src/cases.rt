@@ -1,5 +1,5 @@
 //! The sheet of RULES 11.7, 72 bytes: 3 faults, cue 7 with two ways and cue 9 with none; and the cases, which cut or change it.
-//! Rests on `writer`.
+//! Rests on `writer`. Values stand in figures, as RULES has them: a case does not take from the library what it tests.
 use rules::Limits;
 use writer::lists::Lists;
 use writer::write;

@@ -1,6 +1,6 @@
 //! A sheet of the longest kind: 64 faults, and 24 cues of 128 ways that share faults at random.
 //! The ways come from a xorshift generator, so that they are the same everywhere. Rests on `writer`.
-use rules::Limits;
+use rules::{Limits, MOST_CUES, MOST_FAULTS, MOST_WAYS};
 use std::alloc::{AllocError, Global};
 use std::iter::successors;
 use streams::LONGEST_SHEET;
@@ -8,10 +8,10 @@ use writer::lists::Lists;
 use writer::write;
 
 /// How many cues the sheet has.
-const CUES: u16 = 24;
+const CUES: u16 = MOST_CUES as u16;
 
 /// How many ways each cue has.
-const WAYS: u16 = 128;
+const WAYS: u16 = MOST_WAYS as u16;
 
 /// The next state of the generator.
 fn next(x: u64) -> u64 {
@@ -38,7 +38,9 @@ fn absent(x: u64) -> u64 {
 /// The sheet and one zero behind it. The weights are three thousandths for fault 0, and three more for each fault; each way has a state of
 /// the generator.
 pub fn longest(alloc: Global) -> Result<Vec<u8>, AllocError> {
-    let weights: Vec<u32> = (1..=64).map(|fault| 3000000 * fault).collect(alloc)?;
+    let weights: Vec<u32> = (1..=MOST_FAULTS as u32)
+        .map(|fault| 3000000 * fault)
+        .collect(alloc)?;
     let numbers: Vec<u16> = (1..=CUES).collect(alloc)?;
     let states: Vec<u64> = successors(Some(next(1)), |&x| Some(next(x)))
         .take(usize::from(CUES * WAYS))

@@ -18,6 +18,8 @@ use std::io::{BufWriter, Read, Write};
 use streams::only_for_memory;
 use table::Table;
 
+// The allocator and the output stand side by side here and in the other test programs: a struct of both would be made once and taken apart at each
+// call.
 /// Does what a line asks for and prints what it gives. The tree stands apart from where it is printed, since a call that is tried gets a copy.
 fn answer<W: Write>(
     table: &Table,

@@ -3,12 +3,12 @@
 use super::damage::Damage;
 use cue_numbers::numbers::kind_asked;
 use numbers::Numbers;
-use rules::{Kind, Limits};
+use rules::{Kind, Limits, MOST_STEPS};
 use std::alloc::AllocError;
 use std::io::Read;
 
 /// The most steps of a place in the input: more than a tree has levels.
-const STEPS: usize = 70;
+const STEPS: usize = MOST_STEPS + 6;
 
 /// A call on a tree: a hand refinement or a run.
 #[derive(Drop)]

@@ -8,15 +8,16 @@ use dtree::refining::refine;
 use dtree::runs::run;
 use numbers::Numbers;
 use records::Tree;
+use rules::{MOST_FAULTS, MOST_WAYS};
 use std::alloc::AllocError;
 use std::io;
 use std::io::{Read, Write};
 
 /// The most weights of a script: one more than a table may have.
-const WEIGHTS: usize = 65;
+const WEIGHTS: usize = MOST_FAULTS + 1;
 
 /// The most words of either kind: one more than a table may have.
-const WAYS: usize = 129;
+const WAYS: usize = MOST_WAYS + 1;
 
 /// A table as it is lent, good or not.
 #[derive(Drop)]

@@ -1,6 +1,6 @@
 -- Pieces written one behind the other, and what a loop has left to write.
 -- Rests on the library's laws of lists.
-use Rattle.std.proofs.Common.{◌≡◌, ℕ, List, [], ◌++◌, length, refl, sym, ap, ◌∙◌, append_assoc, append-nil, arith, length-append, length-drop}
+use Rattle.std.proofs.Common.{◌≡◌, ℕ, List, [], ◌++◌, length, refl, sym, ap, ◌∙◌, append_assoc, append-nil, arith, length-append, length-drop, drop}
 use Rattle.std.proofs.lemmas.List.{drop-drop}
 use Rattle.writer.specs.declared.output.Out.{Out}
 use Rattle.writer.specs.Pieces.{written, left, Room, Wrote}
@@ -32,24 +32,28 @@ wrote_none out = record { loan = refl; written = sym (append-nil (written out));
 
 -- ---- what is left to write
 
--- Of a piece to be written behind `start` only `rest` is left, behind `now`: there is room for it, and writing it completes the piece.
+-- Of a piece to be written behind `start` only `rest` is left, behind `now`: there is room for it, and once it is written the whole piece is.
 pub record Remains (start : Out) (whole : List ℕ) (now : Out) (rest : List ℕ) : Type 0 where
   pub room : Room now rest
-  pub completes : (end : Out) → Wrote now rest end → Wrote start whole end
+  pub loan : now.space.ghost_name ≡ start.space.ghost_name
+  pub written : written now ++ rest ≡ written start ++ whole
+  pub left : drop (length rest) (left now) ≡ drop (length whole) (left start)
 
 -- At first, all of it.
 pub remains_all : (start : Out) (whole rest : List ℕ) → Room start whole → rest ≡ whole → Remains start whole start rest
-remains_all start whole rest room e = rw e (record { room = room; completes = λ end w. w })
+remains_all start whole rest room e = rw e (record { room = room; loan = refl; written = refl; left = refl })
 
-module _ {start now : Out} {whole rest p : List ℕ} (q : List ℕ) (r : Remains start whole now rest) (e : rest ≡ p ++ q) where
-  -- There is room for the next piece of it.
-  pub next_room : Room now p
-  next_room = room_first q (rw e at r.room)
-
-  -- Once that is written, only the others are left.
-  pub next_written : {next : Out} → Wrote now p next → Remains start whole next q
-  next_written w = record { room = room_second q w (rw e at r.room); completes = λ end v. r.completes end (rw e (wrote_both q w v)) }
+-- Once the next piece of it is written, only the others are left.
+pub next_written : {start now next : Out} {whole rest p : List ℕ} (q : List ℕ) → Remains start whole now rest → rest ≡ p ++ q → Wrote now p next
+    → Remains start whole next q
+next_written {now = now} {p = p} q r e w =
+    record {
+      room = room_second q w (rw e at r.room);
+      loan = w.loan ∙ r.loan;
+      written = rw w.written (append_assoc (written now) p q) ∙ (rw e at r.written);
+      left = rw w.left (drop-drop (length q) (length p) (left now)) ∙ ap (λ n. drop n (left now)) (sym (length-append p q)) ∙ (rw e at r.left);
+    }
 
 -- Nothing is left: the piece is written.
 pub remains_none : {start now : Out} {whole rest : List ℕ} → Remains start whole now rest → rest ≡ [] → Wrote start whole now
-remains_none {start} {now} {whole} {rest} r e = r.completes now (rw e (wrote_none now))
+remains_none {start} {now} {whole} {rest} r e = record { loan = r.loan; written = sym (append-nil (written now)) ∙ (rw e at r.written); left = rw e at r.left }

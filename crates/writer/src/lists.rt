@@ -5,7 +5,7 @@ ghost use Rattle.writer.specs.Given.{given, Short};
 use rules::Limits;
 
 /// The limits of the runs, the weight of each fault, the number and the count of ways of each cue, and the two words of each way.
-/// As C hands them over: two lists for the cues, and two for the ways.
+/// As C hands them over: two lists for the cues, and two for the ways. Who fills them keeps them so.
 #[derive(Clone, Copy)]
 pub struct Lists<'a> {
     pub limits: Limits,

@@ -9,6 +9,7 @@ ghost use Rattle.writer.specs.Pieces.{Room, Wrote};
 
 use super::lists::{Accepted, Lists};
 use super::output::Out;
+use rules::Words;
 
 /// An entry of the contents: the number of a cue, the count of its ways, where its body starts.
 fn put_entry(out: &mut Out, number: u16, count: u16, start: usize)
@@ -21,12 +22,12 @@ fn put_entry(out: &mut Out, number: u16, count: u16, start: usize)
 }
 
 /// One way: its present word, its absent word.
-fn put_way(out: &mut Out, present: u64, absent: u64)
-    requires { Room out.old (little 8 present ++ little 8 absent) }
-    ensures { Wrote out.old (little 8 present ++ little 8 absent) out.new }
+fn put_way(out: &mut Out, way: Words)
+    requires { Room out.old (little 8 way.present ++ little 8 way.absent) }
+    ensures { Wrote out.old (little 8 way.present ++ little 8 way.absent) out.new }
 {
-    out.put_little::<8>(present);
-    out.put_little::<8>(absent);
+    out.put_little::<8>(way.present);
+    out.put_little::<8>(way.absent);
 }
 
 impl Lists<'_> {
@@ -44,6 +45,7 @@ impl Lists<'_> {
     }
 
     /// The weights.
+    #[tactic(auto, unfolding(rules::specs::Sheet::weights_bytes))]
     fn put_weights(&self, out: &mut Out)
         requires { Room out.old (weights_part (given self.now)) }
         ensures { Wrote out.old (weights_part (given self.now)) out.new }
@@ -54,12 +56,13 @@ impl Lists<'_> {
     }
 
     /// The bodies, which without gaps are one body of all the words.
+    #[tactic(auto, unfolding(rules::specs::Sheet::body_bytes))]
     fn put_bodies(&self, out: &mut Out)
         requires { Room out.old (bodies_part (given self.now)) }
         ensures { Wrote out.old (bodies_part (given self.now)) out.new }
     {
-        for (present, absent) in self.present.iter().zip(self.absent) {
-            put_way(out, *present, *absent);
+        for (&present, &absent) in self.present.iter().zip(self.absent) {
+            put_way(out, Words { present, absent });
         }
     }
 }
@@ -75,6 +78,7 @@ impl Accepted<'_> {
     }
 
     /// The contents: an entry for each cue, whose bodies start behind the weights.
+    #[tactic(auto, unfolding(rules::proofs::Laid::entries, rules::specs::Sheet::starts, rules::specs::Sheet::total))]
     fn put_contents(&self, out: &mut Out)
         requires { Room out.old (contents_part (given self.now.lists)) }
         ensures { Wrote out.old (contents_part (given self.now.lists)) out.new }

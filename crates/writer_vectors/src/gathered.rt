@@ -1,8 +1,8 @@
 //! The lists that a sheet is written from, gathered from the input or from a sheet that is read back.
 //! Rests on `writer` and `sheet`.
-use super::lines::{FAULTS, WAYS, print_cue, print_head};
+use super::lines::{print_cue, print_head};
 use numbers::Numbers;
-use rules::{Entry, Limits, Refusal};
+use rules::{Entry, Limits, MOST_CUES, MOST_FAULTS, MOST_WAYS, Refusal};
 use sheet::accepted::Sheet;
 use std::alloc::{AllocError, Global};
 use std::io;
@@ -10,13 +10,10 @@ use std::io::{Read, Write};
 use writer::lists::Lists;
 use writer::write;
 
-/// The most cues of a sheet.
-const CUES: usize = 24;
-
 /// The most ways of all cues together.
-const ALL_WAYS: usize = WAYS * CUES;
+const ALL_WAYS: usize = MOST_CUES * MOST_WAYS;
 
-/// The lists and the limits of a sheet, good or not.
+/// The lists and the limits of a sheet, good or not. Two lists for the cues and two for the ways, as the writer takes them.
 #[derive(Drop)]
 pub struct Gathered {
     weights: Vec<u32>,
@@ -30,9 +27,9 @@ pub struct Gathered {
 impl Gathered {
     /// Reads a case's lists: the length of each, the lists, and the limits. Each may be one longer than a sheet's.
     pub fn read<R: Read + Drop>(input: &mut Numbers<R>) -> Result<Self, AllocError> {
-        let faults = input.list_length(FAULTS + 1);
-        let cues = input.list_length(CUES + 1);
-        let counted = input.list_length(CUES + 1);
+        let faults = input.list_length(MOST_FAULTS + 1);
+        let cues = input.list_length(MOST_CUES + 1);
+        let counted = input.list_length(MOST_CUES + 1);
         let presents = input.list_length(ALL_WAYS + 1);
         let absents = input.list_length(ALL_WAYS + 1);
         Ok(Gathered {

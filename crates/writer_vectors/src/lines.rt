@@ -1,14 +1,8 @@
 //! Printed lines: numbers, and a hash for what is too long to print. Rests on the answers of `rules`.
-use rules::{Entry, Head, Refusal};
+use rules::{Entry, Head, MOST_FAULTS, MOST_WAYS, Refusal};
 use std::io;
 use std::io::Write;
 use std::iter::repeat;
-
-/// The most faults of a sheet.
-pub const FAULTS: usize = 64;
-
-/// The most ways of a cue.
-pub const WAYS: usize = 128;
 
 /// The prime of the hash.
 const PRIME: u64 = 1000000007;
@@ -38,7 +32,7 @@ pub fn print_head<W: Write>(head: Head, weights: &[u32], out: &mut W) -> io::Res
     writeln!(
         out,
         "head {faults} {cues} {allowance} {budget} {}",
-        hash(weights, FAULTS)
+        hash(weights, MOST_FAULTS)
     )
 }
 
@@ -53,8 +47,8 @@ pub fn print_cue<W: Write>(
     writeln!(
         out,
         "cue {cue} {ways} {start} {} {}",
-        hash(present, WAYS),
-        hash(absent, WAYS)
+        hash(present, MOST_WAYS),
+        hash(absent, MOST_WAYS)
     )
 }
 
@@ -64,6 +58,7 @@ pub fn print_written<W: Write>(
     space: &[u8],
     out: &mut W,
 ) -> io::Result<()> {
+    // By hand: `CueAnswer` would bring in the whole C interface for one line.
     let (number, count) = match answer {
         Ok(count) => (0, count),
         Err(refusal) => (u64::from(refusal), 0),

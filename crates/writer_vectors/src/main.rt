@@ -13,13 +13,13 @@ use sheet::accepted::Sheet;
 use std::alloc::Global;
 use std::io;
 use std::io::{BufWriter, Read, Write};
-use streams::only_for_memory;
+use streams::{LONGEST_SHEET, only_for_memory};
 
 /// The most bytes of a case's name.
 const NAME: usize = 80;
 
 /// The length of a space: a little more than that of the longest sheet.
-const SPACE: usize = 49620;
+const SPACE: usize = LONGEST_SHEET + 8;
 
 /// What each byte of a space is before anything is written.
 const BLANK: u8 = 170;

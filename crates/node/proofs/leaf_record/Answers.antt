@@ -43,13 +43,10 @@ all-fields : (ws : List ℕ) (vs : List Way) (up-link : ℕ) (g : Gone) (m a b l
 unfolding kind_code fault_code live_code end
 all-fields ws vs up-link g m a b lo hi e h l f k = rw (e, h, l, f, k, mark (is_open ws vs))
 
-pub returns : goal.returns
+pub returns-clause-value : goal.returns-clause-value
 unfolding ends_of
-returns c = let a = c.args in
+returns-clause-value c = let a = c.args in
     let e = c.ends-e.ensures in
-    let l : a.c.numbers.low < 2 ^ 64 = search rules in (
-      all-fields _ _ _ _ _ _ _ _ _ (c.from.ensures ∙ ap (λ (x : Ends). from_bool x.«open») e) (sym (low_back a.c l)) (sym (high_back a.c))
-          (c.low.view_is ∙ ap (λ (x : Ends). x.low) e) (c.high.view_is ∙ ap (λ (x : Ends). x.high) e),
-      c.low.invariant,
-      c.high.invariant,
-    )
+    let l : a.c.numbers.low < 2 ^ 64 = search rules in
+    all-fields _ _ _ _ _ _ _ _ _ (c.from.ensures ∙ ap (λ (x : Ends). from_bool x.«open») e) (sym (low_back a.c l)) (sym (high_back a.c))
+    (c.low.view_is ∙ ap (λ (x : Ends). x.low) e) (c.high.view_is ∙ ap (λ (x : Ends). x.high) e)

@@ -2,7 +2,6 @@
 -- Rests on Naming.antt and on `writer`, Over.
 use Rattle.std.proofs.Common.{◌<◌}
 use Rattle.std.specs.List.{AllByRecursion}
-use Rattle.chances.specs.Bits.{set_bits}
 use Rattle.writer.proofs.Over.{Remains}
 use Rattle.csv_export.specs.Parts.{faults_text}
 use Rattle.csv_export.proofs.Naming.{places_text}
@@ -10,8 +9,7 @@ use Rattle.csv_export.proofs.pieces.put_faults.Given as goal
 
 abbrev pub invariant-loop-place : goal.invariant-loop-place
 invariant-loop-place l =
-    let places = set_bits l.place-iterator.word in
     record {
-      below : AllByRecursion (λ i. i < 64) places;
-      remains : Remains l.initial.out (faults_text l.way) l.out (places_text l.way.absent places);
+      below : AllByRecursion (λ i. i < 64) l.place-iterator;
+      remains : Remains l.initial.out (faults_text l.way) l.out (places_text l.way.absent l.place-iterator);
     }

@@ -25,4 +25,4 @@ pub returns : goal.returns
 unfolding ways root_ways
 returns c =
     let w = c.staying_rows.ensures in
-    from-ways (table_of c.args.table) _ _ _ _ c.from.ensures (rw (c.rows.ensures.present, c.rows.ensures.absent) at w.ways_are) w.gone_is c.leaf_record.ensures.0
+    from-ways (table_of c.args.table) _ _ _ _ c.from.ensures (rw (c.rows.ensures.present, c.rows.ensures.absent) at w.ways_are) w.gone_is c.leaf_record.ensures.value

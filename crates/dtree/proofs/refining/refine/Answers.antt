@@ -12,7 +12,6 @@ use Rattle.records.specs.Records.{bad, Good}
 use Rattle.records.specs.Growing.{grown_at}
 use Rattle.records.specs.declared.Tree.{Tree}
 use Rattle.records.proofs.Live.{lean-at}
-use Rattle.records.specs.Safe.{Safe}
 use Rattle.find.specs.Finds.{word_table, told, Refinable, Tells}
 use Rattle.find.proofs.ByHand.{tells_table}
 use Rattle.node.proofs.Words.{same_words}
@@ -91,14 +90,15 @@ grow-requires c =
       leaf_ways = same_words _ _ _ _ c.rows-rows.ensures.present c.rows-rows.ensures.absent _ _ c.ways_of-c.ensures;
       fault_fits = r.fault;
       safe = c.is_good-good.ensures.safe (passed-on _ _ c.test.ensures tt (search rules));
-      j_lt_tree_records = (r.inside, may-room t x is-good _ _ r.may);
+      inside = r.inside;
+      room = may-room t x is-good _ _ r.may;
       lean = lean-at t ok x is-good _;
     }
 
 -- What the contract says of the tree y that is left, by the table that was accepted.
 made_so : (t u : Table) → t ≡ u → Accepted t → (x : Tree) → Good t x → bad t x ≡ false → (bs : List ℕ) (k : Kind) (j : ℕ) → Refinable t x bs k j → (y : Tree)
-    → (y.nodes ≡ grown_at t x.nodes x.used j k) × (y.used ≡ x.used + 2) × Safe y.nodes → (f : Figures) → f ≡ root_figures y 1 → Refining u x bs k y (Ok f)
-made_so t u same ok x g b bs k j r y grown f e = rw (sym same, e) (refining t x bs k y _ (made t ok x g b bs k j r y grown.0 grown.1))
+    → y.nodes ≡ grown_at t x.nodes x.used j k → y.used ≡ x.used + 2 → (f : Figures) → f ≡ root_figures y 1 → Refining u x bs k y (Ok f)
+made_so t u same ok x g b bs k j r y grown more f e = rw (sym same, e) (refining t x bs k y _ (made t ok x g b bs k j r y grown more))
 
 pub returns : goal.returns
 returns c =
@@ -107,4 +107,4 @@ returns c =
     let is-good = good _ x _ c.is_good-good.ensures.answer (passed-on _ _ c.test.ensures tt (search rules)) in
     let is-not-bad = not-bad _ x _ c.is_good-good.ensures.answer (passed-on _ _ c.test.ensures tt (search rules)) in
     let found = leaf-found (table_of c.in_ok-table.table) _ _ c.rows-rows.ensures.present c.rows-rows.ensures.absent _ _ _ _ c.leaf_at.ensures c.in_ok-leaf.leaf (search rules) in
-    record { promise = made_so _ _ c.in_ok-table.ensures.same ok x is-good is-not-bad _ _ _ found _ c.grow.ensures _ c.figures.ensures }
+    record { promise = made_so _ _ c.in_ok-table.ensures.same ok x is-good is-not-bad _ _ _ found _ c.grow.ensures.grown c.grow.ensures.two_more _ c.figures.ensures }

@@ -22,7 +22,7 @@ returns-then-not-is_live c = closed _ _ _ _ (sym c.is_live.ensures ∙ c.if-not-
 pub returns-then-not-may : goal.returns-then-not-may
 returns-then-not-may c =
     let w = same_words _ _ _ _ c.rows.ensures.present c.rows.ensures.absent _ _ c.ways_of-c.ensures in
-    let told = c.possible-may.ensures.0 ∙ ap (possible c.kind-kind.result) (w c.args.table.weights.now).ways_are in
+    let told = c.possible-may.ensures.answer ∙ ap (possible c.kind-kind.result) (w c.args.table.weights.now).ways_are in
     impossible (table_of c.args.table) c.args.told.now c.args.again.now _ _ c.kind-kind.ensures _ told c.if-not-may.true
 
 -- The leaf's record is in the tree, and there is room behind those in use.
@@ -33,16 +33,17 @@ grow-requires c =
     let room = some-left y (sym c.is_full.ensures ∙ c.if-is_full.false) in
     record {
       leaf_ways = same_words _ _ _ _ c.rows.ensures.present c.rows.ensures.absent _ _ c.ways_of-c.ensures;
-      fault_fits = c.possible-may.ensures.1 c.if-not-may.false;
+      fault_fits = c.possible-may.ensures.fits c.if-not-may.false;
       safe = good_safe t c.args.table.accepted y c.requires;
-      j_lt_tree_records = (omega (arith, room, c.if-next-j.false), odd-room t y c.requires room);
+      inside = omega (arith, room, c.if-next-j.false);
+      room = odd-room t y c.requires room;
       lean = lean-at t c.args.table.accepted y c.requires _;
     }
 
 pub returns : goal.returns
 returns c =
     let w = same_words _ _ _ _ c.rows.ensures.present c.rows.ensures.absent _ _ c.ways_of-c.ensures in
-    let told = c.possible-may.ensures.0 ∙ ap (possible c.kind-kind.result) (w c.args.table.weights.now).ways_are in
+    let told = c.possible-may.ensures.answer ∙ ap (possible c.kind-kind.result) (w c.args.table.weights.now).ways_are in
     can (table_of c.args.table) c.args.told.now c.args.again.now _ _ c.kind-kind.ensures _ told
     c.if-not-may.false (sym c.is_full.ensures ∙ c.if-is_full.false) c.if-next-j.false
-    (sym c.is_live.ensures ∙ c.if-not-is_live.false) c.args.table.accepted c.requires c.grow.ensures.0 c.grow.ensures.1
+    (sym c.is_live.ensures ∙ c.if-not-is_live.false) c.args.table.accepted c.requires c.grow.ensures.grown c.grow.ensures.two_more

@@ -1,6 +1,6 @@
 -- `names` meets its contract: no word has a bit from 64 on.
 -- Rests on the contracts of `faults` and `has`, and on the laws of bits (`rules`, Bits).
-use mathlib.Core.Path.{◌≡◌, sym, ap, ◌∙◌}
+use mathlib.Core.Path.{◌≡◌, sym, ◌∙◌}
 use mathlib.Core.Bool.{true, true≢false}
 use Prim.Native.Nat.{ℕ, ◌^◌, ◌<◌}
 use native.Mathlib.Decide.{dec_lt}
@@ -18,7 +18,5 @@ below f w h t = by (dec_lt f 64)
     by (yes g) = g
     by (no g) = absurd (true≢false (sym t ∙ bit_high 64 f w (omega arith) h))
 
-pub returns : goal.returns
-returns c =
-    let w = c.faults.result in
-    (c.has.ensures ∙ ap (bit c.args.f) c.faults.ensures, λ t. below c.args.f w (search rules) (sym c.has.ensures ∙ t))
+pub returns-clause-fits : goal.returns-clause-fits
+returns-clause-fits c = λ t. below c.args.f c.faults.result (search rules) (sym c.has.ensures ∙ t)

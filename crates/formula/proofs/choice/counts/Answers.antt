@@ -1,13 +1,13 @@
 -- `counts` meets its contract. The loop's invariant: each count, with that of the ways to come, makes the whole.
 -- Rests on Counted.antt, and on `clauses`, Leaf.
 use mathlib.Core.Path.{ap, ◌∙◌}
-use Rattle.clauses.specs.Leaves.{ways_of}
+use Rattle.clauses.specs.Leaves.{ways_of, left_of}
 use Rattle.clauses.proofs.Leaf.{few}
 use Rattle.formula.proofs.Counted.{none_counted, small, one_counted, all_counted}
 use Rattle.formula.proofs.choice.counts.Goals as goal
 
 pub loop-v-init : goal.loop-v-init
-loop-v-init c = none_counted (ways_of c.args.c) _ (ap (λ w. ways_of w.left) c.into_iter-v-iterator.ensures.into_iter_gives ∙ ap ways_of c.ways-v-items.ensures)
+loop-v-init c = none_counted (ways_of c.args.c) _ (ap left_of c.into_iter-v-iterator.ensures.into_iter_gives ∙ c.ways-v-items.ensures)
 
 pub count_faults-requires : goal.count_faults-requires
 count_faults-requires c = small (ways_of c.args.c) _ c.loop-v.counts c.loop-v.invariant (few c.args.c)

@@ -82,15 +82,15 @@ module _ (c : Clauses) (v : Way) (vs : List Way) (first : ways_of c ≡ v ∷ vs
 
 pub returns-in_default : goal.returns-in_default
 returns-in_default c =
-    let z = sym (ap ways_of c.ways.ensures) ∙ c.in_default.ensures.steps.0 in
+    let z = sym c.ways.ensures ∙ c.in_default.ensures.steps.0 in
     record { on_left = none-part c.args.c z left; on_right = none-part c.args.c z right }
 
 pub alone-requires : goal.alone-requires
-alone-requires c = small c.args.c c.in-Some.v _ (sym (ap ways_of c.ways.ensures) ∙ c.in-Some.ensures.steps)
+alone-requires c = small c.args.c c.in-Some.v _ (sym c.ways.ensures ∙ c.in-Some.ensures.steps)
 
 pub returns : goal.returns
 returns c =
-    let e = sym (ap ways_of c.ways.ensures) ∙ c.in-Some.ensures.steps in
+    let e = sym c.ways.ensures ∙ c.in-Some.ensures.steps in
     record {
       on_left = left-part c.args.c c.in-Some.v _ e _ c.common_part-m.ensures c.alone.result _ _ c.alone.ensures c.faults_besides.ensures
           c.leaving_out-left.ensures;

@@ -1,10 +1,9 @@
 -- `other_ways` meets its contract. The loop's invariant: the word is within the group's faults and holds every way that is not outside.
 -- A sweep that changes the word makes it a larger number, so the sweeps end. Rests on Sweeping.antt and on the contracts of what it calls.
-use mathlib.Core.Path.{◌≡◌, sym, ap, ◌∙◌}
+use mathlib.Core.Path.{◌≡◌, sym, ◌∙◌}
 use Prim.Native.Nat.{ℕ, ◌-◌, ◌^◌, ◌≤◌, ◌<◌}
 use native.Mathlib.Omega.{arith}
 use borrow.Author.Rules.{rules}
-use Rattle.clauses.specs.Leaves.{ways_of}
 use Rattle.formula.proofs.Sweeping.{larger, started, wider, again, all_left}
 use Rattle.formula.proofs.group.other_ways.Goals as goal
 
@@ -14,7 +13,7 @@ less-room m n h e l = omega arith
 
 pub loop-word-init : goal.loop-word-init
 loop-word-init c =
-    started c.args.c c.in-Some.first _ (sym (ap ways_of c.ways.ensures) ∙ c.in-Some.ensures.steps) _ c.faults-word.ensures
+    started c.args.c c.in-Some.first _ (sym c.ways.ensures ∙ c.in-Some.ensures.steps) _ c.faults-word.ensures
 
 pub returns-then-s-word : goal.returns-then-s-word
 returns-then-s-word c =

@@ -6,15 +6,14 @@ use Rattle.grow.proofs.refine.branch_of.Goals as goal
 
 pub returns : goal.returns
 returns c = let a = c.args in
-    let n = c.refined-node.ensures in
     let parts = c.children-leaves.ensures in
-    let l = c.leaf_record-left.ensures.0 in
-    let r = c.leaf_record-right.ensures.0 in
+    let l = c.leaf_record-left.ensures.value in
+    let r = c.leaf_record-right.ensures.value in
     record {
-      node_is = n.0;
+      node_is = c.refined-node.ensures.value;
       left_is = as-child _ a.x.now a.c _ a.kind left a.j _ c.requires.gone parts.on_left l;
       right_is = as-child _ a.x.now a.c _ a.kind right a.j _ c.requires.gone parts.on_right r;
-      node_safe = n.1;
-      left_safe = safe-fresh _ _ _ _ _ c.requires.j_lt_tree_records.0 l;
-      right_safe = safe-fresh _ _ _ _ _ c.requires.j_lt_tree_records.0 r;
+      node_safe = c.refined-node.ensures.safe;
+      left_safe = safe-fresh _ _ _ _ _ c.requires.inside l;
+      right_safe = safe-fresh _ _ _ _ _ c.requires.inside r;
     }

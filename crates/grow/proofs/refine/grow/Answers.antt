@@ -1,6 +1,6 @@
 -- `grow` meets its contract: the three records are written as the definition says, and then raised.
 -- Rests on Leaves.antt and on the contracts of `branch_of` and `raise`.
-use Rattle.std.proofs.Common.{◌≡◌, sym, ap₂, ◌∙◌, subst, List, ℕ, ◌+◌}
+use Rattle.std.proofs.Common.{◌≡◌, sym, ap₂, ◌∙◌, subst, List, ℕ}
 use Rattle.rules.specs.Table.{Table}
 use Rattle.rules.specs.Leaf.{Lean}
 use Rattle.rules.specs.declared.Kind.{Kind}
@@ -32,12 +32,10 @@ module _ (t : Table) (u : Tree) (ws : List ℕ) (vs : List Way) (k : Kind) (j : 
       let m : Branched t.weights (record_in u.nodes j) vs k j u.used b = rw same at made in
       three_refined t u.nodes u.used j k vs e b.node b.left b.right m.node_is m.left_is m.right_is
 
-  -- And are raised, which gives w.
-  grown : vs ≡ record_ways t (record_in u.nodes j) → (w : Tree)
-      → (w.nodes ≡ raise ws 64 put j) × (w.used ≡ u.used + 2) × Safe w.nodes
-      → (w.nodes ≡ grown_at t u.nodes u.used j k) × (w.used ≡ u.used + 2) × Safe w.nodes
+  -- And are raised, which gives the records ns.
+  grown : vs ≡ record_ways t (record_in u.nodes j) → (ns : List Node) → ns ≡ raise ws 64 put j → ns ≡ grown_at t u.nodes u.used j k
   unfolding grown_at
-  grown e w r = (r.0 ∙ ap₂ (λ (ws : List ℕ) (xs : List Node). raise ws 64 xs j) same (here e), r.1, r.2)
+  grown e ns r = r ∙ ap₂ (λ (ws : List ℕ) (xs : List Node). raise ws 64 xs j) same (here e)
 
 pub branch_of-b-requires : goal.branch_of-b-requires
 branch_of-b-requires c =
@@ -46,8 +44,9 @@ branch_of-b-requires c =
       gone = leaf.gone_is;
       lean = subst Lean (sym leaf.ways_are) c.requires.lean;
       fault_fits = c.requires.fault_fits;
-      safe_node = c.requires.safe.each c.args.j;
-      j_lt_tree_records = c.requires.j_lt_tree_records;
+      safe = c.requires.safe.each c.args.j;
+      inside = c.requires.inside;
+      room = c.requires.room;
     }
 
 pub raise-requires : goal.raise-requires
@@ -55,10 +54,10 @@ raise-requires c =
     let a = c.args in
     record {
       safe = safe-put (table_of a.table) a.tree.now _ _ a.kind a.j _ c.from-weights.ensures c.branch_of-b.ensures c.requires.safe;
-      j_lt_tree_records = c.requires.j_lt_tree_records.0;
+      inside = c.requires.inside;
     }
 
-pub returns : goal.returns
-returns c =
+pub returns-clause-grown : goal.returns-clause-grown
+returns-clause-grown c =
     let a = c.args in
-    grown (table_of a.table) a.tree.now _ _ a.kind a.j _ c.from-weights.ensures c.branch_of-b.ensures (c.requires.leaf_ways a.table.weights.now).ways_are _ c.raise.ensures
+    grown (table_of a.table) a.tree.now _ _ a.kind a.j _ c.from-weights.ensures c.branch_of-b.ensures (c.requires.leaf_ways a.table.weights.now).ways_are _ c.raise.ensures.raised

@@ -3,11 +3,10 @@
 use mathlib.Core.Path.{◌≡◌}
 use Rattle.std.specs.List.{fold}
 use Rattle.rules.specs.Leaf.{chance}
-use Rattle.chances.specs.Bits.{set_bits}
 use Rattle.chances.proofs.Walk.{counted}
 use Rattle.chances.proofs.weights.Weights.chance.Given as goal
 
 abbrev pub invariant-loop-fault : goal.invariant-loop-fault
 invariant-loop-fault l =
-    fold (counted l.direction l.self.list.now l.way.present l.way.absent) l.chance (set_bits l.fault-iterator.word)
+    fold (counted l.direction l.self.list.now l.way.present l.way.absent) l.chance l.fault-iterator
     ≡ chance l.direction l.self.list.now l.way
