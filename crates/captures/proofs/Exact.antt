@@ -88,11 +88,7 @@ weight-told : (x : Fraction) → number_told (weight_answer x) ≡ weight_number
 unfolding weight_answer weight_number
 weight-told x = told (weight_refusals x) (weight_of x)
 
--- What a weight is divided from fits a word.
-pub weight-fits : (x : Fraction) → beyond x ≡ false → x.discarded * S + (x.judged - 1) < 18446744073709551616
-weight-fits x k = omega (arith, within-is x k)
-
--- So does the first product of a comparison.
+-- The first product of a comparison fits a word.
 pub product-fits : (x y : Fraction) → beyond x || beyond y ≡ false → x.discarded * y.judged < 18446744073709551616
 product-fits x y h =
     let both = or_split (beyond x) (beyond y) h in
@@ -100,7 +96,7 @@ product-fits x y h =
     let wy = within-is y both.1 in
     omega (arith, mul-le-mul (le_trans wx.discarded wx.judged) wy.judged)
 
--- And the other one.
+-- So does the other one.
 pub product-fits-turned : (x y : Fraction) → beyond x || beyond y ≡ false → y.discarded * x.judged < 18446744073709551616
 product-fits-turned x y h = product-fits y x (or_comm (beyond y) (beyond x) ∙ h)
 
@@ -210,7 +206,7 @@ compared x y = by (unjudged x || unjudged y) (beyond x || beyond y) refl refl
 -- ---- for the check's tactics
 
 -- A weight that is made.
-pub ruleset rounding = (judged-some, weight-fits, weight-bound, within-is)
+pub ruleset rounding = (judged-some, weight-bound, within-is)
 
 -- A comparison.
 pub ruleset comparing = (product-fits, product-fits-turned)

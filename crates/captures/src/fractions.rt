@@ -63,7 +63,7 @@ impl Fraction {
         requires within { beyond self ≡ false }
         ensures { result ≡ weight_of self }
     {
-        ((self.discarded * S + (self.judged - 1)) / self.judged) as u32
+        (self.discarded * S).div_ceil(self.judged) as u32
     }
 
     /// The weight of the fraction: in billionths, rounded up.

@@ -1,6 +1,6 @@
 //! The weights of a table's faults, and the low or the high chance of a way. Rests on the definitions of `rules`, Leaf.
 //! The walk visits only the faults that the way names, so that its cost follows their number.
-ghost use Rattle.std.specs.Prelude.{◌≡◌, false, get_or};
+ghost use Rattle.std.specs.Prelude.{◌≡◌, false, get_or, slice_get};
 ghost use Rattle.rules.specs.Leaf;
 ghost use Rattle.rules.specs.Refusals.{overweight};
 
@@ -31,14 +31,21 @@ fn step(c: Chance, weight: Chance, present: bool, absent: bool, direction: Direc
 }
 
 impl<'a> Weights<'a> {
-    /// The weight of a fault. A fault beyond the last has none, which counts as 0.
+    /// The weight of a fault, where it has one: a fault beyond the last has none.
+    fn get(self, fault: usize) -> Option<Chance>
+        ensures { result ≡ slice_get self.entry.list.now fault }
+    {
+        let &weight = self.list.get(fault)?;
+        Some(Chance {
+            billionths: u64::from(weight),
+        })
+    }
+
+    /// The weight of a fault, 0 where it has none.
     pub fn of(self, fault: usize) -> Chance
         ensures { result ≡ get_or self.entry.list.now fault 0 }
     {
-        let weight = self.list.get(fault).copied().unwrap_or(0);
-        Chance {
-            billionths: u64::from(weight),
-        }
+        self.get(fault).unwrap_or(Chance::NONE)
     }
 
     /// The chance of a way. Faults that have no weight do not count.
@@ -47,9 +54,7 @@ impl<'a> Weights<'a> {
     {
         let mut chance = Chance::CERTAIN;
         for fault in Bits::of(way.present | way.absent) {
-            // A fault beyond the last does not count, where `of` has 0 for it.
-            if fault < self.list.len() {
-                let weight = self.of(fault);
+            if let Some(weight) = self.get(fault) {
                 chance = step(
                     chance,
                     weight,

@@ -1,6 +1,6 @@
 -- A test of all rows of two lists, as tests of the lists: where 0 passes no test, what one list lacks changes nothing.
--- Rests on `rules`, Table and Refusals.
-use Rattle.std.proofs.Common.{◌≡◌, ℕ, suc, Bool, true, false, ◌||◌, not, eqb, leb, ◌^◌, List, [], ◌∷◌, refl, sym, ap, ◌∙◌, arith}
+-- Rests on `rules`, Table, Refusals and Booleans.
+use Rattle.std.proofs.Common.{◌≡◌, ℕ, suc, Bool, false, ◌||◌, not, eqb, leb, ◌^◌, List, [], ◌∷◌, refl, sym, ap, ◌∙◌, arith}
 use Rattle.std.proofs.Math.Nat.{one-le-pow}
 use Rattle.std.proofs.lemmas.Bool.{lt-leb}
 use Rattle.std.specs.Int.Bits.{bit_and, and_zero_l, and_zero_r}
@@ -8,21 +8,15 @@ use Rattle.std.specs.List.{list_any, zip}
 use Rattle.rules.specs.Table.{rows, absent_rows}
 use Rattle.rules.specs.Leaf.{any}
 use Rattle.rules.specs.Refusals.{names_beyond, names_both}
-
--- Two tests and what follows each, asked in another order.
-crossed : (s t x y : Bool) → (s || t) || (x || y) ≡ (s || x) || (t || y)
-crossed true t x y = refl
-crossed false true true y = refl
-crossed false true false y = refl
-crossed false false x y = refl
+use Rattle.rules.proofs.Booleans.{or-four}
 
 -- A row passes if one of its words does: one list has such a word, or the other.
 any_either : (t : ℕ → Bool) → t 0 ≡ false → (k : ℕ) (ps qs : List ℕ) → (list_any t ps || list_any t qs) ≡ any (λ v. t v.present || t v.absent) (rows k ps qs)
 unfolding any rows absent_rows
 any_either t none k [] [] = refl
 any_either t none k [] (q ∷ qs) = rw none (ap (λ b. t q || b) (any_either t none (suc k) [] qs))
-any_either t none k (p ∷ ps) [] = rw none (crossed (t p) (list_any t ps) false false ∙ ap (λ b. (t p || false) || b) (any_either t none (suc k) ps []))
-any_either t none k (p ∷ ps) (q ∷ qs) = crossed (t p) (list_any t ps) (t q) (list_any t qs) ∙ ap (λ b. (t p || t q) || b) (any_either t none (suc k) ps qs)
+any_either t none k (p ∷ ps) [] = rw none (or-four (t p) (list_any t ps) false false ∙ ap (λ b. (t p || false) || b) (any_either t none (suc k) ps []))
+any_either t none k (p ∷ ps) (q ∷ qs) = or-four (t p) (list_any t ps) (t q) (list_any t qs) ∙ ap (λ b. (t p || t q) || b) (any_either t none (suc k) ps qs)
 
 -- No pairs with nothing.
 zip_none : (ps : List ℕ) → zip {X = ℕ} ps [] ≡ []

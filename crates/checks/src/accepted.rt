@@ -23,7 +23,7 @@ pub struct Table<'a> {
 }
 
 impl<'a> Table<'a> {
-    // A method, no conversion: nothing is made, two of the three lists are lent on.
+    // A method: it promises of each list in a clause of its own, where `From` has one relation for both.
     /// The words of its ways.
     pub fn rows(self) -> Rows<'a>
         ensures present { result.present.now ≡ self.entry.present.now }

@@ -1,5 +1,6 @@
 //! Tests on the words of ways, one way by itself or those that two lists give. Rests on the definitions of `rules`, Table and Refusals.
-//! The lists may differ in length: a word that one of them lacks is 0, which names no fault, so each list is judged to its own end.
+//! The lists may differ in length: a word that one of them lacks is 0, which names no fault, so each list is judged to its own end. They come as two until
+//! they are judged: `Rows` are two of one length. What judges two slices stands once more in `sheet`, rows.rt, for the reason in lists.rt.
 ghost use Rattle.std.specs.Prelude.{◌≡◌, ◌||◌, ◌^◌, not, eqb, leb};
 ghost use Rattle.std.specs.Int.Bits.{bit_and};
 ghost use Rattle.std.specs.List.{list_any};

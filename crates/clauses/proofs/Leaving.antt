@@ -1,5 +1,5 @@
 -- What stays of a leaf's ways with one fault fixed, as the code finds it: the ways that lost the fault stay, and each leaves out what it subsumes of the
--- others. Rests on Narrowed.antt and Parts.antt, on `rules`, Minimal, and on `rules`, FixedLean, for why so few tests are enough.
+-- others. Rests on Held.antt, Narrowed.antt and Parts.antt, on `rules`, Minimal, and on `rules`, FixedLean, for why so few tests are enough.
 use mathlib.Core.Path.{◌≡◌, refl, sym, ap, ap₂, ◌∙◌}
 use mathlib.Core.Bool.{Bool, true, false, not, ◌&&◌, ◌||◌, true≢false}
 use mathlib.Core.List.Memᴰ
@@ -10,7 +10,7 @@ use Rattle.rules.specs.Members.{In}
 use Rattle.rules.specs.declared.Way.{Way}
 use Rattle.rules.specs.Leaf.{any, has_number, contradicted, dropped, remaining, sift, subsumes, redundant, minimal, Lean}
 use Rattle.rules.specs.Group.{touches, part}
-use Rattle.rules.proofs.Booleans.{or_cases, is_false}
+use Rattle.rules.proofs.Booleans.{or_cases, is_false, and-true, and-false}
 use Rattle.rules.proofs.Minimal.{subsumes-through}
 use Rattle.rules.proofs.FixedLean.{redundant-fixed, unnamed_free}
 use Rattle.clauses.specs.declared.staying.ByFault.{ByFault}
@@ -19,6 +19,7 @@ use Rattle.clauses.specs.declared.lost.Gone.{Gone}
 use Rattle.clauses.specs.declared.sets.Numbers.{Numbers}
 use Rattle.clauses.specs.Numbers.{is_in}
 use Rattle.clauses.specs.Leaves.{OneFault, gone_word, fix_more, ways_of, Becomes, Narrows, Divided}
+use Rattle.clauses.proofs.Held.{reworded}
 use Rattle.clauses.proofs.Leaf.{rising, numbers, number_in}
 use Rattle.clauses.proofs.Parts.{part-in, sift-same, sift-twice, part-number, remaining-is, touched-is, untouched-is, dropped-number}
 use Rattle.clauses.proofs.Narrowed.{narrowed, thinned, fixed_more}
@@ -87,16 +88,11 @@ staying-is p q one vs lean us is = over vs (λ v i. i)
 pub untouched : (c n o : Clauses) (m : ℕ) → ways_of n ≡ part true m (ways_of c) → Narrows c (sift (λ v. not (has_number (ways_of n) v.number)) (ways_of c)) o
     → Narrows c (part false m (ways_of c)) o
 untouched c n o m e h =
-    record {
-      present_is = h.present_is;
-      absent_is = h.absent_is;
-      gone_is = h.gone_is;
-      ways_are = h.ways_are
-          ∙ sift-same _ _ (ways_of c)
-          (λ v p. ap not (ap (λ (vs : List Way). has_number vs v.number) (e ∙ touched-is m (ways_of c))
-          ∙ part-number 0 (ways_of c) (rising c) (touches m) v p))
-          ∙ sym (untouched-is m (ways_of c));
-    }
+    reworded h refl
+    (sift-same _ _ (ways_of c)
+    (λ v p. ap not (ap (λ (vs : List Way). has_number vs v.number) (e ∙ touched-is m (ways_of c))
+    ∙ part-number 0 (ways_of c) (rising c) (touches m) v p))
+    ∙ sym (untouched-is m (ways_of c)))
 
 -- ---- the others that stay
 
@@ -153,11 +149,7 @@ module _ (o : Clauses) (s : List Way) where
   unfolding any
   all_told kept ws z k =
       sift-same _ _ (ways_of o)
-      (λ v p. all (is_in kept v.number) ∙ ap (λ (xs : List Way). is_in kept v.number && not (some-subsumes xs v)) (sym z) ∙ k.told v p)
-    where
-      all : (x : Bool) → x ≡ (x && true)
-      all true = refl
-      all false = refl
+      (λ v p. sym (and-true (is_in kept v.number)) ∙ ap (λ (xs : List Way). is_in kept v.number && not (some-subsumes xs v)) (sym z) ∙ k.told v p)
 
 -- ---- both together
 
@@ -243,8 +235,4 @@ module _ (c : Clauses) (p q : ℕ) (one : OneFault p q) (lean : Lean (ways_of c)
       where
         by : (b : Bool) {k : Bool} → (b ≡ true → k ≡ true) → b ≡ (k && b)
         by true h = sym (ap (λ (k : Bool). k && true) (h refl))
-        by false {k} h = none k
-          where
-            none : (k : Bool) → false ≡ (k && false)
-            none true = refl
-            none false = refl
+        by false {k} h = sym (and-false k)

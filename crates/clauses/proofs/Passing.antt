@@ -1,7 +1,7 @@
 -- The loop that keeps the ways of a leaf which pass a test: of all numbers those of ways that fail are taken out, one after the other.
 -- Rests on Leaf.antt and Parts.antt.
 use mathlib.Core.Path.{◌≡◌, refl, sym, ap, ◌∙◌, subst}
-use mathlib.Core.Bool.{Bool, true, false, not, ◌&&◌, ◌||◌, true≢false}
+use mathlib.Core.Bool.{Bool, true, false, not, ◌&&◌, ◌||◌, true≢false, or-false}
 use mathlib.Core.List.Memᴰ
 use mathlib.Core.List.{List, [], ◌∷◌}
 use Prim.Native.Nat.{ℕ}
@@ -77,8 +77,4 @@ module _ (c : Clauses) (f : Way → Bool) where
   pub ended : (kept : Numbers) (ws : List Way) → ws ≡ [] → Kept kept ws → sift (λ v. is_in kept v.number) (ways_of c) ≡ sift f (ways_of c)
   unfolding has_number
   ended kept ws z k =
-      sift-same _ f (ways_of c) (λ v p. k.told v p ∙ ap (λ (vs : List Way). f v || has_number vs v.number) z ∙ or-none (f v))
-    where
-      or-none : (x : Bool) → (x || false) ≡ x
-      or-none true = refl
-      or-none false = refl
+      sift-same _ f (ways_of c) (λ v p. k.told v p ∙ ap (λ (vs : List Way). f v || has_number vs v.number) z ∙ or-false (f v))

@@ -35,26 +35,27 @@ fn outdoes(u: Way, v: Way) -> bool
     subsumes(u, v) && (!subsumes(v, u) || u.number < v.number)
 }
 
+// Over the rows as they are. Tried over the ways of `whole`, by their numbers: the roots of a typical sheet in groups take 1.4 of the instructions.
+/// Some way of a table outdoes this one.
+fn outdone(rows: Rows<'_>, v: Way) -> bool
+    ensures { result ≡ Leaf.redundant (all_of rows.entry) v }
+{
+    rows.present.iter().zip(rows.absent).enumerate().any(|(number, (&present, &absent))| {
+        let u = Way {
+            number,
+            present,
+            absent,
+        };
+        outdoes(u, v)
+    })
+}
+
 impl<'a> Clauses<'a> {
-    /// What stays of a table's ways.
+    /// What stays of a table's ways: none that another one outdoes.
     pub fn staying_rows(rows: Rows<'a>) -> Clauses<'a>
         ensures { Of rows.entry none_gone (minimal (all_of rows.entry)) result }
     {
-        Clauses::whole(rows).minimal()
-    }
-
-    /// What stays of the ways: none that another one outdoes.
-    pub fn minimal(self) -> Clauses<'a>
-        ensures { Narrows self.entry (minimal (ways_of self.entry)) result }
-    {
-        self.keep(|v| !self.outdone(v))
-    }
-
-    /// Some way outdoes this one.
-    fn outdone(self, v: Way) -> bool
-        ensures { result ≡ Leaf.redundant (ways_of self.entry) v }
-    {
-        self.ways().any(|u| outdoes(u, v))
+        Clauses::whole(rows).keep(|v| !outdone(rows, v))
     }
 
     /// A way that each of the ways subsumes: it names what any of them names. A way, as the rules' `subsumes` takes two; its number does not count.
@@ -87,10 +88,13 @@ impl<'a> Clauses<'a> {
         }
     }
 
-    // Two words, as for `restrict` and in the rules' `remaining`; the one that is not 0 tells the sense: a flag beside one word would say the same.
+    // Two words, as for `restrict` and in the rules' `remaining`; the one that is not 0 tells the sense: a flag beside one word would say the same, and
+    // `Words` would be made for each call.
     // No type of lean ways: they are read back from records, and only the lent tree, which owns no fact, knows them lean.
+    // Inlined: both children are made one behind the other, and a call for each would write the same leaf and its division out twice.
     /// What stays of the ways with one fault fixed besides, present (p) or absent (q). A way that lost the fault stays. Of
     /// those that did not name it each is left out that such a way subsumes: none, where it does not even subsume their cover.
+    #[inline(always)]
     pub fn staying(self, d: ByFault<'a>, p: u64, q: u64) -> Clauses<'a>
         requires lean { Lean (ways_of self) }
         requires divided { Divided self (bit_or p q) d }

@@ -1,24 +1,23 @@
--- How long the parts of a text are: of a way by the bits of its words, of a record by its fields.
--- Rests on the library's counts of bits, on Faults.antt, Naming.antt and Records.antt.
+-- How long the parts of a text are: of pieces by each of them, of a way by the bits of its words, of a record by its fields.
+-- Rests on the library's counts of bits, on Faults.antt, Naming.antt and Records.antt, and on `rules`, Decimal.
 use Rattle.std.proofs.Common.{◌≡◌, ℕ, zero, suc, ◌+◌, ◌*◌, ◌/◌, ◌%◌, ◌^◌, ◌<◌, ◌≤◌, Bool, true, false, refl, ap, ◌∙◌, add-one, arith}
-use Rattle.std.proofs.Common.{List, [], ◌∷◌, ◌++◌, map, length, length-append}
+use Rattle.std.proofs.Common.{List, [], ◌∷◌, ◌++◌, map, flat_map, length, length-append}
 use Rattle.std.proofs.lemmas.Bool.{eqb-true, eqb-false}
-use Rattle.std.proofs.lemmas.Grind.{common_steps}
 use Rattle.std.proofs.Math.Nat.{pow-suc}
 use Rattle.std.specs.Int.Bits.{bit_or}
 use lib.Count.{ones, ones_step, ones-le}
 use Rattle.rules.specs.Table.{odd}
 use Rattle.rules.specs.declared.Limits.{Limits}
+use Rattle.rules.specs.Sheet.{total}
 use Rattle.rules.specs.Text.{bytes, decimal}
 use Rattle.rules.proofs.Decimal.{decimal-one}
 use Rattle.rules.specs.declared.Words.{Words}
-use Rattle.sheet.proofs.Stated.{length_parts}
 use Rattle.csv_text.specs.declared.Fault.{Fault}
 use Rattle.csv_text.specs.Texts.{fault_text, mark, faults_from, run_record, weights_record, further_fields}
 use Rattle.csv_export.specs.Parts.{faults_text, way_text, ended}
 use Rattle.csv_export.proofs.Faults.{decimal_two}
 use Rattle.csv_export.proofs.Naming.{some_way}
-use Rattle.csv_export.proofs.Records.{limits_bytes, fields_ended, weights_bytes, entry_alone, entry_ways}
+use Rattle.csv_export.proofs.Records.{limits_bytes, weights_bytes}
 
 -- The text of the faults among n places from i on.
 abbrev fields_from : ℕ → ℕ → ℕ → ℕ → List ℕ
@@ -110,10 +109,26 @@ limits_counted m =
     let word : List ℕ = 114 ∷ 117 ∷ 110 ∷ [] in
     omega (arith, ap length (limits_bytes m), length-append (word ++ a ++ b) (13 ∷ 10 ∷ []), length-append (word ++ a) b)
 
--- The weights: the word takes 7 bytes.
-pub weights_counted : (ws : List ℕ) → length (ended (weights_record ws)) ≡ 7 + length (fields_ended ws)
-unfolding bytes
-weights_counted ws = ap length (weights_bytes ws) ∙ omega arith
+-- A TEXT OF PIECES is as long as they are together.
+pub length_pieces : {A : Type 0} (f : A → List ℕ) (xs : List A) → total (map (λ x. length (f x)) xs) ≡ length (flat_map f xs)
+unfolding total
+length_pieces f [] = refl
+length_pieces f (x ∷ xs) = omega (arith, length_pieces f xs, length-append (f x) (flat_map f xs))
 
--- What the length of an entry's records rests on.
-pub ruleset measuring = (common_steps, entry_alone, entry_ways, way_length, length_parts)
+-- Fields behind another are each a comma and a number.
+fields_together : (ws : List ℕ) → further_fields (map decimal ws) ≡ flat_map (λ w. 44 ∷ decimal w) ws
+unfolding further_fields
+fields_together [] = refl
+fields_together (w ∷ ws) = ap (λ fs. 44 ∷ decimal w ++ fs) (fields_together ws)
+
+-- The weights: the word and the end take 9 bytes.
+pub weights_counted : (ws : List ℕ) → length (ended (weights_record ws)) ≡ 9 + total (map (λ w. length (44 ∷ decimal w)) ws)
+unfolding bytes
+weights_counted ws =
+    omega (
+      arith,
+      ap length (weights_bytes ws),
+      ap length (fields_together ws),
+      length_pieces (λ w. 44 ∷ decimal w) ws,
+      length-append (further_fields (map decimal ws)) (13 ∷ 10 ∷ []),
+    )

@@ -1,22 +1,20 @@
 -- In an accepted sheet every word names faults of the sheet alone, so that the faults which it names of 64 are those which it names of the sheet's:
 -- the text of the sheet is that of its parts.
--- Rests on `rules`, Accepted and CueTables, and on Entries.antt, Naming.antt and Records.antt.
+-- Rests on `rules`, Accepted, CueTables and WriterLists, and on Entries.antt, Naming.antt and Records.antt.
 use mathlib.Core.List.Memᴰ
-use Rattle.std.proofs.Common.{◌≡◌, ℕ, zero, suc, ◌/◌, ◌^◌, ◌<◌, ◌≤◌, true, false, ◌||◌, leb, refl, sym, ap, ap₂, ◌∙◌, arith}
+use Rattle.std.proofs.Common.{◌≡◌, ℕ, zero, suc, ◌/◌, ◌^◌, ◌<◌, ◌≤◌, true, false, refl, sym, ap, ap₂, ◌∙◌, arith}
 use Rattle.std.proofs.Common.{List, [], ◌∷◌, ◌++◌, map, length, flat_map, append_assoc}
-use Rattle.std.proofs.lemmas.Bool.{leb-false}
 use Rattle.std.proofs.Math.Nat.{pow-suc}
 use Rattle.rules.specs.Members.{In}
-use Rattle.rules.specs.Table.{odd, rows, ways}
-use Rattle.rules.specs.Leaf.{any}
-use Rattle.rules.specs.Refusals.{names_beyond, Accepted}
+use Rattle.rules.specs.Table.{odd, ways}
+use Rattle.rules.specs.Refusals.{Accepted}
 use Rattle.rules.specs.Sheet.{AllBelow, Cue, table_of, lists_in, sheet_of, read_number, decode}
 use Rattle.rules.specs.Text.{decimal}
 use Rattle.rules.specs.declared.Entry.{Entry}
 use Rattle.rules.proofs.Accepted.{paired_words, inside}
-use Rattle.rules.proofs.Booleans.{or_split}
 use Rattle.rules.proofs.CueTables.{read-cue-accepted}
 use Rattle.rules.proofs.Sheets.{within_decoded}
+use Rattle.rules.proofs.WriterLists.{words-below}
 use Rattle.sheet.specs.Reading.{entries_in}
 use Rattle.csv_text.specs.declared.Fault.{Fault}
 use Rattle.csv_text.specs.Texts.{mark, fault_text, faults_from, or_zero, way_record, way_records, or_alone, cue_records}
@@ -47,18 +45,6 @@ ways-same n c h (p ∷ ps) (q ∷ qs) hp hq =
     ap₂ (λ (fs : List Fault) (r : List (List (List ℕ))). (decimal c ∷ or_zero (map fault_text fs)) ∷ r)
     (beyond-none 0 n 64 p q h hp.0 hq.0) (ways-same n c h ps qs hp.1 hq.1)
 
--- Ways that name no fault beyond the first n have words below 2 ^ n.
-words-below : (n i : ℕ) (ps qs : List ℕ) → length ps ≡ length qs → names_beyond n (rows i ps qs) ≡ false → AllBelow (2 ^ n) ps × AllBelow (2 ^ n) qs
-unfolding names_beyond any rows
-words-below n i [] [] e h = (tt, tt)
-words-below n i [] (q ∷ qs) e h = absurd (omega arith)
-words-below n i (p ∷ ps) [] e h = absurd (omega arith)
-words-below n i (p ∷ ps) (q ∷ qs) e h =
-    let here = or_split (leb (2 ^ n) p || leb (2 ^ n) q) _ h in
-    let both = or_split (leb (2 ^ n) p) (leb (2 ^ n) q) here.0 in
-    let rest = words-below n (suc i) ps qs (omega arith) here.1 in
-    ((leb-false (2 ^ n) p both.0, rest.0), (leb-false (2 ^ n) q both.1, rest.1))
-
 -- The records of cues whose tables are accepted.
 cues-same : (ws : List ℕ) → length ws ≤ 64 → (cs : List Cue) → ((c : Cue) → In c cs → Accepted (table_of ws c))
     → cue_records (length ws) cs ≡ cue_records 64 cs
@@ -66,7 +52,7 @@ unfolding cue_records ways
 cues-same ws h [] ok = refl
 cues-same ws h (c ∷ cs) ok =
     let own = ok c (Memᴰ.head refl) in
-    let below = words-below (length ws) 0 c.present c.absent (paired_words (table_of ws c) own) (inside (table_of ws c) own) in
+    let below = words-below (length ws) 0 c.present c.absent (sym (paired_words (table_of ws c) own)) (inside (table_of ws c) own) in
     ap₂ (λ (r t : List (List (List ℕ))). or_alone c.number r ++ t)
     (ways-same (length ws) c.number h c.present c.absent below.0 below.1)
     (cues-same ws h cs (λ d m. ok d (Memᴰ.tail m)))

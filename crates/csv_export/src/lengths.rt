@@ -1,8 +1,6 @@
 //! How long the text of a sheet is, measured before anything is written. Each length comes with a bound, so that no sum can wrap.
 //! What measures a piece stands apart from what writes it, and no trait has both: a way is measured by counting the bits of its words and written
 //! fault by fault, and a trait would want a struct for each piece, to hold what writing it asks for. It would be no plainer.
-//! The three sums are loops. Tried as `map` and `sum`, for the weights, the shortest: the proof does not close, since what `sum` tells does not hand on
-//! the pieces' bounds.
 //! Rests on the definitions of Parts and on `csv_text`, Texts.
 ghost use Rattle.std.specs.Prelude.{◌≡◌, ◌∷◌, ◌+◌, ◌*◌, ◌≤◌, length};
 ghost use Rattle.rules.specs.Text.{decimal};
@@ -38,33 +36,32 @@ fn faults_length(way: Words) -> usize
 }
 
 /// The records of an entry.
-#[tactic(auto, using(crate::proofs::Measured::measuring))]
+#[tactic(auto, using(crate::proofs::Records::entry_alone, std::proofs::lemmas::Grind::common_steps))]
 fn entry_length(sheet: Sheet<'_>, entry: Entry) -> usize
     ensures value { result ≡ length (entry_text sheet.entry.bytes.now entry) }
     ensures most { result ≤ 470 * 65535 }
 {
+    // The digits of the cue and the end of the record.
     let ends = digits_of(u64::from(entry.cue)).len() + 2;
     if entry.ways == 0 {
         return ends;
     }
-    let mut sum = 0;
-    for way in sheet.raw().ways(entry) {
-        sum += ends + faults_length(way);
-    }
-    sum
+    sheet
+        .raw()
+        .ways(entry)
+        .map(|way| ends + faults_length(way))
+        .sum()
 }
 
 /// The records of all entries.
-#[tactic(auto, using(crate::proofs::Entries::few_entries))]
 fn entries_length(sheet: Sheet<'_>) -> usize
     ensures value { result ≡ length (entries_text sheet.entry.bytes.now) }
     ensures most { result ≤ 24 * (470 * 65535) }
 {
-    let mut sum = 0;
-    for entry in sheet.entries() {
-        sum += entry_length(sheet, entry);
-    }
-    sum
+    sheet
+        .entries()
+        .map(|entry| entry_length(sheet, entry))
+        .sum()
 }
 
 /// The limits, with the end of their record.
@@ -73,21 +70,19 @@ fn limits_length(limits: Limits) -> usize
     ensures value { result ≡ length (ended (run_record limits)) }
     ensures most { result ≤ 47 }
 {
+    // The word `run` and the end of the record take 5 bytes.
     5 + field_length(limits.allowance) + field_length(limits.budget)
 }
 
 /// The weights, with the end of their record.
-#[tactic(auto, using(crate::proofs::Measured::weights_counted), unfolding(csv_text::specs::Texts::further_fields))]
 fn weights_length(weights: Parts<'_, u32>) -> usize
     requires { length weights ≤ 64 }
     ensures value { result ≡ length (ended (weights_record weights.entry)) }
     ensures most { result ≤ 9 + 21 * 64 }
 {
-    let mut sum = 9;
-    for weight in weights {
-        sum += field_length(u64::from(weight));
-    }
-    sum
+    let fields: usize = weights.map(|weight| field_length(u64::from(weight))).sum();
+    // The word `weights` and the end of the record take 9 bytes.
+    9 + fields
 }
 
 /// The text.

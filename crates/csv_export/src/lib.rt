@@ -23,5 +23,6 @@ pub fn export(bytes: &[u8], space: &mut [u8]) -> Result<u64, Refusal>
     Refusal::NoRoom.test(space.len() < text_length(sheet))?;
     let mut out = Out::new(space);
     put_text(&mut out, sheet);
+    // A word, as the answers in C have it.
     Ok(out.len() as u64)
 }

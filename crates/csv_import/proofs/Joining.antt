@@ -176,7 +176,7 @@ present-joined (d ∷ []) c = split (eqb d.number c.number) refl
 present-joined (d ∷ e ∷ ds) c =
     ap (λ (l : List ℕ). d.present ++ l) (present-joined (e ∷ ds) c) ∙ sym (append_assoc d.present (present_of (e ∷ ds)) c.present)
 
--- So with absent words.
+-- So with absent words. One lemma over both would ask for three facts of each, and be as long.
 pub absent-joined : (cs : List Cue) (c : Cue) → absent_of (joined cs c) ≡ absent_of cs ++ c.absent
 unfolding joined attach absent_of
 absent-joined [] c = append-nil c.absent

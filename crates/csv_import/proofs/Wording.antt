@@ -1,8 +1,10 @@
 -- The words of one way more, behind those of the ways before it.
--- Rests on specs, Gather, and on `csv_rows`, Fronts.
+-- Rests on specs, Gather, on `csv_rows`, Fronts, and on the laws of tests (`rules`, Booleans, and the library).
 use Rattle.std.proofs.Common.{◌≡◌, refl, sym, ap, ap₂, ◌∙◌, ℕ, Bool, true, false, ◌||◌, if◌then◌else◌, ltb, List, [], ◌∷◌, ◌++◌, take, Option, Some, None}
+use mathlib.Core.Bool.{or-false, or-true, or_assoc}
 use Rattle.std.proofs.Math.Seq.{take-nil}
 use Rattle.rules.specs.Refusals.{some_above}
+use Rattle.rules.proofs.Booleans.{or-four}
 use Rattle.csv_rows.specs.declared.Named.TheVariants.{Near, Far}
 use Rattle.rules.specs.declared.Words.{Words}
 use Rattle.csv_rows.specs.Told.{named_by}
@@ -12,15 +14,11 @@ use Rattle.csv_import.specs.Gather.{wide_words, Worded}
 
 -- ---- words that are too wide
 
--- A number above a limit stands in the one list or in the other.
-above-append : (m : ℕ) (xs ys : List ℕ) → some_above m (xs ++ ys) ≡ some_above m xs || some_above m ys
+-- A number above a limit is one of the first, or the last.
+above-last : (m : ℕ) (xs : List ℕ) (y : ℕ) → some_above m (xs ++ y ∷ []) ≡ some_above m xs || ltb m y
 unfolding some_above
-above-append m [] ys = refl
-above-append m (x ∷ xs) ys = ap (λ (b : Bool). ltb m x || b) (above-append m xs ys) ∙ assoc (ltb m x) (some_above m xs) (some_above m ys)
-  where
-    assoc : (x y z : Bool) → x || (y || z) ≡ (x || y) || z
-    assoc true y z = refl
-    assoc false y z = refl
+above-last m [] y = or-false (ltb m y)
+above-last m (x ∷ xs) y = ap (λ (b : Bool). ltb m x || b) (above-last m xs y) ∙ sym (or_assoc (ltb m x) (some_above m xs) (ltb m y))
 
 -- A word is none of 64 bits.
 abbrev wide : ℕ → Bool
@@ -28,18 +26,9 @@ wide p = ltb 18446744073709551615 p
 
 -- Two words more: one of them is too wide, or one of those before.
 wide-more : (ps qs : List ℕ) (p q : ℕ) → wide_words (ps ++ p ∷ []) (qs ++ q ∷ []) ≡ wide_words ps qs || (wide p || wide q)
-unfolding wide_words some_above
+unfolding wide_words
 wide-more ps qs p q =
-    ap₂ (λ (x y : Bool). x || y) (above-append _ ps (p ∷ [])) (above-append _ qs (q ∷ []))
-    ∙ shuffle (some_above _ ps) (wide p) (some_above _ qs) (wide q)
-  where
-    shuffle : (a b c d : Bool) → (a || (b || false)) || (c || (d || false)) ≡ (a || c) || (b || d)
-    shuffle true b c d = refl
-    shuffle false true true d = refl
-    shuffle false true false d = refl
-    shuffle false false true d = refl
-    shuffle false false false true = refl
-    shuffle false false false false = refl
+    ap₂ (λ (x y : Bool). x || y) (above-last _ ps p) (above-last _ qs q) ∙ or-four (some_above _ ps) (wide p) (some_above _ qs) (wide q)
 
 -- ---- what two words name
 
@@ -88,8 +77,4 @@ module _ (ps qs : List ℕ) (p q : ℕ) where
 
   -- Of one with a far fault there are none.
   pub words-far : (o : Option Ways) → Worded ps qs o → Far ≡ named_by p q → Worded (ps ++ p ∷ []) (qs ++ q ∷ []) None
-  words-far o h e = wide-more ps qs p q ∙ ap (λ (b : Bool). wide_words ps qs || b) (far-words p q e) ∙ ends (wide_words ps qs)
-    where
-      ends : (b : Bool) → b || true ≡ true
-      ends true = refl
-      ends false = refl
+  words-far o h e = wide-more ps qs p q ∙ ap (λ (b : Bool). wide_words ps qs || b) (far-words p q e) ∙ or-true (wide_words ps qs)

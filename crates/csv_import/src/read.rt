@@ -40,12 +40,8 @@ impl Gathered {
     pub fn read(&mut self, text: &[u8]) -> Result<(), ImportError>
         ensures { Gathers [] self.old.rows → ReadsText text.now self.new result }
     {
-        let Some((limits, rest)) = run(text) else {
-            return Err(ImportError::Misread(1));
-        };
-        let Some((kept, rest)) = weights(rest) else {
-            return Err(ImportError::Misread(2));
-        };
+        let (limits, rest) = run(text).ok_or(ImportError::Misread(1))?;
+        let (kept, rest) = weights(rest).ok_or(ImportError::Misread(2))?;
         self.limits = limits;
         self.weights = kept.first;
         self.rows.read(rest)

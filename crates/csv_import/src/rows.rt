@@ -56,9 +56,7 @@ impl Rows {
         let mut record: u64 = 3;
         let mut rest = text;
         while !rest.is_empty() {
-            let Some((row, lines)) = row(rest) else {
-                return Err(ImportError::Misread(record));
-            };
+            let (row, lines) = row(rest).ok_or(ImportError::Misread(record))?;
             self.add(row, record)?;
             record += 1;
             rest = lines;

@@ -1,14 +1,16 @@
 -- The faults of a way collected in two words: what one fault more changes, and when some fault is named twice.
--- Rests on the laws of bits (`rules`, Bits).
-use Rattle.std.proofs.Common.{◌≡◌, refl, sym, ap, ap₂, ◌∙◌, Bool, true, false, ◌&&◌, ◌||◌, true≢false, List, [], ◌∷◌, ℕ, ◌*◌, ◌/◌, ◌%◌, ◌^◌, ◌<◌, ◌≤◌, eqb, ltb, lt-ltb, le-ltb, eqb-true, eq-eqb, arith}
+-- Rests on the laws of bits (`rules`, Bits) and of tests (`rules`, Booleans, and the library).
+use Rattle.std.proofs.Common.{◌≡◌, refl, sym, ap, ap₂, ◌∙◌, Bool, true, false, ◌&&◌, ◌||◌, true≢false, List, [], ◌∷◌, ℕ, ◌*◌, ◌/◌, ◌%◌, ◌^◌, ◌<◌, ◌≤◌, eqb}
+use Rattle.std.proofs.Common.{ltb, lt-ltb, le-ltb, eqb-true, arith}
+use mathlib.Core.Bool.{or-false, or-true, or_assoc}
 use Rattle.std.proofs.lemmas.Bool.{false≢true}
 use lib.Pow.{shl_exact}
 use native.Mathlib.Nat.{one-mul}
 use lib.Bits.{bit_and, bit_or}
 use Rattle.std.proofs.lemmas.Nat.{and_mask}
 use Rattle.rules.specs.Table.{bit}
-use Rattle.rules.proofs.Bits.{bit-shift, bit-or, bit-pow, bit-zero, bits-ext}
-use Rattle.rules.proofs.Booleans.{and-false, and-true, and_left, or_left, same_test}
+use Rattle.rules.proofs.Bits.{bit-shift, bit-or, bit-pow, bit-zero, or_assoc as bits_assoc}
+use Rattle.rules.proofs.Booleans.{and-false, and-true, and_left, or_left, eqb_swap}
 use Rattle.csv_text.specs.declared.Fault.{Fault}
 use Rattle.csv_text.specs.Shapes.{same_sense, among, repeats, word_of}
 use Rattle.rules.specs.declared.Words.{Words}
@@ -17,34 +19,12 @@ use Rattle.csv_rows.specs.Walks.{word_for, holds, with_bit, with_fault, twice, c
 
 -- ---- booleans
 
--- The laws of `or` that the library lacks.
-or_assoc : (x y z : Bool) → x || (y || z) ≡ (x || y) || z
-or_assoc true y z = refl
-or_assoc false y z = refl
-
--- Beside false, the other decides;
-pub or-false : (x : Bool) → x || false ≡ x
-or-false true = refl
-or-false false = refl
-
--- beside true, it does not matter.
-or-true : (x : Bool) → x || true ≡ true
-or-true true = refl
-or-true false = refl
-
--- Equality tested from either side.
-eqb-sym : (a b : ℕ) → eqb a b ≡ eqb b a
-eqb-sym a b = same_test (eqb a b) (eqb b a) (λ h. turned a b h) (λ h. turned b a h)
-  where
-    turned : (a b : ℕ) → eqb a b ≡ true → eqb b a ≡ true
-    turned a b h = eq-eqb b a (sym (eqb-true a b h))
-
 -- Two tests side by side, for n that holds where s does.
 shuffle : (n h s c a : Bool) → (s ≡ true → n ≡ true) → (n && (h || s)) || (c || a) ≡ ((n && h) || c) || (s || a)
 shuffle true true s c a e = refl
 shuffle true false true true a e = refl
 shuffle true false true false a e = refl
-shuffle true false false c a e = or_assoc c false a ∙ ap (λ (x : Bool). x || a) (or-false c)
+shuffle true false false c a e = sym (or_assoc c false a) ∙ ap (λ (x : Bool). x || a) (or-false c)
 shuffle false h true c a e = absurd (false≢true (e refl))
 shuffle false h false c a e = refl
 
@@ -58,11 +38,11 @@ alike f g = eqb f.place g.place && same_sense f.absent g.absent
 bit-more : (a b : Bool) (i k : ℕ) (w : Words) → bit k (word_for b (with_bit a (2 ^ i) w)) ≡ bit k (word_for b w) || (eqb i k && same_sense a b)
 unfolding with_bit same_sense
 bit-more true true i k w =
-    bit-or k w.absent (2 ^ i) ∙ ap (λ (x : Bool). bit k w.absent || x) (bit-pow k i ∙ eqb-sym k i ∙ sym (and-true (eqb i k)))
+    bit-or k w.absent (2 ^ i) ∙ ap (λ (x : Bool). bit k w.absent || x) (bit-pow k i ∙ eqb_swap k i ∙ sym (and-true (eqb i k)))
 bit-more true false i k w = sym (ap (λ (x : Bool). bit k w.present || x) (and-false (eqb i k)) ∙ or-false (bit k w.present))
 bit-more false true i k w = sym (ap (λ (x : Bool). bit k w.absent || x) (and-false (eqb i k)) ∙ or-false (bit k w.absent))
 bit-more false false i k w =
-    bit-or k w.present (2 ^ i) ∙ ap (λ (x : Bool). bit k w.present || x) (bit-pow k i ∙ eqb-sym k i ∙ sym (and-true (eqb i k)))
+    bit-or k w.present (2 ^ i) ∙ ap (λ (x : Bool). bit k w.present || x) (bit-pow k i ∙ eqb_swap k i ∙ sym (and-true (eqb i k)))
 
 module _ (s : Seen) (f : Fault) (near : ltb f.place 64 ≡ true) where
   -- A near fault is a bit more.
@@ -164,7 +144,7 @@ module _ (s : Seen) (f : Fault) (fs : List Fault) where
       split : (x : Bool) → ltb f.place 64 ≡ x → twice s f fs ≡ false → clash s (f ∷ fs) || repeats (f ∷ fs) ≡ clash (with_fault s f) fs || repeats fs
       split true e t =
           let h : holds s f ≡ false = rw (e, twice) at t in
-          rw (e, h, clash_near s f e fs) (or_assoc (clash s fs) (among f fs) (repeats fs))
+          rw (e, h, clash_near s f e fs) (sym (or_assoc (clash s fs) (among f fs) (repeats fs)))
       split false e t = let h : among f fs ≡ false = rw (e, twice) at t in rw (e, h, clash_far s f e fs)
 
   -- ---- far faults and words
@@ -183,21 +163,14 @@ pub far-before : (s : Seen) (f : Fault) → (with_fault s f).far ≡ false → s
 unfolding some_far
 far-before s f h = or_left s.far (some_far (f ∷ [])) (far_next s f [] ∙ rw h)
 
--- Bits of three words.
-bits-assoc : (x y z : ℕ) → bit_or x (bit_or y z) ≡ bit_or (bit_or x y) z
-bits-assoc x y z =
-    bits-ext _ _ (λ i.
-    bit-or i x (bit_or y z) ∙ ap (λ (b : Bool). bit i x || b) (bit-or i y z) ∙ or_assoc (bit i x) (bit i y) (bit i z)
-    ∙ sym (bit-or i (bit_or x y) z ∙ ap (λ (b : Bool). b || bit i z) (bit-or i x y)))
-
 -- The word of a sense with those to come.
 words_more : (a b : Bool) (m v : ℕ) (w : Words)
     → bit_or (word_for b w) (elim (same_sense b a) as (λ x. ℕ) [ true ↦ bit_or m v | false ↦ v ]) ≡ bit_or (word_for b (with_bit a m w)) v
 unfolding with_bit same_sense
-words_more true true m v w = bits-assoc w.absent m v
+words_more true true m v w = sym (bits_assoc w.absent m v)
 words_more true false m v w = refl
 words_more false true m v w = refl
-words_more false false m v w = bits-assoc w.present m v
+words_more false false m v w = sym (bits_assoc w.present m v)
 
 -- One fault of the walk.
 pub words-next : (b : Bool) (s : Seen) (f : Fault) (fs : List Fault) → (with_fault s f).far ≡ false

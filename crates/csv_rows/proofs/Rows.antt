@@ -1,6 +1,7 @@
 -- The record of a way, test by test: the empty way, the words of faults that are near or far, and the cue.
--- Rests on `csv_text`, Shapes, and on Reading.antt.
-use Rattle.std.proofs.Common.{◌≡◌, refl, sym, ap, ◌∙◌, Bool, true, false, not, ◌&&◌, ◌||◌, eqb, ltb, lt-ltb, le-ltb, ltb-true, eqb-true, if◌then◌else◌, List, [], ◌∷◌, map, ℕ, suc, ◌^◌, ◌<◌, ◌≤◌, zero-lt-suc, pow-suc, Option, Some, None, MatchOption, Bor, arith}
+-- Rests on `csv_text`, Shapes and Order, and on Reading.antt.
+use Rattle.std.proofs.Common.{◌≡◌, refl, sym, ap, ◌∙◌, Bool, true, false, not, ◌&&◌, ◌||◌, eqb, ltb, lt-ltb, le-ltb, ltb-true, eqb-true, if◌then◌else◌, List}
+use Rattle.std.proofs.Common.{[], ◌∷◌, map, ℕ, suc, ◌^◌, ◌<◌, ◌≤◌, zero-lt-suc, pow-suc, Option, Some, None, MatchOption, Bor, arith}
 use Rattle.std.proofs.lemmas.Bool.{false≢true, eqb-false, ltb-false}
 use native.Mathlib.Nat.{pow-le-pow_right, one-le-pow}
 use lib.Bits.{or_lt, or_add_and, and_le_r, and_le_l}
@@ -13,7 +14,9 @@ use Rattle.rules.proofs.Sheets.{same-equal}
 use Rattle.decimal.specs.Numerals.{is_numeral}
 use Rattle.csv_text.specs.Cut.{fields_in}
 use Rattle.csv_text.specs.declared.Fault.{Fault}
-use Rattle.csv_text.specs.Shapes.{signed, unsigned, is_fault, fault_in, all_faults, repeats, same_sense, word_of, is_empty_way, is_names, is_row, faults_named, row_in}
+use Rattle.csv_text.specs.Shapes.{signed, unsigned, is_fault, fault_in, all_faults, repeats, same_sense, word_of, is_empty_way, is_names, is_row}
+use Rattle.csv_text.specs.Shapes.{faults_named, row_in}
+use Rattle.csv_text.proofs.Order.{sense-itself}
 use Rattle.csv_rows.specs.declared.Named.{Named}
 use Rattle.csv_rows.specs.declared.Named.TheVariants.{Near, Far}
 use Rattle.csv_rows.specs.Scan.{first_line, next_lines}
@@ -119,14 +122,10 @@ word_fits b (f ∷ fs) h =
 
 -- A word is no less than the bit of its first fault.
 word-here : (f : Fault) (fs : List Fault) → 2 ^ f.place ≤ word_of f.absent (f ∷ fs)
-unfolding word_of same_sense
+unfolding word_of
 word-here f fs =
-    rw (self f.absent, word_of)
+    rw (sense-itself f.absent, word_of)
     (omega (arith, or_add_and (2 ^ f.place) (word_of f.absent fs), and_le_r (2 ^ f.place) (word_of f.absent fs)))
-  where
-    self : (b : Bool) → same_sense b b ≡ true
-    self true = refl
-    self false = refl
 
 -- And than the word of the faults behind the first.
 word-rest : (b : Bool) (f : Fault) (fs : List Fault) → word_of b fs ≤ word_of b (f ∷ fs)

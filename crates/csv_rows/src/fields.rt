@@ -14,6 +14,7 @@ pub enum Rest<'a> {
     Lines(&'a [u8]),
 }
 
+// A flag, as `Fault` (csv_text) has it, which is made of this.
 /// A number, perhaps behind a minus: what its digits say, and whether the minus is there.
 #[derive(Clone, Copy, PartialEq, Eq, Debug)]
 pub struct Signed {

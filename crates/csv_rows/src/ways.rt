@@ -59,7 +59,7 @@ impl Seen {
         }
     }
 
-    // `has` of `chances` would bring in a crate of weights for one line: no plainer.
+    // `has` of `chances` is the same of one word: a crate below both would have this line alone.
     /// A near fault is in the word of its sense.
     fn holds(&self, fault: Fault) -> bool
         requires { fault.place < 64 }

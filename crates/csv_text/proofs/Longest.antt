@@ -1,6 +1,6 @@
 -- The longest text of a sheet has 781,021 bytes (RULES 13.16): no text of a sheet within the limits is longer, and one is as long.
 -- 20 bytes for the run, 713 for 64 weights, and 254 for each of 24 times 128 ways that name 64 faults absent.
--- Rests on the definitions of Texts and on `rules`, Decimal and WithinLimits.
+-- Rests on the definitions of Texts, on the library's laws of sums and on `rules`, Decimal and WithinLimits.
 use mathlib.Core.Path.{◌≡◌, refl, ap, ◌∙◌}
 use mathlib.Core.Bool.{Bool, true, false, ◌&&◌, true≢false}
 use mathlib.Core.List.Memᴰ
@@ -10,6 +10,8 @@ use native.Mathlib.Nat.{mul-suc}
 use native.Mathlib.Omega.{arith}
 use lib.ListN.{length, replicate, length-append, length-replicate}
 use lib.Dec.{eqb}
+use Rattle.std.specs.List.{sum_by}
+use Rattle.std.proofs.lemmas.List.Sums.{sum_by-cons, sum_by-append}
 use borrow.Author.Tests.{eqb-true}
 use Rattle.rules.specs.Rounding.{S}
 use Rattle.rules.specs.declared.Way.{Way}
@@ -277,8 +279,16 @@ wordiest-fives : fives 10000 24 ≡ true
 unfolding fives decimal digits
 wordiest-fives = refl
 
--- Its first two records.
-wordiest-front : length (record_text (run_record (record { allowance = S; budget = 255 }))) + length (record_text (weights_record (replicate 64 S))) ≡ 729
+-- Its first record.
+abbrev run : List (List ℕ)
+run = run_record (record { allowance = S; budget = 255 })
+
+-- Its second.
+abbrev weights : List (List ℕ)
+weights = weights_record (replicate 64 S)
+
+-- The two have 729 bytes.
+wordiest-front : length (record_text run) + length (record_text weights) ≡ 729
 unfolding run_record weights_record record_text further_fields bytes decimal digits
 wordiest-front = refl
 
@@ -299,30 +309,12 @@ wordiest-length =
       wordiest-front,
       cues-exact 10000 24 wordiest-fives,
     )
-  where
-    run : List (List ℕ)
-    run = run_record (record { allowance = S; budget = 255 })
-
-    weights : List (List ℕ)
-    weights = weights_record (replicate 64 S)
 
 -- ---- its fields
 
 -- The number of fields of some records.
-unfoldable pub fields_of : List (List (List ℕ)) → ℕ
-fields_of [] = 0
-fields_of (r ∷ rs) = length r + fields_of rs
-
--- A record in front.
-fields-cons : (r : List (List ℕ)) (rs : List (List (List ℕ))) → fields_of (r ∷ rs) ≡ length r + fields_of rs
-unfolding fields_of
-fields-cons r rs = refl
-
--- Records one behind the other.
-fields-both : (rs ss : List (List (List ℕ))) → fields_of (rs ++ ss) ≡ fields_of rs + fields_of ss
-unfolding fields_of
-fields-both [] ss = omega arith
-fields-both (r ∷ rs) ss = omega (arith, fields-both rs ss)
+abbrev pub fields_of : List (List (List ℕ)) → ℕ
+fields_of rs = sum_by length rs
 
 -- A way that names 64 faults has 65.
 way-fields : (c : ℕ) → length (way_record 64 c 0 every) ≡ 65
@@ -331,25 +323,26 @@ way-fields c = refl
 
 -- So many of them.
 ways-fields : (k c : ℕ) → fields_of (way_records 64 c (replicate k 0) (replicate k every)) ≡ 65 * k
-unfolding way_records fields_of
+unfolding way_records
 ways-fields zero c = refl
-ways-fields (suc k) c = omega (arith, way-fields c, ways-fields k c)
+ways-fields (suc k) c =
+    omega (arith, sum_by-cons length (way_record 64 c 0 every) (way_records 64 c (replicate k 0) (replicate k every)), way-fields c, ways-fields k c)
 
 -- So many cues.
 cues-fields : (c k : ℕ) → fields_of (cue_records 64 (widest_from c k)) ≡ 8320 * k
-unfolding cue_records widest_from widest fields_of
+unfolding cue_records widest_from widest
 cues-fields c zero = refl
 cues-fields c (suc k) =
     omega (
       arith,
-      fields-both (or_alone c (way_records 64 c (replicate 128 0) (replicate 128 every))) (cue_records 64 (widest_from (suc c) k)),
+      sum_by-append length (or_alone c (way_records 64 c (replicate 128 0) (replicate 128 every))) (cue_records 64 (widest_from (suc c) k)),
       ap fields_of (some-ways c),
       ways-fields 128 c,
       cues-fields (suc c) k,
     )
 
 -- Its first two records have 68.
-front-fields : length (run_record (record { allowance = S; budget = 255 })) + length (weights_record (replicate 64 S)) ≡ 68
+front-fields : length run + length weights ≡ 68
 unfolding run_record weights_record
 front-fields = refl
 
@@ -360,17 +353,11 @@ wordiest-fields =
     ap (λ (n : ℕ). fields_of (run ∷ weights ∷ cue_records n (widest_from 10000 24))) (length-replicate 64 S)
     ∙ omega (
       arith,
-      fields-cons run (weights ∷ cue_records 64 (widest_from 10000 24)),
-      fields-cons weights (cue_records 64 (widest_from 10000 24)),
+      sum_by-cons length run (weights ∷ cue_records 64 (widest_from 10000 24)),
+      sum_by-cons length weights (cue_records 64 (widest_from 10000 24)),
       front-fields,
       cues-fields 10000 24,
     )
-  where
-    run : List (List ℕ)
-    run = run_record (record { allowance = S; budget = 255 })
-
-    weights : List (List ℕ)
-    weights = weights_record (replicate 64 S)
 
 -- A TEXT IS AS LONG, and has so many fields.
 pub csv-widest : (s : Sheet) × Within s × (length (csv_of s) ≡ 781021) × (fields_of (sheet_records s) ≡ 199748)

@@ -1,7 +1,7 @@
 -- Faults in any order within a record: it is a record of a way where the other is, and says the same way, so two texts that differ in the order alone
--- import alike (RULES 13.7). Rests on Written.antt and on `rules`, Bits.
+-- import alike (RULES 13.7). Rests on Written.antt, on the library's laws of tests and on `rules`, Bits and Booleans.
 use mathlib.Core.Path.{◌≡◌, refl, sym, ap, ap₂, ◌∙◌, subst}
-use mathlib.Core.Bool.{Bool, true, false, ◌&&◌, ◌||◌}
+use mathlib.Core.Bool.{Bool, true, false, ◌&&◌, ◌||◌, and_assoc, and_comm, or_assoc, or_comm}
 use mathlib.Core.List.{List, [], ◌∷◌, map, Permᴰ}
 use Rattle.std.specs.Prelude.{Option, Some, None}
 use Prim.Native.Nat.{ℕ, suc, ◌^◌}
@@ -9,49 +9,36 @@ use native.Mathlib.Omega.{arith}
 use lib.ListN.{length}
 use lib.Dec.{eqb}
 use lib.Bits.{bit_or}
-use Rattle.rules.specs.Table.{bit}
 use Rattle.rules.specs.Sheet.{Cue}
 use Rattle.rules.specs.Text.{decimal_value}
-use Rattle.rules.proofs.Bits.{bit-or, bits-ext}
-use Rattle.rules.proofs.Booleans.{eqb_swap}
+use Rattle.std.proofs.lemmas.Nat.{or_comm as bits_comm}
+use Rattle.rules.proofs.Bits.{or_assoc as bits_assoc}
+use Rattle.rules.proofs.Booleans.{or-four, eqb_swap}
 use Rattle.csv_text.specs.Cut.{records_in}
-use Rattle.csv_text.specs.Shapes.{Fault, is_fault, fault_in, all_faults, same_sense, among, repeats, word_of, is_empty_way, is_names, is_row, faults_named, row_in}
+use Rattle.csv_text.specs.Shapes.{Fault, is_fault, fault_in, all_faults, same_sense, among, repeats, word_of, is_empty_way, is_names, is_row, faults_named}
 use Rattle.csv_text.specs.Shapes.{is_run, is_weights, follows, misread_rows, misread_weights, misread_records, misread, limits_said, weights_said, grouped}
-use Rattle.csv_text.specs.Shapes.{sheet_said, sheet_in}
+use Rattle.csv_text.specs.Shapes.{row_in, sheet_said, sheet_in}
 use Rattle.csv_text.proofs.Written.{Pairwise, ImportAlike, import-alike}
 
 -- ---- tests and words in another order
 
 -- Two tests exchanged before a third.
 and-swap : (x y z : Bool) → x && (y && z) ≡ y && (x && z)
-and-swap true true z = refl
-and-swap true false z = refl
-and-swap false true z = refl
-and-swap false false z = refl
+and-swap x y z = sym (and_assoc x y z) ∙ ap (λ b. b && z) (and_comm x y) ∙ and_assoc y x z
 
 -- Likewise for one of them.
 or_swap : (x y z : Bool) → x || (y || z) ≡ y || (x || z)
-or_swap true true z = refl
-or_swap true false z = refl
-or_swap false true z = refl
-or_swap false false z = refl
-
--- The middle two of four tests exchanged.
-or-four : (s a b r : Bool) → (s || a) || (b || r) ≡ (s || b) || (a || r)
-or-four true a b r = refl
-or-four false true true r = refl
-or-four false true false r = refl
-or-four false false true r = refl
-or-four false false false r = refl
+or_swap x y z = sym (or_assoc x y z) ∙ ap (λ b. b || z) (or_comm x y) ∙ or_assoc y x z
 
 -- Two words exchanged before a third.
 bits-swap : (x y z : ℕ) → bit_or x (bit_or y z) ≡ bit_or y (bit_or x z)
-bits-swap x y z =
-    bits-ext _ _ (λ i.
-    bit-or i x (bit_or y z)
-    ∙ ap (λ (b : Bool). bit i x || b) (bit-or i y z)
-    ∙ or_swap (bit i x) (bit i y) (bit i z)
-    ∙ sym (bit-or i y (bit_or x z) ∙ ap (λ (b : Bool). bit i y || b) (bit-or i x z)))
+bits-swap x y z = sym (bits_assoc x y z) ∙ ap (λ n. bit_or n z) (bits_comm x y) ∙ bits_assoc y x z
+
+-- Every sense is the same as itself.
+pub sense-itself : (b : Bool) → same_sense b b ≡ true
+unfolding same_sense
+sense-itself true = refl
+sense-itself false = refl
 
 -- Being of the same sense goes both ways.
 sense-swap : (x y : Bool) → same_sense x y ≡ same_sense y x

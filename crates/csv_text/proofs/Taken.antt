@@ -1,6 +1,6 @@
 -- The longest text that import accepts has 1,180,517 bytes (RULES 13.16): no longer one is accepted, and one as long is. Every field is quoted: 26 bytes
 -- for the run, 843 for 64 weights, and 384 for each of 24 times 128 ways that name 64 faults absent.
--- Rests on Imports.antt for the sheet of an accepted text, on Longest.antt for the sheet of the longest, and on `rules`, Bits and Decimal.
+-- Rests on Imports.antt for the sheet of an accepted text, on Longest.antt for the sheet of the longest, on Order.antt, and on `rules`, Bits and Decimal.
 use mathlib.Core.Path.{◌≡◌, refl, sym, ap, ap₂, ◌∙◌}
 use mathlib.Core.Bool.{Bool, true, false, not, ◌&&◌, ◌||◌, true≢false}
 use mathlib.Core.List.Memᴰ
@@ -12,6 +12,7 @@ use native.Mathlib.Omega.{arith}
 use lib.ListN.{length, drop, get_or, length-append, length-take, length-drop, length-map}
 use lib.Dec.{eqb, ltb, leb}
 use borrow.Author.Tests.{ltb-true, leb-true, eqb-true, eq-eqb, ne_eqb, not-true}
+use Rattle.std.proofs.lemmas.List.Sums.{sum_by-cons}
 use Rattle.rules.specs.declared.Way.{Way}
 use Rattle.rules.specs.Table.{bit, rows, ways, faults}
 use Rattle.rules.specs.Members.{In}
@@ -25,13 +26,14 @@ use Rattle.rules.proofs.Sheets.{same-equal}
 use Rattle.decimal.specs.Numerals.{is_numeral}
 use Rattle.decimal.proofs.Numerals.{numeral-decimal}
 use Rattle.csv_text.specs.Cut.{onto, lines_in, raw_fields, quoted, unquoted, fields_in, records_in}
-use Rattle.csv_text.specs.Shapes.{Fault, all_numerals, is_run, limits_said, is_weights, weights_said, signed, unsigned, is_fault, fault_in, all_faults, same_sense}
+use Rattle.csv_text.specs.Shapes.{Fault, all_numerals, is_run, limits_said, is_weights, weights_said, signed, unsigned, is_fault, fault_in, all_faults}
 use Rattle.csv_text.specs.Shapes.{among, repeats, word_of, is_empty_way, is_names, is_row, faults_named, row_in, follows, misread_rows, misread_weights}
-use Rattle.csv_text.specs.Shapes.{misread_records, misread, attach, grouped, sheet_said, sheet_in}
+use Rattle.csv_text.specs.Shapes.{same_sense, misread_records, misread, attach, grouped, sheet_said, sheet_in}
 use Rattle.csv_text.specs.Texts.{sheet_records, further_fields, record_text, rendered, csv_of}
 use Rattle.csv_text.specs.Calls.{import_number}
 use Rattle.csv_text.proofs.Written.{Every, Pairwise, Clean, Plain, PlainRecord, Stands, StandTable, cut_by, lines_cut, quotes, plain-stands}
 use Rattle.csv_text.proofs.Written.{records-standing, import-same}
+use Rattle.csv_text.proofs.Order.{sense-itself}
 use Rattle.csv_text.proofs.First.{Joins, follows-joins}
 use Rattle.csv_text.proofs.Imports.{row-paired, not_misread, import_within}
 use Rattle.csv_text.proofs.Exports.{csv_plain, csv_records, csv_imported}
@@ -185,12 +187,6 @@ other-sense true true h = absurd (true≢false h)
 other-sense true false h = refl
 other-sense false true h = refl
 other-sense false false h = absurd (true≢false h)
-
--- Every sense is the same as itself.
-sense-itself : (b : Bool) → same_sense b b ≡ true
-unfolding same_sense
-sense-itself true = refl
-sense-itself false = refl
 
 -- A place that has a fault, but none of one sense, has one of the other.
 has-among : (i : ℕ) (b : Bool) (xs : List Fault) → has i xs ≡ true → among (at i b) xs ≡ false → among (at i (not b)) xs ≡ true
@@ -599,10 +595,17 @@ record-quoted (f ∷ fs) = omega (arith, further-quoted (f ∷ fs))
 
 -- So is a text.
 rendered-quoted : (rs : List (List (List ℕ))) → length (rendered (map (map quotes) rs)) ≡ length (rendered rs) + 2 * fields_of rs
-unfolding rendered fields_of
+unfolding rendered
 rendered-quoted [] = refl
 rendered-quoted (r ∷ rs) =
-    omega (arith, rendered-cons (map quotes r) (map (map quotes) rs), rendered-cons r rs, record-quoted r, rendered-quoted rs)
+    omega (
+      arith,
+      rendered-cons (map quotes r) (map (map quotes) rs),
+      rendered-cons r rs,
+      sum_by-cons length r rs,
+      record-quoted r,
+      rendered-quoted rs,
+    )
 
 -- Plain fields in quotes stand for themselves.
 fields-stand : (fs : List (List ℕ)) → Every Plain fs → Pairwise (λ (f p : List ℕ). Clean f × Stands f p) fs (map quotes fs)

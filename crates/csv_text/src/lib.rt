@@ -24,6 +24,7 @@ pub enum ImportError {
     Refused(Refusal),
 }
 
+// By hand: `thiserror` would write the three, but tells of no `From` what it makes.
 impl From<Refusal> for ImportError {
     ghost from_gives = { λ r e. e ≡ ImportError.Refused r };
 

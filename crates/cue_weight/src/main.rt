@@ -59,6 +59,7 @@ fn read_log<F: Read>(file: &mut F) -> io::Result<Log>
     ensures bytes { IfOk result (λ log. IfSome (F.remaining file.old) (λ bs. log ≡ capped (heard_all silent bs))) }
 {
     let mut log = Log::SILENT;
+    // By what was heard: there is no index to go over.
     while !log.is_full() {
         let Some(more) = read_piece(file, log)? else {
             break;

@@ -1,8 +1,7 @@
 -- The table of a cue told in numbers: the table that a sheet's reader hands over is that of the i-th cue of the decoded sheet.
--- Rests on `sheet`, Tables, for the table, and on `rules`, CueTables and ReaderCalls: it is accepted, and the i-th cue's.
+-- Rests on `sheet`, Tables: the table is a cue's, and accepted; and on `rules`, ReaderCalls: it is the i-th cue's.
 use mathlib.Core.Path.{◌≡◌, refl, sym, ap, subst, ◌∙◌}
 use mathlib.Core.Bool.{Bool, true, false}
-use mathlib.Core.List.Memᴰ
 use mathlib.Core.List.{List, [], ◌∷◌}
 use Prim.Native.Nat.{ℕ, zero, suc, ◌+◌, ◌<◌, ◌≤◌}
 use native.Mathlib.Omega.{arith}
@@ -20,11 +19,9 @@ use Rattle.rules.specs.declared.Refusal.{Refusal}
 use Rattle.rules.proofs.Answering.{Comes, accepts, refuses, comes}
 use Rattle.rules.proofs.Bytes.{each_below, length-column}
 use Rattle.rules.proofs.First.{number-above}
-use Rattle.rules.proofs.Members.{In}
-use Rattle.rules.proofs.CueTables.{read-cue-accepted}
 use Rattle.rules.proofs.ReaderCalls.{cues_decoded, hands_over}
 use Rattle.sheet.specs.Handed.{sized, table_at}
-use Rattle.sheet.proofs.Tables.{entry_table}
+use Rattle.sheet.proofs.Tables.{entry_table, no_cue, cue_accepted}
 use Rattle.cue_numbers.specs.Numbers.{no_table, flat_table, table_by, flat_table_at}
 use Rattle.cuerisk.specs.Told.{table_held, TableTold}
 use Rattle.cue_numbers.specs.declared.CueTable.{CueTable}
@@ -65,16 +62,6 @@ number-told (suc n) ws cs = refl
 refused-table : (n : ℕ) (ws : List ℕ) (cs : List Cue) → 0 < n → flat_table n 0 no_table ≡ table_by n ws cs
 refused-table zero ws cs h = absurd (omega (arith, h))
 refused-table (suc n) ws cs h = refl
-
--- A cue before the last is one of the list.
-listed : (cs : List Cue) (i : ℕ) (d : Cue) → i < length cs → In (get_or cs i d) cs
-listed [] i d h = absurd (omega arith)
-listed (c ∷ cs) zero d h = Memᴰ.head refl
-listed (c ∷ cs) (suc i) d h = Memᴰ.tail (listed cs i d (omega arith))
-
--- No cue at all.
-no_cue : Cue
-no_cue = record { number = 0; present = []; absent = [] }
 
 -- An entry's words come in pairs.
 same_length : (bs : List ℕ) (e : Entry) → length (table_at bs e).absent ≡ length (table_at bs e).present
@@ -123,9 +110,7 @@ module _ (bs : List ℕ) (h : AllBelow 256 bs) (i : ℕ) where
 
     -- Every call on a tree accepts it.
     held-accepted : Accepted (table_held (table_for bs (entry_answer bs i)))
-    held-accepted =
-        let end : length (decode bs).cues ≡ cues_in bs = cues_decoded bs h accepted in
-        subst Accepted (sym (held no_cue)) (read-cue-accepted bs h accepted (get_or (decode bs).cues i no_cue) (listed (decode bs).cues i no_cue (omega arith)))
+    held-accepted = subst Accepted (sym (held no_cue)) (cue_accepted bs h accepted i no_cue inside)
 
 -- A CALL FOR A TABLE told in numbers, of any bytes and any position.
 pub table-told : (bs : List ℕ) → ((k : ℕ) → get_or bs k 0 < 256) → (i : ℕ) {a : Result (Option Entry) Refusal} {r : CueTable}

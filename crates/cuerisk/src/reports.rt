@@ -17,5 +17,6 @@ pub fn put_text(sheet: &[u8], space: &mut [u8]) -> Result<u64, Refusal>
     let text = report.as_slice();
     Refusal::NoRoom.test(space.len() < text.len())?;
     space[..text.len()].copy_from_slice(text);
+    // A word, as the answers in C have it.
     Ok(text.len() as u64)
 }

@@ -12,6 +12,7 @@ use records::NO_NODES;
 use rules::{Ended, Limits, Refusal};
 use running::Task;
 
+// Three lists, for they are judged here: what is no table yet has no type of its own.
 /// What one run with the limits answers on the root leaf of a table.
 #[tactic(auto, unfolding(records::specs::Records::no_nodes))]
 pub fn run_afresh(

@@ -16,6 +16,7 @@ use rules::{Ended, Limits, Refusal};
 use running::Task;
 use running::run::run_on;
 
+// The record by value. Tried lent: the proof does not close, for of a lent record it is not known that its ends fit a word.
 /// The figure of a record's interval: low plus half the width, rounded down. Whatever the ends are, that is at most the larger of them.
 #[tactic(auto, unfolding(rules::specs::Run::figure))]
 fn figure(n: Node) -> u64

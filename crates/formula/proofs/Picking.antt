@@ -2,7 +2,7 @@
 -- `held-is`), and a way is kept exactly if it names none of them (`kept_if`).
 -- Rests on the definitions of `rules`, Leaf and Group, and on its laws of bits (Bits) and of Boolean tests (Booleans).
 use mathlib.Core.Path.{◌≡◌, refl, sym, ap, ap₂, ◌∙◌}
-use mathlib.Core.Bool.{Bool, true, false, not, ◌&&◌, ◌||◌, true≢false}
+use mathlib.Core.Bool.{and-or_distrib_right, Bool, true, false, not, ◌||◌, true≢false}
 use mathlib.Core.List.{List, [], ◌∷◌, ◌++◌}
 use Prim.Native.Nat.{ℕ, ◌+◌, ◌-◌, min}
 use native.Mathlib.Nat.{mul-zero, zero-mul}
@@ -17,7 +17,7 @@ use Rattle.rules.specs.Table.{bit, faults}
 use Rattle.rules.specs.Leaf.{any, shares_any, shares, keep, kept, chance, chance_from, either, either_all, leaf_low, chances, leaf_high, is_empty}
 use Rattle.rules.specs.Group.{touches}
 use Rattle.rules.proofs.Bits.{bit-zero, bit-and, bit-or, bits-ext, or_assoc, or-zero}
-use Rattle.rules.proofs.Booleans.{and-false, or_cases}
+use Rattle.rules.proofs.Booleans.{or_cases}
 use Rattle.rules.proofs.Remaining.{nonzero-or}
 use Rattle.formula.specs.declared.Picked.{Picked}
 use Rattle.formula.specs.Picking.{union, held, picked}
@@ -26,12 +26,7 @@ use Rattle.formula.specs.Picking.{union, held, picked}
 
 -- What two words have in common with a third.
 and-or : (x y w : ℕ) → bit_and (bit_or x y) w ≡ bit_or (bit_and x w) (bit_and y w)
-and-or x y w = bits-ext _ _ (λ i. simp (bit-and, bit-or) (both (bit i x) (bit i y) (bit i w)))
-  where
-    both : (x y w : Bool) → (x || y) && w ≡ (x && w) || (y && w)
-    both true y true = refl
-    both true y false = sym (and-false y)
-    both false y w = refl
+and-or x y w = bits-ext _ _ (λ i. simp (bit-and, bit-or) (and-or_distrib_right (bit i x) (bit i y) (bit i w)))
 
 -- Two words joined touch what one of them touches.
 touches-or : (x y : ℕ) (v : Way) → touches (bit_or x y) v ≡ touches x v || touches y v

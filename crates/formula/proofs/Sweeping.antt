@@ -1,5 +1,5 @@
 -- The group of a leaf's first way, grown by sweeps: one turn of a sweep, one sweep, and the end, where the word is the group's faults.
--- Rests on `rules`, Groups: the group's faults are the least word at rest with those of the first way. And on `clauses`, Leaf and Parts.
+-- Rests on `rules`, Groups: the group's faults are the least word at rest with those of the first way. And on `clauses`, Held, Leaf and Parts.
 use mathlib.Core.Path.{◌≡◌, refl, sym, ap, ◌∙◌, subst}
 use mathlib.Core.Bool.{Bool, true, false, not, ◌&&◌, true≢false}
 use mathlib.Core.List.Memᴰ
@@ -17,13 +17,14 @@ use Rattle.rules.specs.Table.{bit, faults}
 use Rattle.rules.specs.Leaf.{sift}
 use Rattle.rules.specs.Group.{touches, absorb, pass, passes, group_faults, others}
 use Rattle.rules.proofs.Bits.{bit-or, bit-and, bits-ext}
-use Rattle.rules.proofs.Booleans.{and_left, and_right, and_both, or-first, or-second, contra, same_test}
+use Rattle.rules.proofs.Booleans.{and-true, and_left, and_right, and_both, or-first, or-second, contra, same_test}
 use Rattle.rules.proofs.Groups.{Subword, touches-within, pass-within, AtRest, pass-rests, group-rests, first-faults}
 use Rattle.rules.proofs.Minimal.{sift-in, in-sift}
 use Rattle.clauses.specs.declared.Clauses.{Clauses}
 use Rattle.clauses.specs.declared.sets.Numbers.{Numbers}
 use Rattle.clauses.specs.Numbers.{is_in}
 use Rattle.clauses.specs.Leaves.{ways_of, Narrows}
+use Rattle.clauses.proofs.Held.{reworded}
 use Rattle.clauses.proofs.Leaf.{rising, numbers, number_in}
 use Rattle.clauses.proofs.Parts.{sift-same, numbered, one_way, untouched-is}
 use Rattle.formula.specs.declared.group.Swept.{Swept}
@@ -147,11 +148,7 @@ module _ (c : Clauses) where
           out u p true q h =
               subst (λ (w : Way). Joined n w) (one_way 0 (ways_of c) (rising c) v u here p (sym (eqb-true u.number v.number q)))
               (subst (λ (x : ℕ). Joined x v) (sym z) (joins word v e))
-          out u p false q h = stays-joined word n u more (s.outside u p (all (is_in rest u.number) h))
-            where
-              all : (b : Bool) → (b && true) ≡ false → b ≡ false
-              all true h = h
-              all false h = h
+          out u p false q h = stays-joined word n u more (s.outside u p (sym (and-true (is_in rest u.number)) ∙ h))
 
     -- At the end none is left to be met.
     pub swept : ws ≡ [] → Sweeps c m (record { word = word; rest = rest })
@@ -244,10 +241,6 @@ module _ (c : Clauses) where
 
       -- So the ways left are those outside the group.
       pub all_left : (o : Clauses) → Narrows c (sift (λ v. is_in s.rest v.number) (ways_of c)) o → Narrows c (others (ways_of c)) o
-      all_left o n = record {
-        present_is = n.present_is;
-        absent_is = n.absent_is;
-        gone_is = n.gone_is;
-        ways_are = n.ways_are ∙ sift-same _ _ (ways_of c) (λ v p. tells v p ∙ ap (λ (x : ℕ). not (touches x v)) is_whole)
-            ∙ sym (untouched-is whole (ways_of c));
-      }
+      all_left o n =
+          reworded n refl
+          (sift-same _ _ (ways_of c) (λ v p. tells v p ∙ ap (λ (x : ℕ). not (touches x v)) is_whole) ∙ sym (untouched-is whole (ways_of c)))

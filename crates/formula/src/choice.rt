@@ -31,7 +31,8 @@ fn counts(c: Clauses) -> [u64; MOST_FAULTS]
     counts
 }
 
-// Tried as a `fold` over the range: its closure has to take any two numbers, and what indexes the counts has to be below 64.
+// Tried as a `fold` over the range: its closure has to take any two numbers, and what indexes the counts has to be below 64. A `reduce` over the counts
+// with their places would carry pairs and end in a default for none: no plainer.
 /// Of the faults below n, the one named in most ways. Only a larger count replaces one, so that ties go to the lower number.
 pub fn most_named(n: usize, c: Clauses) -> usize
     requires { n ≤ 64 }

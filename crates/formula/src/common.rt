@@ -24,8 +24,8 @@ pub fn common_part(c: Clauses) -> u64
         if p | q == 0 {
             return 0;
         }
-        p = p & v.present;
-        q = q & v.absent;
+        p &= v.present;
+        q &= v.absent;
     }
     p | q
 }

@@ -25,14 +25,16 @@ fn sweep(c: Clauses, m: u64) -> Swept
     let mut rest = c.numbers;
     for v in c.ways() {
         if touches(word, v) {
-            word = word | faults(v);
+            word |= faults(v);
             rest = rest.without(v.number);
         }
     }
     Swept { word, rest }
 }
 
+// Inlined: `falls_apart` only asks whether there are such ways, and a call would write a whole leaf out for that.
 /// The ways outside the group of the lowest numbered way. It sweeps over all ways at first: a way that names no fault is outside its own group.
+#[inline(always)]
 pub fn other_ways<'a>(c: Clauses<'a>) -> Clauses<'a>
     ensures { Narrows c.entry (others (ways_of c.entry)) result }
 {

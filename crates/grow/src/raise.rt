@@ -10,7 +10,7 @@ use node::join::joined;
 use records::Tree;
 use rules::MOST_STEPS;
 
-// `Safe` is a clause, for the reason that stands at `grow`.
+// `Safe` and the bound of j are clauses, for the reasons that stand at `grow`.
 /// Joins the intervals from record j up to the root anew.
 pub fn raise(weights: Weights, tree: &mut Tree, j: usize)
     requires safe { Safe tree.old.nodes }

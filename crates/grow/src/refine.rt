@@ -46,7 +46,8 @@ fn branch_of(weights: Weights, x: &Node, c: Clauses, kind: Kind, j: usize, next:
     Branch { node, left, right }
 }
 
-// The facts stand one by one: a struct that holds the lent tree would owe them at each of four writes, and they are shown once, behind the last.
+// The facts stand one by one: a struct that holds the lent tree would owe them at each of four writes, and they are shown once, behind the last. Nor
+// is the index of a type with its bound: a link or a search gives a plain one, and such a value would be made for each call.
 /// Refines the leaf in record j, where c are its ways: its leaves go to the next two records, and the intervals from j up to the root are joined
 /// anew.
 pub fn grow(table: Table, tree: &mut Tree, c: Clauses, kind: Kind, j: usize)

@@ -19,33 +19,36 @@ pub const OPEN: u64 = 1;
 /// The mark of a closed leaf, and of a blank.
 const CLOSED: u64 = 0;
 
+/// More records than a tree has.
+const MANY: usize = 600;
+
 /// Records that are all the same, and how many are lent.
-const ALIKE: [(Fields, usize); 14] = [
+const ALIKE: &[(Fields, usize)] = &[
     // None counts, `none` each time. No record is lent.
     ((LEAF, OPEN, 5, 7), 0),
     // Blanks.
-    ((BLANK, CLOSED, 0, 0), 600),
+    ((BLANK, CLOSED, 0, 0), MANY),
     // Closed leaves, though they are wide.
     ((LEAF, CLOSED, 0, 1000000000), RECORDS),
     // A mark that is neither 0 nor 1.
-    ((LEAF, 2, 0, 1000000000), 600),
+    ((LEAF, 2, 0, 1000000000), MANY),
     // The mark of an open leaf on records that are no leaves: a blank, and the three kinds of inner nodes.
-    ((BLANK, OPEN, 0, 1000000000), 600),
-    ((INDEPENDENT_OR, OPEN, 0, 1000000000), 600),
-    ((SHANNON, OPEN, 0, 1000000000), 600),
-    ((INDEPENDENT_AND, OPEN, 0, 1000000000), 600),
+    ((BLANK, OPEN, 0, 1000000000), MANY),
+    ((INDEPENDENT_OR, OPEN, 0, 1000000000), MANY),
+    ((SHANNON, OPEN, 0, 1000000000), MANY),
+    ((INDEPENDENT_AND, OPEN, 0, 1000000000), MANY),
     // Low equal to high, and above it.
-    ((LEAF, OPEN, 7, 7), 600),
-    ((LEAF, OPEN, 8, 7), 600),
-    ((LEAF, OPEN, u64::MAX, 0), 600),
+    ((LEAF, OPEN, 7, 7), MANY),
+    ((LEAF, OPEN, 8, 7), MANY),
+    ((LEAF, OPEN, u64::MAX, 0), MANY),
     // All are equally wide: the first, 0 each time.
     ((LEAF, OPEN, 5, 7), 1),
     ((LEAF, OPEN, 0, 1), RECORDS),
-    ((LEAF, OPEN, 0, u64::MAX), 600),
+    ((LEAF, OPEN, 0, u64::MAX), MANY),
 ];
 
-/// Records among 600 of which some count, and where they stand; the others are blanks.
-const MIXED: [(usize, Fields); 10] = [
+/// Of `MANY` records those that are no blanks, some of which count, and where they stand.
+const MIXED: &[(usize, Fields)] = &[
     (0, (INDEPENDENT_OR, OPEN, 0, 1000000000)),
     (1, (LEAF, CLOSED, 0, 1000000000)),
     (2, (LEAF, OPEN, 1000000000, 0)),
@@ -59,15 +62,15 @@ const MIXED: [(usize, Fields); 10] = [
 ];
 
 /// How many of them are lent.
-const FRONTS: [usize; 9] = [
+const FRONTS: &[usize] = &[
     // none: the first three are an inner node, a closed leaf and one with low above high.
     3,
     // 3: the first that counts, and then 5 is narrower, and 7 as wide but later.
     4, 6, 8,
     // 3: record 510 is not yet lent. Then 510, width 11 against 10; and 511 is as wide but later.
     510, 511, 512,
-    // 598, width 12; and then 599, the last of 600 and as wide as can be.
-    599, 600,
+    // 598, width 12; and then 599, the last and as wide as can be.
+    599, MANY,
 ];
 
 /// A record with these fields and zeros besides.
@@ -83,7 +86,7 @@ pub fn record((kind, live, low, high): Fields) -> Node {
 
 /// Records that are all the same.
 pub fn alike<W: Write>(alloc: Global, out: &mut W) -> io::Result<()> {
-    for &(fields, count) in &ALIKE {
+    for &(fields, count) in ALIKE {
         let records = vec![in alloc; record(fields); count]?;
         print(widest(&records), out)?;
     }
@@ -92,11 +95,11 @@ pub fn alike<W: Write>(alloc: Global, out: &mut W) -> io::Result<()> {
 
 /// Some of the records count; more and more of them are lent.
 pub fn mixed<W: Write>(out: &mut W) -> io::Result<()> {
-    let mut records = [record((BLANK, CLOSED, 0, 0)); 600];
-    for &(at, fields) in &MIXED {
+    let mut records = [record((BLANK, CLOSED, 0, 0)); MANY];
+    for &(at, fields) in MIXED {
         records[at] = record(fields);
     }
-    for &count in &FRONTS {
+    for &count in FRONTS {
         print(widest(&records[..count]), out)?;
     }
     Ok(())

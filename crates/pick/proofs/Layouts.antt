@@ -9,17 +9,15 @@ use Prim.Native.Nat.{ℕ, zero, suc, ◌+◌, ◌<◌}
 use native.Mathlib.Omega.{arith}
 use lib.ListN.{length, get_or, length-append}
 use Rattle.rules.specs.Table.{Table}
-use Rattle.rules.specs.Tree.{Side, left, right, Place, leaf, Refinement, tree, kind_at, acceptable, series_from, series}
+use Rattle.rules.specs.Tree.{Side, left, right, Place, Refinement, tree, kind_at, series}
 use Rattle.rules.specs.declared.Kind.{Kind}
-use Rattle.rules.proofs.Booleans.{and_left}
-use Rattle.rules.proofs.Places.{leaf-has}
 use Rattle.rules.proofs.Members.{In}
-use Rattle.rules.proofs.Series.{acceptable-leaf, series-back, only-done}
+use Rattle.rules.proofs.Series.{only-done}
 use Rattle.records.specs.Records.{record_in, children, places, position, above, left_code, child_record, records_of, layout}
 use Rattle.records.specs.declared.Node.{Node}
-use Rattle.records.proofs.Positions.{Held, position-inside, held_at, position-of, above-child, places-append}
-use Rattle.records.proofs.Positions.{length_places, position-lt, child-held, has-held, places-once, right-next}
-use Rattle.records.proofs.InPlace.{few-places, record_of, record-at, parent_of}
+use Rattle.records.proofs.Positions.{Held, held_at, position-of, above-child}
+use Rattle.records.proofs.Positions.{length_places, position-lt, child-held, places-once, right-next}
+use Rattle.records.proofs.InPlace.{few-places, record_of, record-at, parent_of, next_held, next_position}
 use Rattle.records.proofs.Seen.{left_link}
 use Rattle.pick.specs.Picks.{Linked}
 
@@ -27,13 +25,8 @@ module _ (t : Table) (ns : List Refinement) (whole : series t ns ≡ true) where
   -- A refinement's place stands in the list before the two children that it adds.
   place_before : (done : List Refinement) (n : Refinement) (todo : List Refinement) → ns ≡ done ++ n ∷ todo → (b : Side)
       → position (above (n.place ++ (b ∷ []))) (places ns) < length (places done)
-  unfolding series_from
   place_before done n todo e b =
-      rw (above-child n.place b, ap places e ∙ places-append done (n ∷ todo))
-      (position-inside n.place (places done) (children (n ∷ todo))
-      (has-held done n.place
-      (leaf-has n.place (tree done)
-      (acceptable-leaf t (tree done) n (and_left (acceptable t (tree done) n) _ (series-back t done (n ∷ todo) leaf (rw e at whole)))))))
+      rw (above-child n.place b, next_position t ns done todo n whole e) (position-lt done n.place (next_held t ns done todo n whole e))
 
   -- So the parent of every place but the root stands before it.
   parent_before : (done todo : List Refinement) → ns ≡ done ++ todo → (j : ℕ) → j < length (children todo)

@@ -14,11 +14,11 @@ use streams::only_for_memory;
 /// The length of the sheet.
 const WHOLE: usize = 72;
 
-/// How many of its bytes a case has, and a byte that it changes: where, and to what. A tuple: 14 rows of field names would be no plainer.
+/// How many of its bytes a case has, and a byte that it changes: where, and to what. A tuple: rows of field names would be no plainer.
 type Case = (usize, Option<(usize, u8)>);
 
 /// The sheets that are refused. The second call gives the number again.
-const REFUSED: [Case; 14] = [
+const REFUSED: &[Case] = &[
     // Before their contents are looked at.
     // 1: 11 bytes (RULES 11.9).
     (11, None),
@@ -68,7 +68,7 @@ fn sheets(rt: &(impl Input + Print + AllocGlobal)) -> io::Result<()> {
     let mut out = BufWriter::new(rt.alloc(), io::writer(rt))?;
     // Cue 7 with 2 ways at 40, cue 9 with none at 72; past the last, and past it again, cue 0 with 0 ways.
     drive(&sheet, 4, &mut out)?;
-    for &(length, change) in &REFUSED {
+    for &(length, change) in REFUSED {
         let mut other = sheet;
         if let Some((at, byte)) = change {
             other[at] = byte;

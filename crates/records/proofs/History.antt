@@ -1,23 +1,18 @@
 -- The series of a layout, read back off its records: it is the series that was laid out.
 -- Each refinement's place is the parent of its left child, and a series has every parent before its children. Rests on InPlace.antt.
-use mathlib.Core.Path.{◌≡◌, refl, sym, ap, ap₂, ◌∙◌, subst}
+use mathlib.Core.Path.{◌≡◌, refl, sym, ap, ap₂, ◌∙◌}
 use mathlib.Core.Bool.{true}
-use mathlib.Core.List.Memᴰ
 use mathlib.Core.List.{List, [], ◌∷◌, ◌++◌, map, append_assoc}
 use Prim.Native.Nat.{ℕ, ◌-◌}
 use native.Mathlib.Omega.{arith}
 use lib.ListN.{length, get_or, replicate}
 use Rattle.rules.specs.Table.{Table}
-use Rattle.rules.specs.Tree.{left, right, Place, leaf, Refinement, tree, acceptable, series_from, series}
-use Rattle.rules.proofs.Booleans.{and_left}
-use Rattle.rules.proofs.Places.{leaf-has}
-use Rattle.rules.proofs.Members.{In}
-use Rattle.rules.proofs.Series.{acceptable-leaf, series-back, all_done}
+use Rattle.rules.specs.Tree.{left, right, Place, Refinement, series_from, series}
 use Rattle.records.specs.Records.{tree_records, blank, children, places, position, above, record_at}
 use Rattle.records.specs.Records.{records_of, layout, kind_of, history_from, tree_count, history}
 use Rattle.records.specs.declared.Node.{Node}
-use Rattle.records.proofs.Positions.{Held, position-finds, above-child, places-append, length_places, has-held}
-use Rattle.records.proofs.InPlace.{record-at, kind-at}
+use Rattle.records.proofs.Positions.{above-child, places-append, length_places, position-get}
+use Rattle.records.proofs.InPlace.{next_held, next_position, next_kind}
 
 -- A layout's count is the number of its refinements.
 pub layout-count : (t : Table) (ns : List Refinement) → tree_count (layout t ns) ≡ length ns
@@ -29,10 +24,6 @@ unused : List Refinement → List Node
 unused ns = replicate (tree_records - length (places ns)) blank
 
 module _ (t : Table) (ns : List Refinement) (h : series t ns ≡ true) where
-  -- The record of a refined place says what was done there.
-  kind_there : (n : Refinement) → In n ns → kind_of (record_at t ns n.place) ≡ n.kind
-  kind_there n i = kind-at t ns n.place n.kind (all_done t ns leaf h n i)
-
   -- With the places of the first refinements known, the others are read off the records that are left.
   history_rest : (done todo : List Refinement) → ns ≡ done ++ todo
       → history_from (length todo) (places done) (map (record_at t ns) (children todo) ++ unused ns) (records_of t ns) ≡ todo
@@ -54,25 +45,13 @@ module _ (t : Table) (ns : List Refinement) (h : series t ns ≡ true) where
       j-is : j ≡ position n.place (places ns)
       j-is = ap (λ (q : Place). position q (places ns)) (above-child n.place left)
 
-      found : acceptable t (tree done) n ≡ true
-      found = and_left (acceptable t (tree done) n) _ (series-back t done (n ∷ todo) leaf (rw e at h))
-
-      held : Held n.place (places done)
-      held = has-held done n.place (leaf-has n.place (tree done) (acceptable-leaf t (tree done) n found))
-
-      split : places ns ≡ places done ++ children (n ∷ todo)
-      split = ap places e ∙ places-append done (n ∷ todo)
-
       place_is : get_or (places done) j [] ≡ n.place
       place_is =
-          ap (λ (k : ℕ). get_or (places done) k []) (j-is ∙ ap (position n.place) split)
-          ∙ position-finds n.place (places done) (children (n ∷ todo)) held
+          ap (λ (k : ℕ). get_or (places done) k []) (j-is ∙ next_position t ns done todo n h e)
+          ∙ position-get done n.place (next_held t ns done todo n h e)
 
       kind_is : kind_of (get_or (records_of t ns) j blank) ≡ n.kind
-      kind_is =
-          ap (λ (k : ℕ). kind_of (get_or (records_of t ns) k blank)) j-is
-          ∙ ap kind_of (record-at t ns n.place (subst (Held n.place) (sym split) (Memᴰ.append_left (children (n ∷ todo)) held)))
-          ∙ kind_there n (subst (In n) (sym e) (Memᴰ.append_right done (Memᴰ.head refl)))
+      kind_is = ap (λ (k : ℕ). kind_of (get_or (records_of t ns) k blank)) j-is ∙ next_kind t ns done todo n h e
 
 -- THE SERIES COMES BACK from its records.
 pub history-layout : (t : Table) (ns : List Refinement) → series t ns ≡ true → history (layout t ns) ≡ ns

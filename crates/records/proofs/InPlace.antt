@@ -1,21 +1,25 @@
--- The records of a layout, position by position: the record of each place, blanks behind them, as many in all as a tree has.
--- Rests on Positions.antt.
-use mathlib.Core.Path.{◌≡◌, refl, ap, ◌∙◌}
+-- The records of a layout, position by position: the record of each place, blanks behind them, as many in all as a tree has; and what they say of
+-- one refinement of the series. Rests on Positions.antt and on the rules' Places.antt and Series.antt.
+use mathlib.Core.Path.{◌≡◌, refl, sym, ap, ◌∙◌, subst}
 use mathlib.Core.Bool.{true}
-use mathlib.Core.List.{List, [], ◌∷◌, map}
+use mathlib.Core.List.Memᴰ
+use mathlib.Core.List.{List, [], ◌∷◌, ◌++◌, map}
 use mathlib.Core.Option.{some}
 use Prim.Native.Nat.{ℕ, zero, suc, ◌+◌, ◌-◌, ◌<◌, ◌≤◌}
 use native.Mathlib.Omega.{arith}
 use lib.ListN.{length, get_or, replicate, length-append, length-map, length-replicate, get_or-append}
 use lib.Seq.{get_or-append-add}
 use Rattle.rules.specs.Table.{Table}
-use Rattle.rules.specs.Tree.{Place, Refinement, tree, kind_at, series}
+use Rattle.rules.specs.Tree.{Place, leaf, Refinement, tree, kind_at, acceptable, series_from, series}
 use Rattle.rules.specs.declared.Kind.{Kind}
 use Rattle.rules.specs.declared.Kind.TheVariants.{IndependentOr, IndependentAnd, Shannon}
-use Rattle.rules.proofs.Series.{series-inners, series-room}
-use Rattle.records.specs.Records.{tree_records, blank, places, position, above, kind_code, fault_code, kind_of, record_at, records_of}
+use Rattle.rules.proofs.Booleans.{and_left}
+use Rattle.rules.proofs.Places.{leaf-has}
+use Rattle.rules.proofs.Members.{In}
+use Rattle.rules.proofs.Series.{acceptable-leaf, series-inners, series-back, series-room, all_done}
+use Rattle.records.specs.Records.{tree_records, blank, children, places, position, above, kind_code, fault_code, kind_of, record_at, records_of}
 use Rattle.records.specs.declared.Node.{Node}
-use Rattle.records.proofs.Positions.{Held, position-lt, position-get, length_places}
+use Rattle.records.proofs.Positions.{Held, position-append, places-append, length_places, position-lt, position-get, has-held}
 
 -- A series has no more places than a tree has records.
 pub few-places : (t : Table) (ns : List Refinement) → series t ns ≡ true → length (places ns) ≤ tree_records
@@ -80,3 +84,29 @@ kind-at t ns q k d = by k (record_at t ns q) (ap kind_code d) (ap fault_code d)
 pub parent_of : (t : Table) (ns : List Refinement) (q : Place) → (record_at t ns q).parent ≡ position (above q) (places ns)
 unfolding record_at
 parent_of t ns q = refl
+
+-- ---- one refinement of a series, by those before it
+
+module _ (t : Table) (ns before todo : List Refinement) (n : Refinement) (h : series t ns ≡ true) (e : ns ≡ before ++ n ∷ todo) where
+  -- They leave it acceptable,
+  pub next_fit : acceptable t (tree before) n ≡ true
+  unfolding series_from
+  next_fit = and_left (acceptable t (tree before) n) _ (series-back t before (n ∷ todo) leaf (rw e at h))
+
+  -- so its place is one of theirs.
+  pub next_held : Held n.place (places before)
+  next_held = has-held before n.place (leaf-has n.place (tree before) (acceptable-leaf t (tree before) n next_fit))
+
+  -- The places are theirs and those that it and the others add.
+  split : places ns ≡ places before ++ children (n ∷ todo)
+  split = ap places e ∙ places-append before (n ∷ todo)
+
+  -- It has the position that it has among theirs,
+  pub next_position : position n.place (places ns) ≡ position n.place (places before)
+  next_position = ap (position n.place) split ∙ position-append n.place (places before) (children (n ∷ todo)) next_held
+
+  -- and the record there says what was done.
+  pub next_kind : kind_of (get_or (records_of t ns) (position n.place (places ns)) blank) ≡ n.kind
+  next_kind =
+      ap kind_of (record-at t ns n.place (subst (Held n.place) (sym split) (Memᴰ.append_left (children (n ∷ todo)) next_held)))
+      ∙ kind-at t ns n.place n.kind (all_done t ns leaf h n (subst (In n) (sym e) (Memᴰ.append_right before (Memᴰ.head refl))))

@@ -3,7 +3,7 @@
 use mathlib.Core.Path.{◌≡◌, refl, sym, ap, ◌∙◌, subst}
 use mathlib.Core.Bool.{Bool, true, false, true≢false}
 use mathlib.Core.List.Memᴰ
-use mathlib.Core.List.{List, [], ◌∷◌, ◌++◌, append-nil, Memᴰ}
+use mathlib.Core.List.{List, [], ◌∷◌, ◌++◌, Memᴰ}
 use mathlib.Core.Option.{none, some, none-ne-some}
 use mathlib.Core.Logic.{◌⊎◌, inl, inr}
 use Prim.Native.Nat.{ℕ, zero, suc, ◌+◌, ◌*◌, ◌<◌}
@@ -81,40 +81,25 @@ sides-differ q p e = true≢false (sym (ends-left q) ∙ ap ends_left e ∙ ends
 
 -- ---- positions in a list
 
--- A held place is found, and what is behind the list does not matter.
-pub position-inside : (p : Place) (ps qs : List Place) → Held p ps → position p (ps ++ qs) < length ps
-unfolding position
-position-inside p [] qs h = elim h [ ]
-position-inside p (q ∷ ps) qs h = by (same_place p q) refl h (λ k. position-inside p ps qs k)
-  where
-    by : (b : Bool) → same_place p q ≡ b → Held p (q ∷ ps) → (Held p ps → position p (ps ++ qs) < length ps)
-        → (elim b as (λ b. ℕ) [ true ↦ 0 | false ↦ suc (position p (ps ++ qs)) ]) < suc (length ps)
-    by true e h ih = omega arith
-    by false e (Memᴰ.head i) ih = absurd (true≢false (sym (same_self p) ∙ ap (same_place p) i ∙ e))
-    by false e (Memᴰ.tail i) ih = omega (arith, ih i)
+-- A held place is found in the list, and what is behind the list does not matter.
+abbrev Stands : Place → List Place → List Place → Type 0
+Stands p ps qs = (position p ps < length ps) × (get_or ps (position p ps) [] ≡ p) × (position p (ps ++ qs) ≡ position p ps)
 
-pub position-finds : (p : Place) (ps qs : List Place) → Held p ps → get_or ps (position p (ps ++ qs)) [] ≡ p
+stands : (p : Place) (ps qs : List Place) → Held p ps → Stands p ps qs
 unfolding position
-position-finds p [] qs h = elim h [ ]
-position-finds p (q ∷ ps) qs h = by (same_place p q) refl h (λ k. position-finds p ps qs k)
+stands p [] qs h = elim h [ ]
+stands p (q ∷ ps) qs h = by (same_place p q) refl h (λ k. stands p ps qs k)
   where
-    by : (b : Bool) → same_place p q ≡ b → Held p (q ∷ ps) → (Held p ps → get_or ps (position p (ps ++ qs)) [] ≡ p)
-        → get_or (q ∷ ps) (elim b as (λ b. ℕ) [ true ↦ 0 | false ↦ suc (position p (ps ++ qs)) ]) [] ≡ p
-    by true e h ih = sym (same-equal p q e)
+    by : (b : Bool) → same_place p q ≡ b → Held p (q ∷ ps) → (Held p ps → Stands p ps qs) → Stands p (q ∷ ps) qs
+    by true e h ih = rw (e, position) (omega arith, sym (same-equal p q e), refl)
     by false e (Memᴰ.head i) ih = absurd (true≢false (sym (same_self p) ∙ ap (same_place p) i ∙ e))
-    by false e (Memᴰ.tail i) ih = ih i
+    by false e (Memᴰ.tail i) ih = rw (e, position) (omega (arith, (ih i).0), (ih i).1, ap suc (ih i).2)
 
+-- So it has the same position in a longer list.
 pub position-append : (p : Place) (ps qs : List Place) → Held p ps → position p (ps ++ qs) ≡ position p ps
-unfolding position
-position-append p [] qs h = elim h [ ]
-position-append p (q ∷ ps) qs h = by (same_place p q) refl h (λ k. position-append p ps qs k)
-  where
-    by : (b : Bool) → same_place p q ≡ b → Held p (q ∷ ps) → (Held p ps → position p (ps ++ qs) ≡ position p ps)
-        → ◌≡◌ {A = ℕ} (elim b as (λ b. ℕ) [ true ↦ 0 | false ↦ suc (position p (ps ++ qs)) ]) (elim b as (λ b. ℕ) [ true ↦ 0 | false ↦ suc (position p ps) ])
-    by true e h ih = refl
-    by false e (Memᴰ.head i) ih = absurd (true≢false (sym (same_self p) ∙ ap (same_place p) i ∙ e))
-    by false e (Memᴰ.tail i) ih = ap suc (ih i)
+position-append p ps qs h = (stands p ps qs h).2
 
+-- A list holds what stands in it.
 pub held_at : (ps : List Place) (i : ℕ) → i < length ps → Held (get_or ps i []) ps
 held_at [] i h = absurd (omega arith)
 held_at (q ∷ ps) zero h = Memᴰ.head refl
@@ -158,10 +143,10 @@ unfolding places
 length_places ns = omega (arith, length-children ns)
 
 pub position-lt : (ns : List Refinement) (p : Place) → Held p (places ns) → position p (places ns) < length (places ns)
-position-lt ns p h = rw (append-nil (places ns)) at (position-inside p (places ns) [] h)
+position-lt ns p h = (stands p (places ns) [] h).0
 
 pub position-get : (ns : List Refinement) (p : Place) → Held p (places ns) → get_or (places ns) (position p (places ns)) [] ≡ p
-position-get ns p h = rw (append-nil (places ns)) at (position-finds p (places ns) [] h)
+position-get ns p h = (stands p (places ns) [] h).1
 
 -- A refined place has its children in the list.
 pub child-held : (q : Place) (k : Kind) (b : Side) (ns : List Refinement) → In (record { place = q; kind = k }) ns → Held (q ++ (b ∷ [])) (children ns)

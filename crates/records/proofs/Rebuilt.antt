@@ -1,8 +1,8 @@
 -- 16 BY BUILDING AGAIN: refining anew what the records say was refined, and comparing, tells the good trees as the definition does.
--- Rests on Grown.antt, since each step is one refinement on the records, on Live.antt, and on the test by its definition (Sixteen.antt).
-use mathlib.Core.Path.{◌≡◌, refl, sym, ap, ap₂, ◌∙◌, subst}
+-- Rests on Grown.antt, since each step is one refinement on the records, on InPlace.antt and Live.antt, and on the test by its definition
+-- (Sixteen.antt).
+use mathlib.Core.Path.{◌≡◌, refl, sym, ap, ap₂, ◌∙◌}
 use mathlib.Core.Bool.{Bool, true, false, ◌&&◌, true≢false}
-use mathlib.Core.List.Memᴰ
 use mathlib.Core.List.{List, [], ◌∷◌, ◌++◌, append-nil, append_assoc}
 use mathlib.Core.Option.{Option, none, some, none-ne-some, some-injective}
 use Prim.Native.Nat.{ℕ, zero, suc, ◌+◌, ◌-◌, ◌*◌, ◌/◌, ◌<◌}
@@ -16,17 +16,15 @@ use Rattle.rules.specs.Tree.{left, right, Place, leaf, possible, inners, Refinem
 use Rattle.rules.specs.Refusals.{Accepted}
 use Rattle.rules.specs.declared.Kind.{Kind}
 use Rattle.rules.proofs.Booleans.{and_left, and_right, and_both, same_test}
-use Rattle.rules.proofs.Places.{leaf-has}
-use Rattle.rules.proofs.Members.{In}
-use Rattle.rules.proofs.Series.{acceptable-leaf, series-append, series-front, series-back, series-inners, all_done}
+use Rattle.rules.proofs.Series.{series-append, series-front, series-inners}
 use Rattle.records.specs.Records.{tree_records, blank, children, places, position, record_ways, record_at}
 use Rattle.records.specs.Records.{records_of, layout, kind_of, tree_count, is_good, Good}
 use Rattle.records.specs.Growing.{grown_at, may_at, rebuild, same_as, is_good_rebuilt}
 use Rattle.records.specs.declared.Node.{Node}
 use Rattle.records.specs.declared.Tree.{Tree}
-use Rattle.records.proofs.Positions.{Held, above-child, held_at, position-append, position-of}
-use Rattle.records.proofs.Positions.{places-append, length_places, position-lt, has-held, places-once}
-use Rattle.records.proofs.InPlace.{record_of, record-at, kind-at, parent_of}
+use Rattle.records.proofs.Positions.{Held, above-child, held_at, position-of}
+use Rattle.records.proofs.Positions.{places-append, length_places, position-lt, places-once}
+use Rattle.records.proofs.InPlace.{record_of, record-at, parent_of, next_fit, next_held, next_position, next_kind}
 use Rattle.records.proofs.Grown.{grows}
 use Rattle.records.proofs.Live.{Holds, refined, unrefined, holds}
 use Rattle.records.proofs.Sixteen.{same-nodes, nodes-self, good-sure, good-all}
@@ -67,7 +65,7 @@ module _ (t : Table) (ok : Accepted t) where
   again ns h before (n ∷ todo) e =
       rw (ap₂ (λ (i : ℕ) (k : Kind). ltb i used && may_at t (records_of t before) used i k) j-is kind_is ∙ goes_on, rebuild)
       (ap₂ (λ (i : ℕ) (k : Kind). rebuild t (length todo) (records_of t ns) (grown_at t (records_of t before) used i k) (suc (suc used))) j-is kind_is
-      ∙ ap₂ (rebuild t (length todo) (records_of t ns)) (grows t ok before front n fit) (two_more before n)
+      ∙ ap₂ (rebuild t (length todo) (records_of t ns)) (grows t ok before front n (next_fit t ns before todo n h e)) (two_more before n)
       ∙ again ns h (before ++ (n ∷ [])) todo (e ∙ sym (append_assoc before (n ∷ []) todo)))
     where
       used : ℕ
@@ -76,31 +74,16 @@ module _ (t : Table) (ok : Accepted t) where
       j : ℕ
       j = (get_or (records_of t ns) used blank).parent
 
-      joined-series : series t (before ++ n ∷ todo) ≡ true
-      joined-series = ap (series t) (sym e) ∙ h
-
       front : series t before ≡ true
-      front = series-front t before (n ∷ todo) leaf joined-series
-
-      fit : acceptable t (tree before) n ≡ true
-      fit = and_left (acceptable t (tree before) n) _ (series-back t before (n ∷ todo) leaf joined-series)
-
-      held : Held n.place (places before)
-      held = has-held before n.place (leaf-has n.place (tree before) (acceptable-leaf t (tree before) n fit))
-
-      all : places ns ≡ places before ++ children (n ∷ todo)
-      all = ap places e ∙ places-append before (n ∷ todo)
+      front = series-front t before (n ∷ todo) leaf (rw e at h)
 
       first : get_or (places ns) used [] ≡ n.place ++ (left ∷ [])
       first =
-          ap (λ (ps : List Place). get_or ps used []) all
+          ap (λ (ps : List Place). get_or ps used []) (ap places e ∙ places-append before (n ∷ todo))
           ∙ get_or-append_seam (places before) (n.place ++ (left ∷ [])) ((n.place ++ (right ∷ [])) ∷ children todo) []
 
       inside : used < length (places ns)
       inside = omega (arith, length_places ns, length_places before, ap length e, length-append before (n ∷ todo))
-
-      same-position : position n.place (places ns) ≡ position n.place (places before)
-      same-position = ap (position n.place) all ∙ position-append n.place (places before) (children (n ∷ todo)) held
 
       j-there : j ≡ position n.place (places ns)
       j-there =
@@ -108,18 +91,16 @@ module _ (t : Table) (ok : Accepted t) where
           ∙ ap (λ (q : Place). position q (places ns)) (above-child n.place left)
 
       j-is : j ≡ position n.place (places before)
-      j-is = j-there ∙ same-position
+      j-is = j-there ∙ next_position t ns before todo n h e
 
       kind_is : kind_of (get_or (records_of t ns) j blank) ≡ n.kind
-      kind_is =
-          ap (λ (i : ℕ). kind_of (get_or (records_of t ns) i blank)) j-there
-          ∙ ap kind_of (record-at t ns n.place (subst (Held n.place) (sym all) (Memᴰ.append_left (children (n ∷ todo)) held)))
-          ∙ kind-at t ns n.place n.kind (all_done t ns leaf h n (subst (In n) (sym e) (Memᴰ.append_right before (Memᴰ.head refl))))
+      kind_is = ap (λ (i : ℕ). kind_of (get_or (records_of t ns) i blank)) j-there ∙ next_kind t ns before todo n h e
 
       goes_on : ltb (position n.place (places before)) used && may_at t (records_of t before) used (position n.place (places before)) n.kind ≡ true
       goes_on =
-          and_both (ltb (position n.place (places before)) used) _ (lt-ltb (position n.place (places before)) used (position-lt before n.place held))
-          (may_is t before front n.place n.kind held ∙ fit)
+          and_both (ltb (position n.place (places before)) used) _
+          (lt-ltb (position n.place (places before)) used (position-lt before n.place (next_held t ns before todo n h e)))
+          (may_is t before front n.place n.kind (next_held t ns before todo n h e) ∙ next_fit t ns before todo n h e)
 
   -- ---- whatever is built again is a layout
 

@@ -181,8 +181,9 @@ impl Tree {
     }
 
     // Never inlined: in its one caller the compiler would compare word by word, and by itself it compares two at a time.
+    // Tried as `self.nodes == other.nodes`, not inlined either: a small tree, opened and run in eight calls, takes 1.23 of the time, a large one the same.
     /// All records of two trees are equal. Every field is compared, with no way out before the last: the loop has nothing to decide, and trees that
-    /// are compared are mostly equal. Tried as `self.nodes == other.nodes`: it takes a quarter longer.
+    /// are compared are mostly equal.
     #[tactic(auto, using(crate::proofs::Compared::comparing), unfolding(crate::specs::Records::same_nodes))]
     #[inline(never)]
     pub fn same_nodes(&self, other: &Tree) -> bool

@@ -1,9 +1,8 @@
 -- The lines of the entries of accepted bytes: their text is the lines of the cues, as the rules define them.
--- Rests on `sheet`, Tables, for a cue's table, and on `rules`, CueTables and ReaderCalls: it is accepted, and the one at its position.
-use mathlib.Core.Path.{◌≡◌, refl, sym, ap, ap₂, ◌∙◌}
+-- Rests on `sheet`, Tables: the table is a cue's, and accepted; and on `rules`, ReaderCalls: it is the one at its position.
+use mathlib.Core.Path.{◌≡◌, sym, ap, ap₂, ◌∙◌}
 use mathlib.Core.Bool.{false}
-use mathlib.Core.List.Memᴰ
-use mathlib.Core.List.{List, [], ◌∷◌, ◌++◌}
+use mathlib.Core.List.{List, ◌∷◌, ◌++◌}
 use Prim.Native.Nat.{ℕ, zero, suc, ◌+◌, ◌<◌}
 use native.Mathlib.Omega.{arith}
 use lib.ListN.{length, get_or, drop, drop_of_length-le}
@@ -19,18 +18,10 @@ use Rattle.rules.specs.declared.Limits.{Limits}
 use Rattle.rules.proofs.Answering.{answered-free}
 use Rattle.rules.proofs.First.{none-applies, first-later, first-none}
 use Rattle.rules.proofs.Demand3.{run-number}
-use Rattle.rules.proofs.Members.{In}
-use Rattle.rules.proofs.CueTables.{read-cue-accepted}
 use Rattle.rules.proofs.ReaderCalls.{cues_decoded, hands_over}
 use Rattle.sheet.specs.Reading.{entries_from, entries_in}
-use Rattle.sheet.proofs.Tables.{entry_table}
+use Rattle.sheet.proofs.Tables.{entry_table, no_cue, cue_accepted}
 use Rattle.report.specs.Lines.{answer_text, ended_text, entry_text, entries_text}
-
--- A cue before the last is one of the list.
-listed : (cs : List Cue) (i : ℕ) (d : Cue) → i < length cs → In (get_or cs i d) cs
-listed [] i d h = absurd (omega arith)
-listed (c ∷ cs) zero d h = Memᴰ.head refl
-listed (c ∷ cs) (suc i) d h = Memᴰ.tail (listed cs i d (omega arith))
 
 -- The limits of accepted bytes are accepted.
 limits-kept : (bs : List ℕ) → read_number bs ≡ 0 → first (limit_refusals (limits_in bs)) ≡ 0
@@ -48,18 +39,13 @@ line_of m ws c e =
     let t : Table = table_of ws c in
     ap (answer_text c.number) (answered-free (run_refusals t false m) (ended (verdict t (aim_of m) m.budget leaf) (figures t leaf (run_makes t leaf m))) e)
 
--- No cue at all.
-no_cue : Cue
-no_cue = record { number = 0; present = []; absent = [] }
-
 module _ (bs : List ℕ) (h : AllBelow 256 bs) (accepted : read_number bs ≡ 0) where
   -- WHAT IS PRINTED for the i-th entry is the line of the i-th cue.
   printed : (i : ℕ) → i < cues_in bs
       → entry_text (limits_in bs) bs (entry_in bs i) ≡ line (limits_in bs) (decode bs).weights (get_or (decode bs).cues i no_cue)
   printed i inside =
       let cue = get_or (decode bs).cues i no_cue in
-      let there : i < length (decode bs).cues = rw (cues_decoded bs h accepted) inside in
-      let ok : Accepted (table_of (decode bs).weights cue) = read-cue-accepted bs h accepted cue (listed (decode bs).cues i no_cue there) in
+      let ok : Accepted (table_of (decode bs).weights cue) = cue_accepted bs h accepted i no_cue inside in
       ap₂ (λ (n : ℕ) (t : Table). answer_text n (run_answer t false leaf (limits_in bs)))
       (hands_over bs h accepted i no_cue inside).cue (entry_table bs accepted i inside no_cue)
       ∙ line_of (limits_in bs) (decode bs).weights cue (run-number (table_of (decode bs).weights cue) ok (limits_in bs) ∙ limits-kept bs accepted)

@@ -18,33 +18,21 @@ use Rattle.rules.proofs.Booleans.{and_second, or_left, or_right}
 
 -- ---- one digit
 
-digit_and : (m k : ℕ) → m < 2 → k < 2 → eqb (min m k) 1 ≡ eqb m 1 && eqb k 1
-digit_and zero zero h l = refl
-digit_and zero (suc zero) h l = refl
-digit_and zero (suc (suc k)) h l = absurd (omega arith)
-digit_and (suc zero) zero h l = refl
-digit_and (suc zero) (suc zero) h l = refl
-digit_and (suc zero) (suc (suc k)) h l = absurd (omega arith)
-digit_and (suc (suc m)) k h l = absurd (omega arith)
+-- What a test of two tests gives at each of the four pairs of digits, it gives at the last digits of any two words.
+digit_by : (f : Bool → Bool → Bool) (g : ℕ → ℕ → ℕ) → eqb (g 0 0) 1 ≡ f false false → eqb (g 0 1) 1 ≡ f false true → eqb (g 1 0) 1 ≡ f true false
+    → eqb (g 1 1) 1 ≡ f true true → (x y : ℕ) → eqb (g (x % 2) (y % 2)) 1 ≡ f (odd x) (odd y)
+digit_by f g a b c d x y = at (x % 2) (y % 2) (omega arith) (omega arith)
+  where
+    at : (m k : ℕ) → m < 2 → k < 2 → eqb (g m k) 1 ≡ f (eqb m 1) (eqb k 1)
+    at zero zero h l = a
+    at zero (suc zero) h l = b
+    at (suc zero) zero h l = c
+    at (suc zero) (suc zero) h l = d
+    at zero (suc (suc k)) h l = absurd (omega arith)
+    at (suc zero) (suc (suc k)) h l = absurd (omega arith)
+    at (suc (suc m)) k h l = absurd (omega arith)
 
-digit_or : (m k : ℕ) → m < 2 → k < 2 → eqb (max m k) 1 ≡ eqb m 1 || eqb k 1
-digit_or zero zero h l = refl
-digit_or zero (suc zero) h l = refl
-digit_or zero (suc (suc k)) h l = absurd (omega arith)
-digit_or (suc zero) zero h l = refl
-digit_or (suc zero) (suc zero) h l = refl
-digit_or (suc zero) (suc (suc k)) h l = absurd (omega arith)
-digit_or (suc (suc m)) k h l = absurd (omega arith)
-
-digit-without : (m k : ℕ) → m < 2 → k < 2 → eqb (m - min m k) 1 ≡ eqb m 1 && not (eqb k 1)
-digit-without zero zero h l = refl
-digit-without zero (suc zero) h l = refl
-digit-without zero (suc (suc k)) h l = absurd (omega arith)
-digit-without (suc zero) zero h l = refl
-digit-without (suc zero) (suc zero) h l = refl
-digit-without (suc zero) (suc (suc k)) h l = absurd (omega arith)
-digit-without (suc (suc m)) k h l = absurd (omega arith)
-
+-- Digits that are 1 alike are equal.
 digit-eq : (m k : ℕ) → m < 2 → k < 2 → eqb m 1 ≡ eqb k 1 → m ≡ k
 digit-eq zero zero h l e = refl
 digit-eq zero (suc zero) h l e = absurd (true≢false (sym e))
@@ -87,15 +75,15 @@ without-odd : (m w : ℕ) → without m w % 2 ≡ w % 2 - min (w % 2) (m % 2)
 without-odd m w = omega (arith, without-step m w)
 
 pub bit-and : (i x y : ℕ) → bit i (bit_and x y) ≡ bit i x && bit i y
-bit-and zero x y = ap (λ (m : ℕ). eqb m 1) (and-odd x y) ∙ digit_and (x % 2) (y % 2) (omega arith) (omega arith)
+bit-and zero x y = ap (λ (m : ℕ). eqb m 1) (and-odd x y) ∙ digit_by (λ a b. a && b) min refl refl refl refl x y
 bit-and (suc i) x y = ap (bit i) (and-half x y) ∙ bit-and i (x / 2) (y / 2)
 
 pub bit-or : (i x y : ℕ) → bit i (bit_or x y) ≡ bit i x || bit i y
-bit-or zero x y = ap (λ (m : ℕ). eqb m 1) (or-odd x y) ∙ digit_or (x % 2) (y % 2) (omega arith) (omega arith)
+bit-or zero x y = ap (λ (m : ℕ). eqb m 1) (or-odd x y) ∙ digit_by (λ a b. a || b) max refl refl refl refl x y
 bit-or (suc i) x y = ap (bit i) (or-half x y) ∙ bit-or i (x / 2) (y / 2)
 
 pub bit-without : (i m w : ℕ) → bit i (without m w) ≡ bit i w && not (bit i m)
-bit-without zero m w = ap (λ (k : ℕ). eqb k 1) (without-odd m w) ∙ digit-without (w % 2) (m % 2) (omega arith) (omega arith)
+bit-without zero m w = ap (λ (k : ℕ). eqb k 1) (without-odd m w) ∙ digit_by (λ a b. a && not b) (λ a b. a - min a b) refl refl refl refl w m
 bit-without (suc i) m w = ap (bit i) (without-half m w) ∙ bit-without i (m / 2) (w / 2)
 
 pub bit-pow : (i f : ℕ) → bit i (2 ^ f) ≡ eqb i f
@@ -155,7 +143,7 @@ or_assoc x y z = bits-ext _ _ (λ i. simp (bit-or) (assoc (bit i x) (bit i y) (b
 
 -- Cut down to the bits that it has together with another, it stays as it is.
 pub and_or_left : (x y : ℕ) → bit_and x (bit_or x y) ≡ x
-and_or_left x y = bits-ext (bit_and x (bit_or x y)) x (λ i. bit-and i x (bit_or x y) ∙ ap (λ (b : Bool). bit i x && b) (bit-or i x y) ∙ same (bit i x) (bit i y))
+and_or_left x y = bits-ext _ _ (λ i. simp (bit-and, bit-or) (same (bit i x) (bit i y)))
   where
     same : (a b : Bool) → a && (a || b) ≡ a
     same true b = refl

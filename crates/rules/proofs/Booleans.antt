@@ -1,4 +1,5 @@
--- Small laws of Boolean tests, and of tests over a list of ways. Rests on nothing but the definitions.
+-- Small laws of Boolean tests, most of them the library's by other names, and of tests over a list of ways.
+-- Rests on the library and the definitions alone.
 use mathlib.Core.Path.{◌≡◌, refl, sym, ◌∙◌}
 use mathlib.Core.Bool.{Bool, true, false, ◌&&◌, ◌||◌, true≢false}
 use mathlib.Core.List.{List, ◌∷◌}
@@ -7,72 +8,48 @@ use lib.Dec.{eqb}
 use borrow.Author.Tests.{eqb-true, eq-eqb}
 use Rattle.rules.specs.Table.{Way}
 use Rattle.rules.specs.Leaf.{any}
+-- The library's, by the names they have here: both hold, neither holds, the parts of either, and one of two holds.
+pub use Rattle.std.proofs.lemmas.Bool.{and_from as and_both, or_from as or-neither, and_parts as and_split, or_parts as or_split}
+pub use Rattle.std.proofs.lemmas.Bool.{or_left as or-first, or_right as or-second}
+-- A test with what always or never holds.
+pub use mathlib.Core.Bool.{and-true, and-false}
+-- A test that is never true is false, and one that is never false is true.
+pub use Rattle.std.proofs.lemmas.Bool.{false_from_ne_true as is_false, true_from_ne_false as is_true}
 
+-- The first of two that both hold.
 pub and_left : (x y : Bool) → x && y ≡ true → x ≡ true
-and_left true y h = refl
-and_left false y h = h
+and_left x y h = (and_split x y h).0
 
+-- The second of them.
 pub and_right : (x y : Bool) → x && y ≡ true → y ≡ true
-and_right true y h = h
-and_right false y h = absurd (true≢false (sym h))
-
-pub and_both : (x y : Bool) → x ≡ true → y ≡ true → x && y ≡ true
-and_both true y h k = k
-and_both false y h k = h
-
-pub and-false : (x : Bool) → x && false ≡ false
-and-false true = refl
-and-false false = refl
-
-pub and-true : (x : Bool) → x && true ≡ x
-and-true true = refl
-and-true false = refl
+and_right x y h = (and_split x y h).1
 
 -- Where the first holds and not both do, the second does not.
 pub and_second : (x y : Bool) → x ≡ true → x && y ≡ false → y ≡ false
 and_second true y h e = e
 and_second false y h e = absurd (true≢false (sym h))
 
+-- The first of two of which neither holds.
 pub or_left : (x y : Bool) → x || y ≡ false → x ≡ false
-or_left true y h = h
-or_left false y h = refl
+or_left x y h = (or_split x y h).0
 
+-- The second of them.
 pub or_right : (x y : Bool) → x || y ≡ false → y ≡ false
-or_right true y h = absurd (true≢false h)
-or_right false y h = h
+or_right x y h = (or_split x y h).1
 
-pub or-neither : (x y : Bool) → x ≡ false → y ≡ false → x || y ≡ false
-or-neither true y h k = h
-or-neither false y h k = k
+-- The middle two of four tests exchanged.
+pub or-four : (x y z w : Bool) → (x || y) || (z || w) ≡ (x || z) || (y || w)
+or-four true y z w = refl
+or-four false true true w = refl
+or-four false true false w = refl
+or-four false false z w = refl
 
--- Both at once.
-pub or_split : (x y : Bool) → x || y ≡ false → (x ≡ false) × (y ≡ false)
-or_split x y h = (or_left x y h, or_right x y h)
-
-pub and_split : (x y : Bool) → x && y ≡ true → (x ≡ true) × (y ≡ true)
-and_split x y h = (and_left x y h, and_right x y h)
-
-pub or-first : (x y : Bool) → x ≡ true → x || y ≡ true
-or-first true y h = refl
-or-first false y h = absurd (true≢false (sym h))
-
-pub or-second : (x y : Bool) → y ≡ true → x || y ≡ true
-or-second true y h = refl
-or-second false y h = h
-
+-- What follows from each of two follows where one of them holds.
 pub or_cases : {P : Type 0} (x y : Bool) → (x ≡ true → P) → (y ≡ true → P) → x || y ≡ true → P
 or_cases true y f g h = f refl
 or_cases false y f g h = g h
 
--- A test that is never true is false, and one that is never false is true.
-pub is_false : (x : Bool) → (x ≡ true → ⊥) → x ≡ false
-is_false true f = absurd (f refl)
-is_false false f = refl
-
-pub is_true : (x : Bool) → (x ≡ false → ⊥) → x ≡ true
-is_true true f = refl
-is_true false f = absurd (f refl)
-
+-- What implies a test that fails, fails.
 pub contra : (x y : Bool) → (x ≡ true → y ≡ true) → y ≡ false → x ≡ false
 contra x y f h = is_false x (λ e. true≢false (sym (f e) ∙ h))
 

@@ -12,7 +12,7 @@ use borrow.Author.Tests.{eqb-true, eq-eqb, not-false}
 use Rattle.rules.specs.Table.{odd, bit, Way, faults, Assignment, fits, fits_all, satisfies, happens}
 use Rattle.rules.specs.Leaf.{any, contradicted, without, dropped, remaining, drop_all}
 use Rattle.rules.specs.Tree.{occurs}
-use Rattle.rules.proofs.Booleans.{and-false, and-true, or-neither, is_true, any_head, any-tail, any-cons}
+use Rattle.rules.proofs.Booleans.{and-false, and-true, or-neither, or-four, is_true, any_head, any-tail, any-cons}
 use Rattle.rules.proofs.Bits.{bit-and, bit-or, bit-without, bit-pow, bit-nonzero, bits-zero, bits-ext, or-zero, without-half, apart-bit}
 
 -- ---- tests that survive
@@ -245,13 +245,7 @@ dropped-twice m m' v = λ i. record { number = v.number; present = without-twice
 
 -- Four words joined by twos, either way.
 pub or-regroup : (P A P' A' : ℕ) → bit_or (bit_or P A) (bit_or P' A') ≡ bit_or (bit_or P P') (bit_or A A')
-or-regroup P A P' A' = bits-ext _ _ (λ i. simp (bit-or) (swap (bit i P) (bit i A) (bit i P') (bit i A')))
-  where
-    swap : (p a p' a' : Bool) → (p || a) || (p' || a') ≡ (p || p') || (a || a')
-    swap true a p' a' = refl
-    swap false true true a' = refl
-    swap false true false a' = refl
-    swap false false p' a' = refl
+or-regroup P A P' A' = bits-ext _ _ (λ i. simp (bit-or) (or-four (bit i P) (bit i A) (bit i P') (bit i A')))
 
 -- Fixing faults that are not fixed yet, after others, is fixing them all at once.
 pub fix-again : (P A P' A' : ℕ) → not (eqb (bit_and (bit_or P A) (bit_or P' A')) 0) ≡ false → (us : List Way)

@@ -1,6 +1,7 @@
 -- The decomposition tree: its refinements, the interval at each place, and which refinements are acceptable (RULES 4).
 -- A d-tree, but for two differences (RULES 12.2): every combination is rounded, and an inner node keeps the overlap with its own leaf interval.
 use Rattle.std.specs.Prelude.{Bool, true, false, not, ◌&&◌, List, [], ◌∷◌, ℕ, suc, ◌+◌, ◌-◌, ◌*◌, ◌^◌, min, max, get_or, eqb, ltb}
+-- The logic's own Option, here and in what rests on it, as in the mathematics that the proofs use: a place is no value of the code.
 use Rattle.std.proofs.Math.Option.{Option, none, some}
 use Rattle.std.specs.Int.Bits.{bit_or}
 use Rattle.rules.specs.Rounding.{S, over}

@@ -36,7 +36,7 @@ pub enum Direction {
     Up,
 }
 
-// The words stand here side by side, not as `Words`: no function takes the words of a numbered way by themselves, and every rule speaks of them.
+// The words stand here side by side, not as `Words`: every rule and every clause speaks of them, and each would name a field more.
 /// A way, the standard term is clause: its number, the word of the faults that it names present and that of those it names absent.
 #[derive(Clone, Copy)]
 pub struct Way {

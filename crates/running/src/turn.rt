@@ -71,7 +71,7 @@ pub fn decide(task: Task, links: Links, made: u64) -> ControlFlow<Verdict, usize
     ControlFlow::Continue(found.at)
 }
 
-// `Safe` is a clause, for the reason that stands at `grow`.
+// `Safe` and the bound of j are clauses, for the reasons that stand at `grow`.
 /// Refines the leaf in record j as the rule says.
 pub fn refine_by_rule(table: Table, tree: &mut Tree, j: usize)
     requires safe { Safe tree.old.nodes }

@@ -1,5 +1,5 @@
 -- The parts of a sheet as lists: the columns of numbers, counts, places, weights and words are the fields of its entries, weights and ways.
--- Rests on the definitions of `rules`, Sheet, Table and Refusals, and of Parts.
+-- Rests on the definitions of `rules`, Sheet, Table and Refusals, and of Parts, and on the numbers in bytes of `rules`, Bytes.
 use Rattle.std.proofs.Common.{◌≡◌, ℕ, zero, suc, ◌+◌, ◌≤◌, Bool, ◌||◌, ltb, List, []}
 use Rattle.std.proofs.Common.{◌∷◌, map, length, take, drop, add-one, ◌<◌, refl, ap, ap₂, ◌∙◌, sym, arith}
 use lib.Seq.{drop-drop}
@@ -12,9 +12,10 @@ use Rattle.std.proofs.lemmas.Iterator.Search.{any_from_yields_List}
 use Rattle.std.proofs.lemmas.Iterator.Consumers.{YieldsList-from_first}
 use Rattle.std.proofs.lemmas.Grind.{common_steps}
 use Rattle.rules.specs.Refusals.{some_above}
-use Rattle.rules.specs.Sheet.{value, field, column}
+use Rattle.rules.specs.Sheet.{field, column}
 use Rattle.rules.specs.Leaf.{any}
 use Rattle.rules.specs.Table.{rows, absent_rows}
+use Rattle.rules.proofs.Bytes.{field-drop, field-take}
 use Rattle.sheet.specs.Parts.{parts, weight, stated, words, stated_in, words_in}
 use Rattle.rules.specs.declared.Words.{Words}
 
@@ -31,28 +32,9 @@ unfolding parts
 parts_cut first size n m bs e short =
     rw (← e, add-one) (ap₂ (λ xs ys. first xs ∷ parts first size m ys) (take_all size bs (omega arith)) (drop_all size bs (omega arith)))
 
--- A number behind the first bytes is one at a position.
-field_at : (k i j : ℕ) (bs : List ℕ) → field k j (drop i bs) ≡ field k (i + j) bs
-unfolding field
-field_at k i j bs = ap (λ xs. value (take k xs)) (drop-drop j i bs)
-
--- A number in the bytes of one part is a number there.
-field_within : (k j n : ℕ) (bs : List ℕ) → j + k ≤ n → field k j (take n bs) ≡ field k j bs
-unfolding field
-field_within k j n bs h = ap value (within k j n bs h)
-  where
-    within : (k j n : ℕ) (bs : List ℕ) → j + k ≤ n → take k (drop j (take n bs)) ≡ take k (drop j bs)
-    within zero j n bs h = refl
-    within (suc k) zero zero bs h = absurd (omega arith)
-    within (suc k) zero (suc n) [] h = refl
-    within (suc k) zero (suc n) (b ∷ bs) h = ap (λ xs. b ∷ xs) (within k zero n bs (omega arith))
-    within (suc k) (suc j) zero bs h = absurd (omega arith)
-    within (suc k) (suc j) (suc n) [] h = refl
-    within (suc k) (suc j) (suc n) (b ∷ bs) h = within (suc k) j n bs (omega arith)
-
 -- A number of a part, at a distance from its start, is one at a position.
 pub part_field : (k size i j : ℕ) (bs : List ℕ) → j + k ≤ size → field k j (take size (drop i bs)) ≡ field k (i + j) bs
-part_field k size i j bs h = field_within k j size (drop i bs) h ∙ field_at k i j bs
+part_field k size i j bs h = field-take k j size (drop i bs) h ∙ sym (field-drop k i j bs)
 
 -- A number of each part, at a distance from the part's start and within it, is a column.
 pub column_of : {A : Type 0} (first : List ℕ → A) (f : A → ℕ) (k size off : ℕ) → off + k ≤ size → ((xs : List ℕ) → f (first xs) ≡ field k off xs)

@@ -1,7 +1,8 @@
--- An entry of accepted bytes: its table is that of the cue of the decoded sheet, and its body lies inside the bytes.
--- Rests on Entries.antt for the positions and on Few.antt for what acceptance says.
+-- An entry of accepted bytes: its table is that of the cue of the decoded sheet, and accepted; its body lies inside the bytes.
+-- Rests on Entries.antt for the positions, on Few.antt for what acceptance says, and on `rules`, CueTables and ReaderCalls.
 use mathlib.Core.Path.{◌≡◌, refl, sym, ap, ◌∙◌}
 use mathlib.Core.Bool.{false}
+use mathlib.Core.List.Memᴰ
 use mathlib.Core.List.{List, [], ◌∷◌}
 use Prim.Native.Nat.{ℕ, zero, suc, ◌+◌, ◌*◌, ◌≤◌, ◌<◌}
 use native.Mathlib.Omega.{arith}
@@ -9,11 +10,14 @@ use lib.ListN.{length, take, drop, get_or}
 use lib.Seq.{drop-drop}
 use lib.Dec.{ltb}
 use borrow.Author.Tests.{ltb-false, le-leb}
-use Rattle.rules.specs.Refusals.{some_above, crowded}
+use Rattle.rules.specs.Refusals.{some_above, crowded, Accepted}
 use Rattle.rules.specs.Sheet.{Cue, table_of, column, total, deal, sheet_of, lists_in, decode, faults_in, cues_in, numbers_in}
-use Rattle.rules.specs.Sheet.{counts_in, weights_in, weights_start, present_in, absent_in, bodies_in, read_number, entry_in, body_in}
+use Rattle.rules.specs.Sheet.{counts_in, weights_in, weights_start, present_in, absent_in, bodies_in, read_number, entry_in, body_in, AllBelow}
 use Rattle.rules.proofs.Booleans.{or_left, or_right}
 use Rattle.rules.proofs.Bytes.{length-column}
+use Rattle.rules.proofs.Members.{In}
+use Rattle.rules.proofs.CueTables.{read-cue-accepted}
+use Rattle.rules.proofs.ReaderCalls.{cues_decoded}
 use Rattle.sheet.specs.Handed.{table_at, as_table, body_or, body_by}
 use Rattle.sheet.specs.declared.table.TableArrays.{TableArrays}
 use Rattle.sheet.proofs.Few.{Few, accepted-few}
@@ -112,3 +116,21 @@ module _ (bs : List ℕ) (accepted : read_number bs ≡ 0) (i : ℕ) (inside : i
   -- ITS BODY is handed over whole.
   pub entry_body : body_or bs (entry_in bs i) ≡ body_in bs (entry_in bs i)
   entry_body = body_inside bs (accepted-few bs accepted) i inside
+
+-- ---- its cue
+
+-- No cue at all.
+pub no_cue : Cue
+no_cue = record { number = 0; present = []; absent = [] }
+
+-- A cue before the last is one of the list.
+listed : (cs : List Cue) (i : ℕ) (d : Cue) → i < length cs → In (get_or cs i d) cs
+listed [] i d h = absurd (omega arith)
+listed (c ∷ cs) zero d h = Memᴰ.head refl
+listed (c ∷ cs) (suc i) d h = Memᴰ.tail (listed cs i d (omega arith))
+
+-- EVERY CALL ON A TREE accepts the table of the i-th cue of accepted bytes.
+pub cue_accepted : (bs : List ℕ) → AllBelow 256 bs → read_number bs ≡ 0 → (i : ℕ) (d : Cue) → i < cues_in bs
+    → Accepted (table_of (decode bs).weights (get_or (decode bs).cues i d))
+cue_accepted bs h accepted i d inside =
+    read-cue-accepted bs h accepted (get_or (decode bs).cues i d) (listed (decode bs).cues i d (omega (arith, cues_decoded bs h accepted)))

@@ -29,6 +29,7 @@ impl<'a> Sheet<'a> {
         Ok(Sheet { bytes })
     }
 
+    // A method, not `From`: what is read of a sheet reads on from it, as in `sheet.raw().limits()`.
     /// Its bytes, of which more can be asked.
     pub fn raw(self) -> Raw<'a>
         ensures { result.bytes ≡ self.entry.bytes }

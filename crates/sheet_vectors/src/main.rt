@@ -28,7 +28,7 @@ fn show<W: Write>(name: &str, sheet: &[u8], out: &mut W) -> io::Result<()> {
 fn sheets(rt: &(impl Print + AllocGlobal)) -> io::Result<()> {
     let alloc = rt.alloc();
     let mut out = BufWriter::new(alloc, io::writer(rt))?;
-    for (name, length, changes) in &CASES {
+    for (name, length, changes) in CASES {
         show(name, front(&sheet_of(changes), *length), &mut out)?;
     }
     let sheet = longest(alloc)?;

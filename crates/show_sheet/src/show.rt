@@ -1,6 +1,6 @@
 //! The show: its faults, its cues and the ways in which each cue goes wrong. Change, add or take away rows for a show of your own.
 
-// The faults. Fault i is bit i of a way's words, and its chance is row i of WEIGHTS.
+// The faults, as a sheet has them: fault i is bit i of a way's words, and its chance is row i of WEIGHTS.
 
 /// The radio drops the start packet.
 const DROPPED: u64 = 1 << 0;

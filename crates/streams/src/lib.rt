@@ -10,7 +10,8 @@ use std::alloc::{AllocError, Global};
 use std::io;
 use std::io::{ErrorKind, Read};
 
-/// The length of the longest sheet, which `rules` proves (`longest-sheet`). This crate rests on std alone.
+/// The length of the longest sheet. `rules` proves that there is one of this length (`longest-sheet`) and none that is longer (`sheet-bytes`); this
+/// crate rests on std alone.
 pub const LONGEST_SHEET: usize = 49612;
 
 /// As many bytes of a sheet are read, one more than the longest has, so that a longer input is refused as one.

@@ -19,7 +19,7 @@ const WEIGHTS: usize = MOST_FAULTS + 1;
 /// The most words of either kind: one more than a table may have.
 const WAYS: usize = MOST_WAYS + 1;
 
-/// A table as it is lent, good or not.
+/// A table as it is lent, good or not: three lists, as C has them.
 #[derive(Drop)]
 pub struct Table {
     weights: Vec<u32>,

@@ -9,16 +9,16 @@ ghost use Rattle.writer.specs.Pieces.{Room, Wrote};
 
 use super::lists::{Accepted, Lists};
 use super::output::Out;
-use rules::Words;
+use rules::{Entry, Words};
 
 /// An entry of the contents: the number of a cue, the count of its ways, where its body starts.
-fn put_entry(out: &mut Out, number: u16, count: u16, start: usize)
-    requires { Room out.old (little 2 number ++ little 2 count ++ little 4 start) }
-    ensures { Wrote out.old (little 2 number ++ little 2 count ++ little 4 start) out.new }
+fn put_entry(out: &mut Out, entry: Entry)
+    requires { Room out.old (little 2 entry.cue ++ little 2 entry.ways ++ little 4 entry.start) }
+    ensures { Wrote out.old (little 2 entry.cue ++ little 2 entry.ways ++ little 4 entry.start) out.new }
 {
-    out.put_little::<2>(u64::from(number));
-    out.put_little::<2>(u64::from(count));
-    out.put_little::<4>(start as u64);
+    out.put_little::<2>(u64::from(entry.cue));
+    out.put_little::<2>(u64::from(entry.ways));
+    out.put_little::<4>(u64::from(entry.start));
 }
 
 /// One way: its present word, its absent word.
@@ -83,10 +83,10 @@ impl Accepted<'_> {
         requires { Room out.old (contents_part (given self.now.lists)) }
         ensures { Wrote out.old (contents_part (given self.now.lists)) out.new }
     {
-        let mut start = self.bodies_start();
-        for (number, count) in self.lists.numbers.iter().zip(self.lists.counts) {
-            put_entry(out, *number, *count, start);
-            start += 16 * usize::from(*count);
+        let mut start = self.bodies_start() as u32;
+        for (&cue, &ways) in self.lists.numbers.iter().zip(self.lists.counts) {
+            put_entry(out, Entry { cue, ways, start });
+            start += 16 * u32::from(ways);
         }
     }
 

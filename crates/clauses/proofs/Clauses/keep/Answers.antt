@@ -1,7 +1,8 @@
 -- `keep` meets its contract. The loop's invariant: whatever test the closure makes, the numbers kept are those of ways that pass it or are still to come.
--- Rests on Passing.antt and on the contracts of `next`, `without` and `within`.
+-- Rests on Held.antt, Passing.antt and on the contracts of `next`, `without` and `within`.
 use mathlib.Core.Path.{refl, sym, ◌∙◌}
 use mathlib.Core.List.Memᴰ
+use Rattle.clauses.proofs.Held.{reworded}
 use Rattle.clauses.proofs.Leaf.{number_small}
 use Rattle.clauses.proofs.Passing.{begun, stays, goes, ended}
 use Rattle.clauses.proofs.Clauses.keep.Goals as goal
@@ -25,11 +26,4 @@ loop-v-preserved g c = λ f h.
     (sym (h c.in-Some.v c.test.result c.test.ensures) ∙ c.if-not-test.false)
 
 pub returns : goal.returns
-returns g c = λ f h.
-    let k = c.within.ensures in
-    record {
-      present_is = k.present_is;
-      absent_is = k.absent_is;
-      gone_is = k.gone_is;
-      ways_are = k.ways_are ∙ ended c.args.self f c.loop-v.kept _ c.in-None.ensures.steps.0 (c.loop-v.invariant f h);
-    }
+returns g c = λ f h. reworded c.within.ensures refl (ended c.args.self f c.loop-v.kept _ c.in-None.ensures.steps.0 (c.loop-v.invariant f h))

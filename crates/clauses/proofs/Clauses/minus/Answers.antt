@@ -1,8 +1,9 @@
 -- `minus` meets its contract: a number of the leaf is in what the first set has beyond the second just if it is not in the second.
--- Rests on Leaf.antt and Parts.antt.
-use mathlib.Core.Path.{sym, ap₂, ◌∙◌}
+-- Rests on Held.antt, Leaf.antt and Parts.antt.
+use mathlib.Core.Path.{refl, sym, ap₂, ◌∙◌}
 use mathlib.Core.Bool.{Bool, not, ◌&&◌}
 use Rattle.clauses.specs.Leaves.{ways_of}
+use Rattle.clauses.proofs.Held.{reworded}
 use Rattle.clauses.proofs.Leaf.{numbers, number_in}
 use Rattle.clauses.proofs.Parts.{sift-same}
 use Rattle.clauses.proofs.Clauses.minus.Goals as goal
@@ -10,12 +11,6 @@ use Rattle.clauses.proofs.Clauses.minus.Goals as goal
 pub returns : goal.returns
 returns c =
     let a = c.args in
-    let h = c.within.ensures in
-    record {
-      present_is = h.present_is;
-      absent_is = h.absent_is;
-      gone_is = h.gone_is;
-      ways_are = h.ways_are
-          ∙ sift-same _ _ (ways_of a.self)
-          (λ v p. c.minus.ensures v.number ∙ ap₂ (λ (x y : Bool). x && not y) (number_in a.self v p) (sym (numbers a.other v.number)));
-    }
+    reworded c.within.ensures refl
+    (sift-same _ _ (ways_of a.self)
+    (λ v p. c.minus.ensures v.number ∙ ap₂ (λ (x y : Bool). x && not y) (number_in a.self v p) (sym (numbers a.other v.number))))

@@ -1,7 +1,7 @@
 -- `children` meets its contract, by the kind.
--- Rests on `clauses`, Leaf and Parts, and the contracts of `other_ways`, `minus`, `take_out`, `one_bit`, `by_fault` and `staying`.
+-- Rests on `clauses`, Held, Leaf and Parts, and the contracts of `other_ways`, `minus`, `take_out`, `one_bit`, `by_fault` and `staying`.
 use mathlib.Core.Path.{◌≡◌, refl, sym, ap, ◌∙◌, subst}
-use mathlib.Core.Bool.{Bool, true, false, not}
+use mathlib.Core.Bool.{true, false, not, not-not}
 use mathlib.Core.List.{List}
 use Prim.Native.Nat.{ℕ, ◌^◌, ◌<◌}
 use lib.Bits.{bit_or, or_zero_l, or_zero_r}
@@ -14,6 +14,7 @@ use Rattle.rules.specs.Tree.{child, child_fixed, child_out}
 use Rattle.clauses.specs.declared.staying.ByFault.{ByFault}
 use Rattle.clauses.specs.declared.Clauses.{Clauses}
 use Rattle.clauses.specs.Leaves.{fix_more, ways_of, Becomes, Narrows, Divided}
+use Rattle.clauses.proofs.Held.{reworded}
 use Rattle.clauses.proofs.Leaf.{rising}
 use Rattle.clauses.proofs.Parts.{sift-same, part-number, touched-is, untouched-is}
 use Rattle.formula.specs.Leaves.{FaultFits, Parts}
@@ -31,12 +32,8 @@ module _ (c : Clauses) where
   rest-touched m y e =
       sift-same _ _ (ways_of c)
       (λ v p. ap not (ap (λ (vs : List Way). has_number vs v.number) (e ∙ untouched-is m (ways_of c))
-      ∙ part-number 0 (ways_of c) (rising c) (λ u. not (touches m u)) v p) ∙ twice (touches m v))
+      ∙ part-number 0 (ways_of c) (rising c) (λ u. not (touches m u)) v p) ∙ not-not (touches m v))
       ∙ sym (touched-is m (ways_of c))
-    where
-      twice : (b : Bool) → not (not b) ≡ b
-      twice true = refl
-      twice false = refl
 
   module _ (x y : Clauses) where
     -- Both children, by independence: the right one has the others, and the left one the rest of the ways.
@@ -44,12 +41,7 @@ module _ (c : Clauses) where
         → Parts c IndependentOr (record { left = x; right = y })
     unfolding child child_fixed child_out
     by-groups t h = record {
-      on_left = record {
-        present_is = h.present_is;
-        absent_is = h.absent_is;
-        gone_is = h.gone_is;
-        ways_are = h.ways_are ∙ rest-touched (group_faults (ways_of c)) y t.ways_are;
-      };
+      on_left = reworded h refl (rest-touched (group_faults (ways_of c)) y t.ways_are);
       on_right = t;
     }
 
@@ -60,18 +52,10 @@ module _ (c : Clauses) where
     by-fault f m e s t =
         let g = c.gone in
         record {
-          on_left = record {
-            present_is = s.present_is;
-            absent_is = s.absent_is;
-            gone_is = s.gone_is ∙ (λ i. record { present = bit_or g.present (e i); absent = or_zero_r g.absent i; out = g.out });
-            ways_are = s.ways_are ∙ ap (λ (n : ℕ). minimal (remaining n 0 (ways_of c))) e;
-          };
-          on_right = record {
-            present_is = t.present_is;
-            absent_is = t.absent_is;
-            gone_is = t.gone_is ∙ (λ i. record { present = or_zero_r g.present i; absent = bit_or g.absent (e i); out = g.out });
-            ways_are = t.ways_are ∙ ap (λ (n : ℕ). minimal (remaining 0 n (ways_of c))) e;
-          };
+          on_left = reworded s (λ i. record { present = bit_or g.present (e i); absent = or_zero_r g.absent i; out = g.out })
+              (ap (λ (n : ℕ). minimal (remaining n 0 (ways_of c))) e);
+          on_right = reworded t (λ i. record { present = or_zero_r g.present i; absent = bit_or g.absent (e i); out = g.out })
+              (ap (λ (n : ℕ). minimal (remaining 0 n (ways_of c))) e);
         }
 
   -- What `staying` asks of the ways by the fault f, where m is its word and n the same word with the other sense's, which is 0.

@@ -1,5 +1,5 @@
 -- `take_out` meets its contract: the left child is the first way without what it names besides the common part, the right child all ways without it.
--- Rests on `clauses`, Leaf and Parts, and on the contracts of what it calls.
+-- Rests on `clauses`, Held, Leaf and Parts, and on the contracts of what it calls.
 use mathlib.Core.Path.{◌≡◌, refl, sym, ap, ◌∙◌, subst}
 use mathlib.Core.List.Memᴰ
 use mathlib.Core.List.{List, [], ◌∷◌}
@@ -16,6 +16,7 @@ use Rattle.rules.proofs.Sets.{Rising}
 use Rattle.clauses.specs.declared.Clauses.{Clauses}
 use Rattle.clauses.specs.declared.lost.Gone.{Gone}
 use Rattle.clauses.specs.Leaves.{out_more, ways_of, Becomes, Narrows}
+use Rattle.clauses.proofs.Held.{reworded, onward}
 use Rattle.clauses.proofs.Leaf.{rising, number_small}
 use Rattle.clauses.proofs.Parts.{sift-first}
 use Rattle.formula.specs.Leaves.{Part}
@@ -62,23 +63,14 @@ module _ (c : Clauses) (v : Way) (vs : List Way) (first : ways_of c ≡ v ∷ vs
         → Becomes f (out_more f.gone s) (drop_all s (ways_of f)) d → Part c IndependentAnd left d
     unfolding child child_fixed child_out
     left-part f d s n q h =
-        record {
-          present_is = h.present_is ∙ n.present_is;
-          absent_is = h.absent_is ∙ n.absent_is;
-          gone_is = h.gone_is ∙ ap (λ (g : Gone). out_more g s) n.gone_is ∙ ap (out_more c.gone) (q ∙ besides);
-          ways_are = h.ways_are ∙ ap (drop_all s) (n.ways_are ∙ lowest-is) ∙ ap (λ (k : ℕ). drop_all k (lowest (ways_of c))) (q ∙ besides);
-        }
+        reworded (onward n h)
+        (ap (λ (g : Gone). out_more g s) n.gone_is ∙ ap (out_more c.gone) (q ∙ besides))
+        (ap (drop_all s) (n.ways_are ∙ lowest-is) ∙ ap (λ (k : ℕ). drop_all k (lowest (ways_of c))) (q ∙ besides))
 
     -- The right child.
     right-part : (d : Clauses) → Becomes c (out_more c.gone m) (drop_all m (ways_of c)) d → Part c IndependentAnd right d
     unfolding child child_fixed child_out
-    right-part d h =
-        record {
-          present_is = h.present_is;
-          absent_is = h.absent_is;
-          gone_is = h.gone_is ∙ ap (out_more c.gone) e;
-          ways_are = h.ways_are ∙ ap (λ (k : ℕ). drop_all k (ways_of c)) e;
-        }
+    right-part d h = reworded h (ap (out_more c.gone) e) (ap (λ (k : ℕ). drop_all k (ways_of c)) e)
 
 pub returns-in_default : goal.returns-in_default
 returns-in_default c =

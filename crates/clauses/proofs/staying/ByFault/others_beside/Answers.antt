@@ -1,10 +1,11 @@
 -- `others_beside` meets its contract. The loop's invariant: what is kept so far and the ways to come tell which of the others stay.
--- Rests on Leaving.antt and the contracts of `within`, `keep` and `subsumes`.
-use mathlib.Core.Path.{sym, ◌∙◌}
+-- Rests on Held.antt, Leaving.antt and the contracts of `within`, `keep` and `subsumes`.
+use mathlib.Core.Path.{refl, sym, ◌∙◌}
 use mathlib.Core.Bool.{not}
 use borrow.Author.Rules.{rules}
 use Rattle.rules.specs.Leaf.{subsumes}
 use Rattle.clauses.specs.Leaves.{ways_of}
+use Rattle.clauses.proofs.Held.{reworded}
 use Rattle.clauses.proofs.Leaving.{none_left_out, skips, leaves, all_told}
 use Rattle.clauses.proofs.staying.ByFault.others_beside.Goals as goal
 
@@ -26,10 +27,5 @@ loop-u-preserved c =
 
 pub returns : goal.returns
 returns c =
-    let w = c.within-2.ensures in
-    record {
-      present_is = w.present_is;
-      absent_is = w.absent_is;
-      gone_is = w.gone_is;
-      ways_are = w.ways_are ∙ all_told c.args.self.others (ways_of c.args.shorter) c.loop-u.kept _ c.in-None.ensures.steps.0 c.loop-u.invariant;
-    }
+    reworded c.within-2.ensures refl
+    (all_told c.args.self.others (ways_of c.args.shorter) c.loop-u.kept _ c.in-None.ensures.steps.0 c.loop-u.invariant)

@@ -16,4 +16,4 @@ no_entries (n ∷ ns) (k ∷ ks) i (inr e) = absurd (omega arith)
 
 pub returns : goal.returns
 returns c =
-    remains_none c.loop-number.invariant.remains (no_entries _ _ _ (elim c.in-None.ensures.steps [ inl h ↦ inl h.1.0 | inr h ↦ inr h.1.0 ]))
+    remains_none c.loop-cue.invariant.remains (no_entries _ _ _ (elim c.in-None.ensures.steps [ inl h ↦ inl h.1.0 | inr h ↦ inr h.1.0 ]))

@@ -7,10 +7,10 @@ use Rattle.writer.specs.Given.{given}
 use Rattle.writer.proofs.Over.{Remains}
 use Rattle.writer.proofs.lists.Accepted.put_contents.Given as goal
 
-abbrev pub invariant-loop-number : goal.invariant-loop-number
-invariant-loop-number l =
-    let numbers = l.number-iterator.a.rest.now in
-    let counts = l.number-iterator.b.rest.now in
+abbrev pub invariant-loop-cue : goal.invariant-loop-cue
+invariant-loop-cue l =
+    let numbers = l.cue-iterator.a.rest.now in
+    let counts = l.cue-iterator.b.rest.now in
     record {
       ends : l.start + 16 * total counts ≤ 49612;
       remains : Remains l.initial.out (contents_part (given l.self.lists)) l.out (entries numbers counts (starts l.start counts));
