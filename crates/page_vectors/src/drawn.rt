@@ -5,7 +5,7 @@ use dtree::opening::open;
 use dtree::runs::run;
 use page::widest;
 use records::{LEAF, RECORDS, Tree};
-use rules::Limits;
+use rules::{Limits, S};
 use std::io;
 use std::io::Write;
 
@@ -22,7 +22,7 @@ impl<'a> Drawn<'a> {
     /// Opens a table. What the tree held before does not matter: here each record is an open leaf's. Of a refused table the tree has no nodes.
     fn open(weights: &'a [u32], present: &'a [u64], absent: &'a [u64]) -> Self {
         let mut tree = Tree {
-            nodes: [record((LEAF, OPEN, 0, 1000000000)); RECORDS],
+            nodes: [record((LEAF, OPEN, 0, S)); RECORDS],
             used: RECORDS,
         };
         let _ = open(weights, present, absent, &mut tree);

@@ -1,4 +1,5 @@
-//! Records that no tree has, lent to the search. Rests on `page` and the records of `records`. Ends stand in figures.
+//! Records that no tree has, lent to the search. Rests on `page` and the records of `records`. Ends stand in figures, which a reader sets beside each
+//! other, row by row; a name would hide which is wider.
 use super::print;
 use page::widest;
 use records::{INDEPENDENT_AND, INDEPENDENT_OR, LEAF, NO_NODES, Node, RECORDS, SHANNON};
