@@ -35,7 +35,7 @@ fn outdoes(u: Way, v: Way) -> bool
     subsumes(u, v) && (!subsumes(v, u) || u.number < v.number)
 }
 
-// Over the rows as they are. Tried over the ways of `whole`, by their numbers: the roots of a typical sheet in groups take 1.4 of the instructions.
+// Over the rows as they are. Tried over the ways of `whole`, by their numbers: a sheet with budget 0, which is its roots alone, takes 1.3 of the time.
 /// Some way of a table outdoes this one.
 fn outdone(rows: Rows<'_>, v: Way) -> bool
     ensures { result ≡ Leaf.redundant (all_of rows.entry) v }
