@@ -39,13 +39,16 @@ int main(int argc, char **argv)
     }
     print("open", cue_open(&tree, weights, 3, present, 2, absent, 2));
 
+    /* Within a fifth of the chance it is already; a run by share has no figure. */
+    print("share", cue_run(&tree, weights, 3, present, 2, absent, 2, CUE_BILLION / 5, 255, CUE_SHARE));
+
     /* The root by fault 0; its place has no steps. */
     print("refine", cue_refine(&tree, weights, 3, present, 2, absent, 2, NULL, 0, CUE_FAULT, 0));
 
     CueSpot widest = cue_widest(tree.nodes, tree.used);
     printf("widest %" PRIu64 " %zu\n", widest.found, widest.at);
 
-    print("run", cue_run(&tree, weights, 3, present, 2, absent, 2, 0, 255));
+    print("run", cue_run(&tree, weights, 3, present, 2, absent, 2, 0, 255, CUE_DISTANCE));
 
     /* The root is no leaf any more. */
     print("refine", cue_refine(&tree, weights, 3, present, 2, absent, 2, NULL, 0, CUE_FAULT, 0));

@@ -84,11 +84,16 @@ mod c {
             nq: usize,
             allowance: u64,
             budget: u64,
+            mode: u64,
         ) -> Answer;
         pub fn cue_widest(records: *const Node, n: usize) -> Spot;
         pub fn cue_sheet_report(sheet: *const u8, n: usize, space: *mut u8, nspace: usize) -> Answer;
     }
 }
+
+// What a run's allowance is.
+const DISTANCE: u64 = 0;
+const SHARE: u64 = 1;
 
 // Each slice is handed over with its own length, and each `&mut` is the only reference: that is all a caller owes.
 
@@ -101,9 +106,9 @@ fn refine(tree: &mut Tree, t: &Table, place: &[u8], what: u64, fault: u64) -> An
     unsafe { c::cue_refine(tree, w.as_ptr(), w.len(), p.as_ptr(), p.len(), q.as_ptr(), q.len(), place.as_ptr(), place.len(), what, fault) }
 }
 
-fn run(tree: &mut Tree, t: &Table, allowance: u64, budget: u64) -> Answer {
+fn run(tree: &mut Tree, t: &Table, allowance: u64, budget: u64, mode: u64) -> Answer {
     let (w, p, q) = (t.weights, t.present, t.absent);
-    unsafe { c::cue_run(tree, w.as_ptr(), w.len(), p.as_ptr(), p.len(), q.as_ptr(), q.len(), allowance, budget) }
+    unsafe { c::cue_run(tree, w.as_ptr(), w.len(), p.as_ptr(), p.len(), q.as_ptr(), q.len(), allowance, budget, mode) }
 }
 
 fn widest(records: &[Node]) -> Spot {
@@ -130,13 +135,16 @@ fn main() -> std::io::Result<()> {
     let mut tree = Box::new(Tree { nodes: [Node::default(); 511], used: 0 });
     print("open", open(&mut tree, &table));
 
+    // Within a fifth of the chance it is already; a run by share has no figure.
+    print("share", run(&mut tree, &table, 200000000, 255, SHARE));
+
     // The root by fault 0; its place has no steps.
     print("refine", refine(&mut tree, &table, &[], 1, 0));
 
     let spot = widest(&tree.nodes[..tree.used]);
     println!("widest {} {}", spot.found, spot.at);
 
-    print("run", run(&mut tree, &table, 0, 255));
+    print("run", run(&mut tree, &table, 0, 255, DISTANCE));
 
     // The root is no leaf any more.
     print("refine", refine(&mut tree, &table, &[], 1, 0));

@@ -6,7 +6,7 @@
  *   ./tree --text ../samples/show.sheet 12 8
  *
  * `../build.sh cuerisk` makes the library. After the sheet come the cue's number, as the report prints it, and the
- * most refinements, 0 to 255. The allowance is the sheet's own. */
+ * most refinements, 0 to 255. The allowance is the sheet's own, and so is its mode. */
 #include <inttypes.h>
 #include <stdarg.h>
 #include <stdio.h>
@@ -25,6 +25,7 @@ typedef struct Seat {
 
 static uint8_t sheet[CUE_SHEET + 1];
 static CueTree tree;
+static uint64_t mode; /* what the allowance is */
 static Seat seats[CUE_NODES] = {{"root", 0, 0}};
 static int leaves, levels, top[CUE_FAULTS + 1]; /* top: where each level starts */
 
@@ -81,15 +82,16 @@ static void accepted(uint64_t number)
     }
 }
 
-/* One run on the cue's opened table, with the sheet's allowance. */
+/* One run on the cue's opened table, with the sheet's allowance and mode. */
 static CueAnswer grow(size_t n_sheet, unsigned cue, unsigned budget)
 {
     CueSheet head = cue_sheet_check(sheet, n_sheet);
     accepted(head.number);
+    mode = head.mode;
     CueTable t = cue_sheet_table(sheet, n_sheet, find(n_sheet, cue));
     CueAnswer a = cue_open(&tree, t.weights, t.faults, t.present, t.ways, t.absent, t.ways);
     accepted(a.number);
-    a = cue_run(&tree, t.weights, t.faults, t.present, t.ways, t.absent, t.ways, head.allowance, budget);
+    a = cue_run(&tree, t.weights, t.faults, t.present, t.ways, t.absent, t.ways, head.allowance, budget, mode);
     accepted(a.number);
     return a;
 }
@@ -117,11 +119,16 @@ static void seat(size_t i)
     seats[i].middle = (seats[n->left].middle + seats[n->left + 1].middle) / 2;
 }
 
+/* A run by share has no figure. */
 static void print_heading(unsigned cue, CueAnswer a)
 {
     static const char *const verdicts[] = {"", "met", "done", "full", "spent"};
-    printf("Cue %u: about %" PRIu64 " billionths, %" PRIu64 " to %" PRIu64 ", after %" PRIu64 " refinement%s, %s",
-           cue, a.figure, a.low, a.high, a.count, a.count == 1 ? "" : "s", verdicts[a.verdict]);
+    if (mode == CUE_SHARE) {
+        printf("Cue %u: %" PRIu64 " to %" PRIu64 " billionths", cue, a.low, a.high);
+    } else {
+        printf("Cue %u: about %" PRIu64 " billionths, %" PRIu64 " to %" PRIu64, cue, a.figure, a.low, a.high);
+    }
+    printf(", after %" PRIu64 " refinement%s, %s", a.count, a.count == 1 ? "" : "s", verdicts[a.verdict]);
 }
 
 static void print_kind(const CueNode *n)

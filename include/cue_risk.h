@@ -39,26 +39,27 @@
  *
  * SHEETS
  * A sheet has several cues over the same faults. Its bytes, every number little-endian, nothing in between:
- *   head      12 bytes         faults (2), cues (2), allowance (4), budget (2), zero (2)
+ *   head      12 bytes         faults (2), cues (2), allowance (4), budget (2), mode (2)
  *   contents   8 for a cue     cue number (2), ways (2), where its body starts, from the start of the sheet (4)
  *   weights    4 for a fault   its weight
  *   bodies    16 for a way     present word (8), absent word (8); the bodies in the order of the contents
  * There are 1 to 24 cues, with numbers from 1 and rising, of 0 to 128 ways each. The length in bytes is
- * 12 + 8 a cue + 4 a fault + 16 a way, at most CUE_SHEET. From a sheet to a tree: cue_sheet_check for allowance and
- * budget, cue_sheet_table for a CueTable t, cue_open(&tree, t.weights, t.faults, t.present, t.ways, t.absent, t.ways).
+ * 12 + 8 a cue + 4 a fault + 16 a way, at most CUE_SHEET. From a sheet to a tree: cue_sheet_check for allowance, budget
+ * and mode, cue_sheet_table for a CueTable t, then cue_open(&tree, t.weights, t.faults, t.present, t.ways, t.absent,
+ * t.ways).
  *
  * THE REPORT
  * The report on a sheet is text: a line of headings, then a line for each cue in the order of the contents.
  *   cue low high steps verdict
  *   7 300000000 350000000 1 spent
  * The fields are the cue's number, the interval at the root after one run on the newly opened table with the head's
- * allowance and budget, the refinements that the run made, and why it stopped: met, done, full or spent (cue_run).
- * Numbers are decimal, one blank stands between fields, a line feed after each line. A sheet that is refused has one
- * line, such as `refused 7`.
+ * allowance, budget and mode, the refinements that the run made, and why it stopped (cue_run): met, done, full or
+ * spent. Numbers are decimal, one blank stands between fields, a line feed after each line. A sheet that is refused has
+ * one line, such as `refused 7`.
  *
  * TEXT
  * A sheet as comma separated text (RFC 4180), such as a spreadsheet keeps; CR LF ends every record:
- *   run,10000000,40                            allowance, budget
+ *   run,10000000,40                            allowance, budget; with ,1 behind them the allowance is a share
  *   weights,500000000,500000000,200000000      the weight of each fault
  *   7,1,-2                                     a way: its cue, then its faults, counted from 1; a minus: absent
  *   7,0                                        a way that names no fault
@@ -104,19 +105,22 @@
 #include <stddef.h>
 #include <stdint.h>
 
-#define CUE_VERSION 5u          /* of this header */
+#define CUE_VERSION 6u          /* of this header */
 #define CUE_BILLION 1000000000u /* chance 1 */
 #define CUE_FAULTS 64           /* the most faults */
 #define CUE_WAYS 128            /* the most ways of a table */
 #define CUE_NODES 511           /* records in a tree */
 #define CUE_TEXT 939            /* no report is longer */
 #define CUE_SHEET 49612         /* the longest sheet */
-#define CUE_CSV 781021          /* the longest text that cue_csv_export writes */
+#define CUE_CSV 781023          /* the longest text that cue_csv_export writes */
 #define CUE_JUDGED 4000000000u  /* the most packets judged in a fraction */
 #define CUE_STACK 262144        /* bytes of stack to leave for a call */
 
 /* CueAnswer.verdict: why a run stopped. Every other call has none. */
 enum { CUE_NONE = 0, CUE_MET = 1, CUE_DONE = 2, CUE_FULL = 3, CUE_SPENT = 4 };
+
+/* The mode of a run and of a sheet: the allowance is a distance from the chance, or a share of it (cue_run). */
+enum { CUE_DISTANCE = 0, CUE_SHARE = 1 };
 
 /* The argument `what` of cue_refine. */
 enum { CUE_INDEPENDENCE = 0, CUE_FAULT = 1, CUE_COMMON = 2 };
@@ -134,7 +138,7 @@ typedef struct CueAnswer {
     uint64_t high;
     uint64_t count;   /* the refinements made, or the bytes written; with number 23 the record */
     uint64_t verdict; /* of an accepted run, else 0 */
-    uint64_t figure;  /* of an accepted run: low plus half of high - low, rounded down; else 0 */
+    uint64_t figure;  /* of an accepted run in CUE_DISTANCE: low plus half of high - low, rounded down; else 0 */
 } CueAnswer;
 
 /* One node of a tree. */
@@ -175,6 +179,7 @@ typedef struct CueSheet {
     uint64_t cues;
     uint64_t allowance;
     uint64_t budget;
+    uint64_t mode; /* CUE_DISTANCE or CUE_SHARE */
 } CueSheet;
 
 /* The cue at a position of a sheet's contents. Past the last cue: past 1, the rest 0. */
@@ -223,7 +228,7 @@ static inline const char *cue_refusal(uint64_t number)
         /*  0 */ "accepted",
         /*  1 */ "the sheet is shorter than 12 bytes",
         /*  2 */ "the sheet's faults are 0 or above 64, or its cues are 0 or above 24",
-        /*  3 */ "the last two bytes of the head are not zero",
+        /*  3 */ "the mode is above 1",
         /*  4 */ "the sheet is shorter than head, contents and weights together",
         /*  5 */ "a cue number is 0 or not above the one before it",
         /*  6 */ "a cue counts more than 128 ways",
@@ -278,21 +283,28 @@ CueAnswer cue_refine(CueTree *tree,
                      uint64_t what, uint64_t fault);
 
 /* Refines again and again, count the refinements made. It stops with the first of these that applies:
-     CUE_MET    high - low at the root is at most twice the allowance (0 to CUE_BILLION)
+     CUE_MET    with the allowance e (0 to CUE_BILLION), low and high at the root, S for CUE_BILLION:
+                in CUE_DISTANCE high - low <= 2 * e, in CUE_SHARE (S - e) * high <= (S + e) * low
      CUE_DONE   no leaf is open
      CUE_FULL   the tree has 255 refinements
      CUE_SPENT  it has made `budget` refinements (0 to 255)
    Else it takes the widest open leaf, of equally wide ones the one at the leftmost place, and refines it by
    independence if its ways fall apart, else by the common part if it is not empty, else by the fault that most of its
    ways name, of several the lowest numbered.
-   The allowance is a distance: with CUE_MET the chance is at most that far from the answer's figure, above or below.
-   With any other verdict the figure is the middle of the interval, and the chance lies somewhere in the interval.
-   Refusals 9 to 16. */
+   In CUE_DISTANCE the allowance is a distance in billionths: with CUE_MET the chance is at most that far from the
+   answer's figure, above or below. With any other verdict the figure is the middle of the interval, and the chance lies
+   somewhere in the interval.
+   In CUE_SHARE, for chances that are small, it is a share of the chance, in billionths of that chance: 10000000 for a
+   hundredth of it.
+   With CUE_MET every number from (S - e) * high / S to (S + e) * low / S is at most that share of the chance away from
+   the chance, above or below, and there is at least one such number; neither quotient is rounded, and both products fit
+   64 bits. With any other verdict the chance lies somewhere in the interval. The figure is 0, whatever the verdict.
+   Refusals 3, 9 to 16. */
 CueAnswer cue_run(CueTree *tree,
                   const uint32_t *weights, size_t n_weights,
                   const uint64_t *present, size_t n_present,
                   const uint64_t *absent, size_t n_absent,
-                  uint64_t allowance, uint64_t budget);
+                  uint64_t allowance, uint64_t budget, uint64_t mode);
 
 /* The widest open leaf in any records, whatever they hold: those of kind CUE_LEAF, live 1 and low below high count. Of
    equally wide ones it is the first by record, where a run takes the leftmost by place. Never refused. */
@@ -311,7 +323,7 @@ CueEntry cue_sheet_cue(const uint8_t *sheet, size_t n_sheet, size_t position);
 CueTable cue_sheet_table(const uint8_t *sheet, size_t n_sheet, size_t position);
 
 /* Writes a sheet to the front of the space, count its bytes; the rest of the space stays. Cue i has the number
-   numbers[i] and the next counts[i] of the words. Refusals 2, 5, 6, 10, 12 to 15, 21, 22. If lists differ in length,
+   numbers[i] and the next counts[i] of the words. Refusals 2, 3, 5, 6, 10, 12 to 15, 21, 22. If lists differ in length,
      2 looks at n_weights, n_numbers and n_counts, each by itself; 5, 6 and 10 look at their own list, to its end;
      12 and 13 look at as many ways as the longer list of words has, also beyond what the cues count, and a word that
      the shorter one lacks is 0;
@@ -321,7 +333,7 @@ CueAnswer cue_sheet_write(const uint32_t *weights, size_t n_weights,
                           const uint16_t *counts, size_t n_counts,
                           const uint64_t *present, size_t n_present,
                           const uint64_t *absent, size_t n_absent,
-                          uint64_t allowance, uint64_t budget,
+                          uint64_t allowance, uint64_t budget, uint64_t mode,
                           uint8_t *space, size_t n_space);
 
 /* Writes the report on a sheet to the front of the space, count its bytes; the rest of the space stays. A sheet that
@@ -386,7 +398,7 @@ CUE_ASSERT(sizeof(CueAnswer) == 48);
 CUE_ASSERT(sizeof(CueNode) == 112);
 CUE_ASSERT(sizeof(CueTree) == 57240);
 CUE_ASSERT(sizeof(CueSpot) == 16);
-CUE_ASSERT(sizeof(CueSheet) == 40);
+CUE_ASSERT(sizeof(CueSheet) == 48);
 CUE_ASSERT(sizeof(CueEntry) == 40);
 CUE_ASSERT(sizeof(CueTable) == 2336);
 CUE_ASSERT(sizeof(CueFraction) == 24);

@@ -3,7 +3,8 @@
 # The table on comma separated text has a third side, a tuned Rust import and export that are not in the library's loops.
 # Usage: tests/bench.sh [texts | logs | stack | once library|rust FAMILY|CALL | once tuned CALL | beside ARCHIVE]; the library is
 # target/staticlib/libcuerisk.a, built first, or the libcuerisk.a in the folder that CUE_RISK_LIB names. `beside` measures the archive
-# of another build and the library, in turn; not on comma separated text or logs, so that the archive may be older than these calls.
+# of another build and the library, in turn; not on comma separated text or logs, so that the archive may be older than these calls. Of a
+# version before 6 its runs take no mode: it is asked for runs by distance alone.
 set -e
 here=$(realpath "$(dirname "$0")")
 if [ -z "$CUE_RISK_LIB" ]; then

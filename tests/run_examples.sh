@@ -104,6 +104,19 @@ done
 headed "Cue 6: about 533333333 billionths, 533333332 to 533333334, after 2 refinements, done" samples/common.sheet 6 255
 headed "Cue 8: about 281250000 billionths, 250000000 to 312500000, after 2 refinements, spent" samples/common.sheet 8 2
 
+# Small chances, asked for within a hundredth of the chance or within a hundredth, as samples/README.md tells them: by share there
+# are refinements, and no figure.
+for cue in 1 2 4 9; do
+    for budget in 0 1 40; do
+        drawn samples/share.sheet $cue $budget
+        drawn samples/faint.sheet $cue $budget
+    done
+done
+headed "Cue 2: 6494 to 6497 billionths, after 1 refinement, met" samples/share.sheet 2 40
+headed "Cue 4: 12280 to 12290 billionths, after 2 refinements, met" samples/share.sheet 4 40
+headed "Cue 9: 0 to 1 billionths, after 0 refinements, done" samples/share.sheet 9 40
+headed "Cue 4: about 8899 billionths, 5499 to 12300, after 0 refinements, met" samples/faint.sheet 4 40
+
 # Five faults of 0.5 in a row, each two neighbours a way: of the 32 combinations 19 have two neighbours. With an allowance of 0.1
 # fewer refinements are made.
 sheet 100000000 5 500000000 3 6 12 24 > "$built/five.sheet"

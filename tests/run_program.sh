@@ -1,6 +1,6 @@
 #!/bin/bash
 # Compares the built programs with the reference, byte for byte, in a stack of 2 MiB. The report: seeded sheets, sound and damaged ones,
-# every beginning of four sheets, and inputs of 0 to 60,000 bytes that are no sheets. Import and export: the typed and the stored texts,
+# every beginning of six sheets, and inputs of 0 to 60,000 bytes that are no sheets. Import and export: the typed and the stored texts,
 # every beginning of the show, seeded texts and sheets, sound and damaged ones, both ways, and the longest of all. Weights: the typed logs
 # and seeded lists of logs, each in two orders. Then inputs of other kinds, the README's line that puts a text right, and logs of billions
 # of packets. Usage: tests/run_program.sh [COUNT [ROUNDS [LISTS]]]; COUNT is the number of seeded sheets for the report, ROUNDS that of
@@ -42,6 +42,8 @@ nothing() {
 writes cue_risk crates/cue_risk/stdout < samples/paper.sheet
 writes cue_import samples/show.sheet < samples/show.csv
 writes cue_export samples/show.csv < samples/show.sheet
+writes cue_import samples/share.sheet < samples/share.csv
+writes cue_export samples/share.csv < samples/share.sheet
 pieces samples/paper.sheet | writes cue_risk crates/cue_risk/stdout
 pieces samples/show.csv | writes cue_import samples/show.sheet
 pieces samples/show.sheet | writes cue_export samples/show.csv

@@ -3,14 +3,14 @@
 #include <assert.h>
 #include "cue_risk.h"
 
-static_assert(CUE_VERSION == 5, "");
+static_assert(CUE_VERSION == 6, "");
 static_assert(CUE_BILLION == 1000000000, "");
 static_assert(CUE_FAULTS == 64, "");
 static_assert(CUE_WAYS == 128, "");
 static_assert(CUE_NODES == 511, "");
 static_assert(CUE_TEXT == 939, "");
 static_assert(CUE_SHEET == 49612, "");
-static_assert(CUE_CSV == 781021, "");
+static_assert(CUE_CSV == 781023, "");
 static_assert(CUE_JUDGED == 4000000000, "");
 static_assert(CUE_STACK == 262144, "");
 
@@ -19,6 +19,8 @@ static_assert(CUE_MET == 1, "");
 static_assert(CUE_DONE == 2, "");
 static_assert(CUE_FULL == 3, "");
 static_assert(CUE_SPENT == 4, "");
+static_assert(CUE_DISTANCE == 0, "");
+static_assert(CUE_SHARE == 1, "");
 static_assert(CUE_INDEPENDENCE == 0, "");
 static_assert(CUE_FAULT == 1, "");
 static_assert(CUE_COMMON == 2, "");
@@ -77,7 +79,8 @@ FIELD(CueSheet, uint64_t, faults, 8);
 FIELD(CueSheet, uint64_t, cues, 16);
 FIELD(CueSheet, uint64_t, allowance, 24);
 FIELD(CueSheet, uint64_t, budget, 32);
-static_assert(sizeof(CueSheet) == 40, "");
+FIELD(CueSheet, uint64_t, mode, 40);
+static_assert(sizeof(CueSheet) == 48, "");
 
 FIELD(CueEntry, uint64_t, number, 0);
 FIELD(CueEntry, uint64_t, past, 8);

@@ -22,6 +22,14 @@ static const uint8_t sheet[88] = {
     WORD(4), WORD(3),
 };
 
+/* The same by share, as text. */
+static const char by_share[] = "run,16909060,200,1\r\n"
+                               "weights,400000000,500000000,1000000000\r\n"
+                               "7,1,-3\r\n7,2\r\n300,-1,-2,3\r\n";
+static const char by_share_other[] = "run,16909060,200,\"1\"\r\n"
+                                     "weights,400000000,500000000,1000000000\r\n"
+                                     "7,-3,1\r\n7,2\r\n300,3,-2,-1";
+
 static uint8_t space[100], kept[100];
 
 static void clear_space(void)
@@ -72,8 +80,38 @@ static void exporting(void)
     HOLDS(memcmp(space + 84, kept, 16) == 0);
 }
 
+/* The third number is 1 and nothing else, so that no text is refused 3. The text has two bytes more than the other. */
+static void sharing(void)
+{
+    static uint8_t shared[88];
+    memcpy(shared, sheet, 88);
+    shared[10] = 1;
+    clear_space();
+    misread(__LINE__, import("run,1,2,0\r\nweights,5\r\n7\r\n", 90), 1);
+    misread(__LINE__, import("run,1,2,2\r\nweights,5\r\n7\r\n", 90), 1);
+    misread(__LINE__, import("run,1,2,1,1\r\nweights,5\r\n7\r\n", 90), 1);
+    misread(__LINE__, import("run,1000000001,256,2\r\nweights\r\n", 0), 1);
+    REFUSED(import("run,1000000001,256,1\r\nweights,5\r\n7\r\n", 0), 14);
+    REFUSED(import(by_share, 87), 22);
+    REFUSED(export_sheet(shared, 88, space, 85), 22);
+    HOLDS(memcmp(space, kept, sizeof space) == 0);
+    ACCEPTED(import(by_share, 88), 0, 1000000000, 88);
+    HOLDS(memcmp(space, shared, 88) == 0);
+    HOLDS(memcmp(space + 88, kept, 12) == 0);
+    clear_space();
+    ACCEPTED(import(by_share_other, 88), 0, 1000000000, 88);
+    HOLDS(memcmp(space, shared, 88) == 0);
+    clear_space();
+    ACCEPTED(export_sheet(shared, 88, space, 86), 0, 1000000000, 86);
+    HOLDS(memcmp(space, by_share, 86) == 0);
+    HOLDS(memcmp(space + 86, kept, 14) == 0);
+    shared[11] = 1;
+    REFUSED(export_sheet(shared, 88, space, 0), 3);
+}
+
 void on_texts(void)
 {
     importing();
     exporting();
+    sharing();
 }

@@ -7,7 +7,7 @@ static CueAnswer (*const open_table)(CueTree *, const uint32_t *, size_t, const 
 static CueAnswer (*const refine)(CueTree *, const uint32_t *, size_t, const uint64_t *, size_t,
                                  const uint64_t *, size_t, const uint8_t *, size_t, uint64_t, uint64_t) = cue_refine;
 static CueAnswer (*const run)(CueTree *, const uint32_t *, size_t, const uint64_t *, size_t,
-                              const uint64_t *, size_t, uint64_t, uint64_t) = cue_run;
+                              const uint64_t *, size_t, uint64_t, uint64_t, uint64_t) = cue_run;
 static CueSpot (*const widest)(const CueNode *, size_t) = cue_widest;
 
 enum { MILLION = 1000000 };
@@ -143,9 +143,9 @@ static void common_part(void)
     same_records(__LINE__, 5, then_both);
     before = tree;
     tree.nodes[2].out = 0;
-    REFUSED(run(&tree, w, 3, p, 2, q, 2, 0, 0), 16);
+    REFUSED(run(&tree, w, 3, p, 2, q, 2, 0, 0, 0), 16);
     tree = before;
-    ENDED(run(&tree, w, 3, p, 2, q, 2, 0, 0), 300 * MILLION, 300 * MILLION, 0, 1, 300 * MILLION);
+    ENDED(run(&tree, w, 3, p, 2, q, 2, 0, 0, 0), 300 * MILLION, 300 * MILLION, 0, 1, 300 * MILLION);
 
     ACCEPTED(open_table(&tree, halves, 4, r, 2, q, 2), 125 * MILLION, 250 * MILLION, 0);
     ACCEPTED(refine(&tree, halves, 4, r, 2, q, 2, NULL, 0, 2, 0), 187500000, 250 * MILLION, 1);
@@ -161,7 +161,7 @@ static void openings(void)
     ACCEPTED(open_table(&tree, weights, 4, NULL, 0, NULL, 0), 0, 0, 0);
     REFUSED(open_table(&tree, NULL, 0, NULL, 0, NULL, 0), 9);
     same_records(__LINE__, 0, NULL);
-    REFUSED(run(&tree, weights, 4, NULL, 0, NULL, 0, 0, 0), 16);
+    REFUSED(run(&tree, weights, 4, NULL, 0, NULL, 0, 0, 0, 0), 16);
     REFUSED(open_table(&tree, weights, 4, present, 70, absent, 69), 11);
     REFUSED(open_table(&tree, weights, 4, none, 1, beyond, 1), 12);
     REFUSED(open_table(&tree, weights, 4, one, 1, one, 1), 13);
@@ -174,18 +174,49 @@ static void runs(void)
     static const uint64_t p[2] = {3, 5}, q[2] = {0, 0};
     ACCEPTED(open_table(&tree, w, 3, p, 2, q, 2), 250 * MILLION, 350 * MILLION, 0);
     before = tree;
-    REFUSED(run(&tree, w, 3, p, 2, q, 2, 5000000000, 65576), 14);
-    REFUSED(run(&tree, w, 3, p, 2, q, 2, 0, 65576), 15);
-    REFUSED(run(&tree, w, 3, p, 2, q, 2, 1000000001, 255), 14);
-    REFUSED(run(&tree, w, 3, p, 2, q, 2, 1000000000, 256), 15);
+    REFUSED(run(&tree, w, 3, p, 2, q, 2, 5000000000, 65576, 0), 14);
+    REFUSED(run(&tree, w, 3, p, 2, q, 2, 0, 65576, 0), 15);
+    REFUSED(run(&tree, w, 3, p, 2, q, 2, 1000000001, 255, 0), 14);
+    REFUSED(run(&tree, w, 3, p, 2, q, 2, 1000000000, 256, 0), 15);
     HOLDS(memcmp(&tree, &before, sizeof tree) == 0);
-    ENDED(run(&tree, w, 3, p, 2, q, 2, 50 * MILLION, 40), 250 * MILLION, 350 * MILLION, 0, 1, 300 * MILLION);
-    ENDED(run(&tree, w, 3, p, 2, q, 2, 49999999, 0), 250 * MILLION, 350 * MILLION, 0, 4, 300 * MILLION);
-    ENDED(run(&tree, w, 3, p, 2, q, 2, 10 * MILLION, 1), 300 * MILLION, 350 * MILLION, 1, 4, 325 * MILLION);
-    ENDED(run(&tree, w, 3, p, 2, q, 2, 25 * MILLION, 40), 300 * MILLION, 350 * MILLION, 0, 1, 325 * MILLION);
-    ENDED(run(&tree, w, 3, p, 2, q, 2, 24999999, 40), 300 * MILLION, 300 * MILLION, 1, 1, 300 * MILLION);
+    ENDED(run(&tree, w, 3, p, 2, q, 2, 50 * MILLION, 40, 0), 250 * MILLION, 350 * MILLION, 0, 1, 300 * MILLION);
+    ENDED(run(&tree, w, 3, p, 2, q, 2, 49999999, 0, 0), 250 * MILLION, 350 * MILLION, 0, 4, 300 * MILLION);
+    ENDED(run(&tree, w, 3, p, 2, q, 2, 10 * MILLION, 1, 0), 300 * MILLION, 350 * MILLION, 1, 4, 325 * MILLION);
+    ENDED(run(&tree, w, 3, p, 2, q, 2, 25 * MILLION, 40, 0), 300 * MILLION, 350 * MILLION, 0, 1, 325 * MILLION);
+    ENDED(run(&tree, w, 3, p, 2, q, 2, 24999999, 40, 0), 300 * MILLION, 300 * MILLION, 1, 1, 300 * MILLION);
     same_records(__LINE__, 5, then_both);
-    REFUSED(run(&tree, w, 3, q, 2, p, 2, 0, 40), 16);
+    REFUSED(run(&tree, w, 3, q, 2, p, 2, 0, 40, 0), 16);
+}
+
+/* The same by share: 250 and 350 are met from 100 / 600 of a billion on, 300 and 350 from 50 / 650 on, both rounded up, and
+ * the figure is 0. The mode is judged first, in all its bits. */
+static void shares(void)
+{
+    static const uint32_t w[3] = {500 * MILLION, 500 * MILLION, 200 * MILLION}, ones[2] = {1, 1};
+    static const uint64_t p[2] = {3, 5}, q[2] = {0, 0};
+    ACCEPTED(open_table(&tree, w, 3, p, 2, q, 2), 250 * MILLION, 350 * MILLION, 0);
+    before = tree;
+    REFUSED(run(&tree, NULL, 0, p, 2, q, 2, 1000000001, 300, 2), 3);
+    REFUSED(run(&tree, w, 3, p, 2, q, 2, 0, 40, 256), 3);
+    REFUSED(run(&tree, w, 3, p, 2, q, 2, 0, 40, 65536), 3);
+    REFUSED(run(&tree, w, 3, p, 2, q, 2, 0, 40, 65537), 3);
+    REFUSED(run(&tree, w, 3, p, 2, q, 2, 0, 40, 4294967297), 3);
+    REFUSED(run(&tree, NULL, 0, p, 2, q, 2, 1000000001, 300, 1), 9);
+    REFUSED(run(&tree, w, 3, p, 2, q, 2, 1000000001, 300, 1), 14);
+    REFUSED(run(&tree, w, 3, p, 2, q, 2, 1000000000, 300, 1), 15);
+    REFUSED(run(&tree, w, 3, q, 2, p, 2, 0, 40, 1), 16);
+    HOLDS(memcmp(&tree, &before, sizeof tree) == 0);
+    ENDED(run(&tree, w, 3, p, 2, q, 2, 166666667, 40, CUE_SHARE), 250 * MILLION, 350 * MILLION, 0, 1, 0);
+    ENDED(run(&tree, w, 3, p, 2, q, 2, 166666666, 0, CUE_SHARE), 250 * MILLION, 350 * MILLION, 0, 4, 0);
+    ENDED(run(&tree, w, 3, p, 2, q, 2, 166666666, 40, CUE_SHARE), 300 * MILLION, 350 * MILLION, 1, 1, 0);
+    ENDED(run(&tree, w, 3, p, 2, q, 2, 76923077, 40, CUE_SHARE), 300 * MILLION, 350 * MILLION, 0, 1, 0);
+    ENDED(run(&tree, w, 3, p, 2, q, 2, 76923077, 4, CUE_DISTANCE), 300 * MILLION, 350 * MILLION, 0, 1, 325000000);
+    ENDED(run(&tree, w, 3, p, 2, q, 2, 76923076, 40, CUE_SHARE), 300 * MILLION, 300 * MILLION, 1, 1, 0);
+    same_records(__LINE__, 5, then_both);
+
+    ACCEPTED(open_table(&tree, ones, 2, p, 1, q, 1), 0, 1, 0);
+    ENDED(run(&tree, ones, 2, p, 1, q, 1, 999999999, 255, CUE_SHARE), 0, 1, 0, 2, 0);
+    ENDED(run(&tree, ones, 2, p, 1, q, 1, 1000000000, 255, CUE_SHARE), 0, 1, 0, 1, 0);
 }
 
 /* {~1} {1, ~2} {0, ~2} of 0.2, 0.5 and 0.25: low 1 - 0.5 * 0.85; by fault 1 they are {~2}, and certainty. */
@@ -194,7 +225,7 @@ static void senses(void)
     static const uint32_t w[3] = {200 * MILLION, 500 * MILLION, 250 * MILLION};
     static const uint64_t p[3] = {0, 2, 1}, q[3] = {2, 4, 4};
     ACCEPTED(open_table(&tree, w, 3, p, 3, q, 3), 575 * MILLION, 1000 * MILLION, 0);
-    ENDED(run(&tree, w, 3, p, 3, q, 3, 0, 255), 875 * MILLION, 875 * MILLION, 1, 1, 875 * MILLION);
+    ENDED(run(&tree, w, 3, p, 3, q, 3, 0, 255, 0), 875 * MILLION, 875 * MILLION, 1, 1, 875 * MILLION);
 }
 
 /* One way of two thirds: only rounding keeps the ends apart. */
@@ -203,8 +234,8 @@ static void done(void)
     static const uint32_t thirds[2] = {333333333, 333333333};
     static const uint64_t both[1] = {3}, none[1] = {0};
     ACCEPTED(open_table(&tree, thirds, 2, both, 1, none, 1), 111111110, 111111111, 0);
-    ENDED(run(&tree, thirds, 2, both, 1, none, 1, 0, 255), 111111110, 111111111, 0, 2, 111111110);
-    ENDED(run(&tree, thirds, 2, both, 1, none, 1, 1, 255), 111111110, 111111111, 0, 1, 111111110);
+    ENDED(run(&tree, thirds, 2, both, 1, none, 1, 0, 255, 0), 111111110, 111111111, 0, 2, 111111110);
+    ENDED(run(&tree, thirds, 2, both, 1, none, 1, 1, 255, 0), 111111110, 111111111, 0, 1, 111111110);
 }
 
 /* 24 faults in a ring, each paired with the next four. The figures are those of tests/reference (`ring`, paper.rs). */
@@ -217,7 +248,7 @@ static void full(void)
         pairs[i] = (uint64_t)1 << i / 4 | (uint64_t)1 << (i / 4 + i % 4 + 1) % 24;
     }
     ACCEPTED(open_table(&tree, ninths, 24, pairs, 96, none, 96), 138491384, 1000000000, 0);
-    ENDED(run(&tree, ninths, 24, pairs, 96, none, 96, 0, 255), 522915350, 574287599, 255, 3, 548601474);
+    ENDED(run(&tree, ninths, 24, pairs, 96, none, 96, 0, 255, 0), 522915350, 574287599, 255, 3, 548601474);
     SAME(tree.used, 511);
 }
 
@@ -237,7 +268,7 @@ static void by_record_and_by_place(void)
     ACCEPTED(refine(&tree, w, 7, p, 4, q, 4, left, 1, 1, 1), 375 * MILLION, 500 * MILLION, 1);
     SAME(widest(tree.nodes, tree.used).found, 1);
     SAME(widest(tree.nodes, tree.used).at, 3);
-    ENDED(run(&tree, w, 7, p, 4, q, 4, 0, 1), 375 * MILLION, 437500000, 1, 4, 406250000);
+    ENDED(run(&tree, w, 7, p, 4, q, 4, 0, 1, 0), 375 * MILLION, 437500000, 1, 4, 406250000);
     SAME(tree.nodes[3].kind, 1);
     SAME(tree.nodes[5].kind, 2);
     SAME(tree.nodes[5].left, 7);
@@ -266,6 +297,7 @@ void on_trees(void)
     common_part();
     openings();
     runs();
+    shares();
     senses();
     done();
     full();

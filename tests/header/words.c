@@ -10,7 +10,7 @@ static const char *const words[] = {
     "accepted",
     "the sheet is shorter than 12 bytes",
     "the sheet's faults are 0 or above 64, or its cues are 0 or above 24",
-    "the last two bytes of the head are not zero",
+    "the mode is above 1",
     "the sheet is shorter than head, contents and weights together",
     "a cue number is 0 or not above the one before it",
     "a cue counts more than 128 ways",
@@ -38,7 +38,7 @@ static const char *const words[] = {
 
 int main(void)
 {
-    SAME(version(), 5);
+    SAME(version(), 6);
     SAME(sizeof words / sizeof words[0], 26);
     for (uint64_t i = 0; i < 26; i++) {
         same(__LINE__, words[i], strcmp(refusal(i), words[i]) == 0, 1);

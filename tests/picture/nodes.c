@@ -55,7 +55,7 @@ int main(int argc, char **argv)
         absent[i] = field(start + 16 * i + 8, 8);
     }
     cue_open(&tree, weights, faults, present, ways, absent, ways);
-    cue_run(&tree, weights, faults, present, ways, absent, ways, field(4, 4), strtoul(argv[3], NULL, 10));
+    cue_run(&tree, weights, faults, present, ways, absent, ways, field(4, 4), strtoul(argv[3], NULL, 10), field(10, 2));
     for (size_t i = 0; i < tree.used; i++) {
         print_node(i);
     }

@@ -31,7 +31,7 @@ def plain(rows):
 
 def sheet(rows):
     """The bytes of a sheet, from the rows of a text."""
-    allowance, budget = map(int, rows[0][1:])
+    allowance, budget, mode = map(int, [*rows[0][1:], 0][:3])
     weights = [int(weight) for weight in rows[1][1:]]
     cues = []
     for row in rows[2:]:
@@ -43,7 +43,7 @@ def sheet(rows):
             absent = sum(1 << -fault - 1 for fault in faults if fault < 0)
             cues[-1][1].append((present, absent))
     place = 12 + 8 * len(cues) + 4 * len(weights)
-    out = struct.pack("<HHIHH", len(weights), len(cues), allowance, budget, 0)
+    out = struct.pack("<HHIHH", len(weights), len(cues), allowance, budget, mode)
     for cue, ways in cues:
         out += struct.pack("<HHI", cue, len(ways), place)
         place += 16 * len(ways)
@@ -57,6 +57,11 @@ def sheet(rows):
 
 def listed(allowance, budget, weights, *ways):
     return [["run", allowance, budget], ["weights", *weights], *ways]
+
+
+def shared(rows, *more):
+    """The rows with a third number in the first of them: 1, by which the allowance is a share, or what is given."""
+    return [rows[0] + list(more or [1]), *rows[1:]]
 
 
 def drawn(seed, weights, cues, most_ways):
@@ -97,6 +102,8 @@ ACCEPTED = {
     "cues": drawn(1, 20, 24, 3),
     "ways": listed(5, 6, [1, 2, 3, 4, 5, 6, 7], *([3, *(n + 1 if way >> n & 1 else -n - 1 for n in range(7))] for way in range(128))),
     "drawn": drawn(2, 64, 10, 12),
+    "share": shared(listed(76_923_077, 255, [HALF, HALF, 200_000_000], [7, 1, 2], [7, 1, 3])),
+    "share-drawn": shared(drawn(3, 30, 12, 6)),
 }
 START = listed(1, 2, [5])
 # Each with its number, and the record of a 23.
@@ -130,6 +137,12 @@ REFUSED = {
     "both-senses": (written([*START, [7, 1, -1]]), 13, 0),
     "allowance-above": (written(listed(2**32, 256, [5], [7])), 14, 0),
     "budget-above": (written(listed(1, 2**16, [5], [7])), 15, 0),
+    "third-number-0": (written(shared([*START, [7, 1]], 0)), 23, 1),
+    "third-number-2": (written(shared([*START, [7, 1]], 2)), 23, 1),
+    "third-number-256": (written(shared([*START, [7, 1]], 256), csv.QUOTE_ALL), 23, 1),
+    "third-field-empty": (written(shared([*START, [7, 1]], None)), 23, 1),
+    "fourth-field": (written(shared([*START, [7, 1]], 1, 1)), 23, 1),
+    "share-above": (written(shared(listed(BILLION + 1, 256, [5], [7]))), 14, 0),
 }
 
 

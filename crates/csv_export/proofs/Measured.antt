@@ -13,7 +13,7 @@ use Rattle.rules.specs.Text.{bytes, decimal}
 use Rattle.rules.proofs.Decimal.{decimal-one}
 use Rattle.rules.specs.declared.Words.{Words}
 use Rattle.csv_text.specs.declared.Fault.{Fault}
-use Rattle.csv_text.specs.Texts.{fault_text, mark, faults_from, run_record, weights_record, further_fields}
+use Rattle.csv_text.specs.Texts.{fault_text, mark, faults_from, mode_fields, run_record, weights_record, further_fields}
 use Rattle.csv_export.specs.Parts.{faults_text, way_text, ended}
 use Rattle.csv_export.proofs.Faults.{decimal_two}
 use Rattle.csv_export.proofs.Naming.{some_way}
@@ -102,12 +102,20 @@ unfolding way_text
 way_length d w = omega (arith, length-append (d ++ faults_text w) (13 ∷ 10 ∷ []), length-append d (faults_text w))
 
 -- The limits: the word and the end take 5 bytes.
-pub limits_counted : (m : Limits) → length (ended (run_record m)) ≡ 5 + length (44 ∷ decimal m.allowance) + length (44 ∷ decimal m.budget)
+pub limits_counted : (m : Limits)
+    → length (ended (run_record m)) ≡ 5 + length (44 ∷ decimal m.allowance) + length (44 ∷ decimal m.budget) + length (further_fields (mode_fields m.mode))
 limits_counted m =
     let a = 44 ∷ decimal m.allowance in
     let b = 44 ∷ decimal m.budget in
+    let mode = further_fields (mode_fields m.mode) in
     let word : List ℕ = 114 ∷ 117 ∷ 110 ∷ [] in
-    omega (arith, ap length (limits_bytes m), length-append (word ++ a ++ b) (13 ∷ 10 ∷ []), length-append (word ++ a) b)
+    omega (
+      arith,
+      ap length (limits_bytes m),
+      length-append (word ++ a ++ b ++ mode) (13 ∷ 10 ∷ []),
+      length-append (word ++ a ++ b) mode,
+      length-append (word ++ a) b,
+    )
 
 -- A TEXT OF PIECES is as long as they are together.
 pub length_pieces : {A : Type 0} (f : A → List ℕ) (xs : List A) → total (map (λ x. length (f x)) xs) ≡ length (flat_map f xs)

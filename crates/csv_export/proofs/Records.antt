@@ -1,21 +1,37 @@
 -- The records of a text, piece by piece as they are written.
 -- Rests on the definitions of Parts.
-use Rattle.std.proofs.Common.{◌≡◌, ℕ, List, [], ◌∷◌, ◌++◌, map, length, drop, flat_map, refl, sym, ap, ◌∙◌, append_assoc, append-nil}
+use Rattle.std.proofs.Common.{◌≡◌, ℕ, zero, suc, List, [], ◌∷◌, ◌++◌, map, length, drop, flat_map, refl, sym, ap, ◌∙◌, append_assoc, append-nil}
 use Rattle.rules.specs.declared.Limits.{Limits}
 use Rattle.rules.specs.Text.{bytes, decimal}
 use Rattle.rules.specs.declared.Entry.{Entry}
 use Rattle.sheet.specs.Parts.{parts, words}
 use Rattle.rules.specs.declared.Words.{Words}
 use Rattle.sheet.proofs.Stated.{length_parts}
-use Rattle.csv_text.specs.Texts.{run_record, weights_record, way_record, way_records, or_alone, record_text, rendered, further_fields}
+use Rattle.csv_text.specs.Texts.{mode_fields, run_record, weights_record, way_record, way_records, or_alone, record_text, rendered, further_fields}
 use Rattle.csv_export.specs.Parts.{ended, faults_text, way_text, ways_of, cue_text, entry_text}
 
 -- ---- the records in front of the cues
 
+-- The mode by a distance takes no field.
+pub no_mode : (k : ℕ) → k ≡ 0 → further_fields (mode_fields k) ≡ []
+unfolding mode_fields further_fields
+no_mode k e = rw e refl
+
+-- Any other takes one.
+pub some_mode : (k : ℕ) → (k ≡ 0 → ⊥) → further_fields (mode_fields k) ≡ 44 ∷ decimal k
+unfolding mode_fields further_fields
+some_mode zero h = absurd (h refl)
+some_mode (suc k) h = ap (λ (t : List ℕ). 44 ∷ t) (append-nil (decimal (suc k)))
+
 -- The limits.
-pub limits_bytes : (m : Limits) → ended (run_record m) ≡ (114 ∷ 117 ∷ 110 ∷ []) ++ (44 ∷ decimal m.allowance) ++ (44 ∷ decimal m.budget) ++ 13 ∷ 10 ∷ []
+pub limits_bytes : (m : Limits) → ended (run_record m)
+    ≡ (114 ∷ 117 ∷ 110 ∷ []) ++ (44 ∷ decimal m.allowance) ++ (44 ∷ decimal m.budget) ++ further_fields (mode_fields m.mode) ++ 13 ∷ 10 ∷ []
 unfolding ended run_record record_text further_fields bytes
-limits_bytes m = rw append-nil (ap (λ (t : List ℕ). t ++ 13 ∷ 10 ∷ []) (sym (append_assoc (bytes "run") (44 ∷ decimal m.allowance) (44 ∷ decimal m.budget))))
+limits_bytes m =
+    let a = 44 ∷ decimal m.allowance in
+    let b = 44 ∷ decimal m.budget in
+    let mode = further_fields (mode_fields m.mode) in
+    ap (λ (t : List ℕ). t ++ 13 ∷ 10 ∷ []) (sym (append_assoc (bytes "run") a (b ++ mode)) ∙ sym (append_assoc (bytes "run" ++ a) b mode))
 
 -- The fields of weights, and the end of their record.
 abbrev pub fields_ended : List ℕ → List ℕ

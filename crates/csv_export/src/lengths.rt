@@ -4,7 +4,7 @@
 //! Rests on the definitions of Parts and on `csv_text`, Texts.
 ghost use Rattle.std.specs.Prelude.{◌≡◌, ◌∷◌, ◌+◌, ◌*◌, ◌≤◌, length};
 ghost use Rattle.rules.specs.Text.{decimal};
-ghost use Rattle.csv_text.specs.Texts.{run_record, weights_record};
+ghost use Rattle.csv_text.specs.Texts.{further_fields, mode_fields, run_record, weights_record};
 ghost use Rattle.csv_export.specs.Parts.{faults_text, entry_text, ended, entries_text, sheet_text};
 
 use decimal::digits_of;
@@ -64,14 +64,23 @@ fn entries_length(sheet: Sheet<'_>) -> usize
         .sum()
 }
 
+/// The mode, which is written where it is not 0.
+#[tactic(auto, using(crate::proofs::Records::no_mode, crate::proofs::Records::some_mode))]
+fn mode_length(mode: u64) -> usize
+    ensures value { result ≡ length (further_fields (mode_fields mode)) }
+    ensures most { result ≤ 21 }
+{
+    if mode == 0 { 0 } else { field_length(mode) }
+}
+
 /// The limits, with the end of their record.
 #[tactic(auto, using(crate::proofs::Measured::limits_counted))]
 fn limits_length(limits: Limits) -> usize
     ensures value { result ≡ length (ended (run_record limits)) }
-    ensures most { result ≤ 47 }
+    ensures most { result ≤ 68 }
 {
     // The word `run` and the end of the record take 5 bytes.
-    5 + field_length(limits.allowance) + field_length(limits.budget)
+    5 + field_length(limits.allowance) + field_length(limits.budget) + mode_length(limits.mode)
 }
 
 /// The weights, with the end of their record.

@@ -3,7 +3,7 @@
 ghost use Rattle.std.specs.Prelude.{◌≡◌, ◌∷◌};
 ghost use Rattle.rules.specs.Text.{decimal};
 ghost use Rattle.writer.specs.Pieces.{Room, Wrote};
-ghost use Rattle.csv_text.specs.Texts.{run_record, weights_record};
+ghost use Rattle.csv_text.specs.Texts.{further_fields, mode_fields, run_record, weights_record};
 ghost use Rattle.csv_export.specs.Parts.{ended, entries_text, sheet_text};
 
 use super::pieces::{END, put_entry};
@@ -22,6 +22,17 @@ fn put_field(out: &mut Out, number: u64)
     out.extend_from_slice(digits_of(number).as_slice());
 }
 
+/// The mode, where it is not 0.
+#[tactic(auto, using(crate::proofs::Records::no_mode, crate::proofs::Records::some_mode, std::proofs::lemmas::Grind::common_steps))]
+fn put_mode(out: &mut Out, mode: u64)
+    requires { Room out.old (further_fields (mode_fields mode)) }
+    ensures { Wrote out.old (further_fields (mode_fields mode)) out.new }
+{
+    if mode != 0 {
+        put_field(out, mode);
+    }
+}
+
 /// The limits, with the end of their record.
 #[tactic(auto, using(crate::proofs::Measured::limits_counted))]
 fn put_limits(out: &mut Out, limits: Limits)
@@ -31,6 +42,7 @@ fn put_limits(out: &mut Out, limits: Limits)
     out.extend_from_slice(b"run");
     put_field(out, limits.allowance);
     put_field(out, limits.budget);
+    put_mode(out, limits.mode);
     out.extend_from_slice(END);
 }
 

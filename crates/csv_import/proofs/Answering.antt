@@ -5,9 +5,11 @@ use Rattle.std.proofs.lemmas.List.{length-map, take_all}
 use native.Mathlib.Decide.{dec_le}
 use native.Mathlib.Nat.{pow-le-pow_right}
 use Rattle.rules.specs.Rounding.{S}
+use Rattle.rules.specs.declared.Limits.{Limits}
 use Rattle.rules.specs.declared.Refusal.{Refusal}
 use Rattle.rules.specs.Table.{rows}
-use Rattle.rules.specs.Refusals.{Test, test, number, first, answered, faults_outside, cues_outside, some_above, not_rising, crowded, overweight, names_beyond, way_refusals}
+use Rattle.rules.specs.Refusals.{Test, test, number, first, answered, faults_outside, cues_outside, some_above, mode_above, not_rising, crowded}
+use Rattle.rules.specs.Refusals.{overweight, names_beyond, way_refusals}
 use Rattle.rules.specs.Sheet.{AllBelow, Lists, total, lists_of, sheet_of, numbers_of, counts_of, present_of, absent_of, encode}
 use Rattle.rules.specs.Sheet.{lists_refusals, write_refusals, write_number, write_answer, written_by, written}
 use Rattle.rules.proofs.Booleans.{or_split, or-neither, or-second, is_true}
@@ -123,7 +125,7 @@ wide-beyond n ps qs few same wide =
     (sym wide
     ∙ or-neither _ _ (below_none (2 ^ n) 18446744073709551615 ps most below.0) (below_none (2 ^ n) 18446744073709551615 qs most below.1)))
 
--- ---- 2, 5, 6 and 10
+-- ---- 2, 3, 5, 6 and 10
 
 -- One more than the limit is enough to see that there are too many.
 outside-kept : (m n : ℕ) → eqb (min (suc m) n) 0 || ltb m (min (suc m) n) ≡ eqb n 0 || ltb m n
@@ -186,18 +188,22 @@ module _ (ws ns ks : List ℕ) where
     counts-whole = take_all 25 (cut_all 65535 ks) (omega (arith, cut-length 65535 ks, cues-few.1))
 
   -- So the first tests answer as they do for the whole lists.
-  front-kept : ◌≡◌ {A = Result (Unit {0}) Refusal}
-      (answered (front_refusals (kept 65 4294967295 ws) (take 25 ns) (kept 25 65535 ks)) tt)
-      (answered (front_refusals ws ns ks) tt)
+  front-kept : (m : Limits) → ◌≡◌ {A = Result (Unit {0}) Refusal}
+      (answered (front_refusals m (kept 65 4294967295 ws) (take 25 ns) (kept 25 65535 ks)) tt)
+      (answered (front_refusals m ws ns ks) tt)
   unfolding front_refusals crowded overweight
-  front-kept =
+  front-kept m =
       ap (λ (b : Bool). answered (test Refusal.CountsOutside b ∷ behind (kept 65 4294967295 ws) (take 25 ns) (kept 25 65535 ks)) tt) outside-same
       ∙ answered-same _ _ _ (λ e.
       rw (weights-whole e, numbers-whole e, counts-whole e, cut-same S 4294967295 ws (omega arith), cut-same 128 65535 ks (omega arith)) refl)
     where
       behind : List ℕ → List ℕ → List ℕ → List Test
       behind ws ns ks =
-          test Refusal.NotRising (not_rising ns) ∷ test Refusal.Crowded (crowded ks) ∷ test Refusal.Overweight (overweight ws) ∷ []
+          test Refusal.ModeAbove (mode_above m)
+          ∷ test Refusal.NotRising (not_rising ns)
+          ∷ test Refusal.Crowded (crowded ks)
+          ∷ test Refusal.Overweight (overweight ws)
+          ∷ []
 
 -- ---- a text that is read
 
@@ -220,11 +226,11 @@ module _ {t : List ℕ} {g : Gathered} (s : Said t g) where
 
   -- The first tests of what was kept, and that they answer as for the text.
   abbrev front : List Test
-  front = front_refusals g.weights.items g.rows.cues.numbers.items g.rows.cues.counts.items
+  front = front_refusals g.limits g.weights.items g.rows.cues.numbers.items g.rows.cues.counts.items
 
   front-same : ◌≡◌ {A = Result (Unit {0}) Refusal} (answered front tt) (answered (of-front (text_lists t)) tt)
   unfolding text_lists lists_of
-  front-same = rw (s.weights, s.holds.cues.numbers, s.holds.cues.counts) (front-kept W N K)
+  front-same = rw (s.limits, s.weights, s.holds.cues.numbers, s.holds.cues.counts) (front-kept W N K (sheet_in t).limits)
 
   -- They agree in length.
   agrees : Agree (text_lists t)
@@ -235,8 +241,8 @@ module _ {t : List ℕ} {g : Gathered} (s : Said t g) where
     within : (outside W N K W N K ≡ false) × (crowded K ≡ false) × (overweight W ≡ false)
     unfolding front_refusals text_lists lists_of
     within =
-        let n = none-applies (front_refusals W N K) (first-accepted (front_refusals W N K) tt tt passes) in
-        (n.0, n.1.1.0, n.1.1.1.0)
+        let n = none-applies (of-front (text_lists t)) (first-accepted (of-front (text_lists t)) tt tt passes) in
+        (n.0, n.1.1.1.0, n.1.1.1.1.0)
 
     -- So there is room for all words.
     ways-few : length P ≤ 3072

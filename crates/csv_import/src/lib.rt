@@ -26,6 +26,7 @@ pub fn import(text: &[u8], space: &mut [u8]) -> Result<u64, ImportError>
     let Some(lists) = gathered.lists() else {
         let cues = &gathered.rows.cues;
         check_front(
+            gathered.limits,
             gathered.weights.as_slice(),
             cues.numbers.as_slice(),
             cues.counts.as_slice(),

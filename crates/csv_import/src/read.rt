@@ -30,6 +30,7 @@ impl Gathered {
             limits: Limits {
                 allowance: 0,
                 budget: 0,
+                mode: 0,
             },
             weights: ArrayVec::new(),
             rows: Rows::new(),

@@ -1,67 +1,97 @@
--- The records of the limits and of the weights, field by field.
+-- The records of the limits, with the mode, and of the weights, field by field.
 -- Rests on Pieces.antt for the fields, and on Fronts.antt for the weights that are kept.
-use Rattle.std.proofs.Common.{◌≡◌, refl, sym, ap, ◌∙◌, ℕ, suc, ◌+◌, ◌<◌, ◌≤◌, min, true, false, ◌&&◌, eqb, ne_eqb, List, [], ◌∷◌, ◌++◌, map, length, take, drop, length-append, length-take, append-nil, Some, None, Result, Ok, Err, arith}
+use Rattle.std.proofs.Common.{◌≡◌, refl, sym, ap, ◌∙◌, ℕ, suc, ◌+◌, ◌<◌, ◌≤◌, min, true, false, List, [], ◌∷◌, ◌++◌, map, length, get_or, take, drop}
+use Rattle.std.proofs.Common.{length-append, length-take, append-nil, Some, None, Result, Ok, Err, arith}
 use Rattle.std.proofs.lemmas.List.{map-append, length-map, length-drop}
 use Rattle.std.proofs.Math.Seq.{take-nil, append_snoc}
 use Rattle.std.specs.Result.{OkIff, result_unwrap_or}
 use Rattle.arrayvec.specs.ArrayVec.{ArrayVec}
 use Rattle.rules.specs.Sheet.{same_numbers}
-use Rattle.rules.specs.Text.{bytes, decimal_value}
+use Rattle.rules.specs.Text.{bytes, value_after, decimal_value}
 use Rattle.rules.proofs.Booleans.{and-false}
+use Rattle.rules.proofs.Sheets.{same-equal}
 use Rattle.decimal.specs.Numerals.{is_numeral}
 use Rattle.csv_text.specs.Cut.{raw_fields, unquoted, fields_in}
-use Rattle.csv_text.specs.Shapes.{all_numerals, is_run, limits_said, is_weights, weights_said}
+use Rattle.csv_text.specs.Shapes.{all_numerals, is_mode, is_run, limits_said, is_weights, weights_said}
 use Rattle.csv_rows.specs.declared.fields.Rest.{Rest}
 use Rattle.csv_rows.specs.Scan.{line_span, first_line, next_lines}
 use Rattle.csv_rows.specs.Fields.{numeral_said, word_said, first_field, fields_left, lines_left, Passed}
-use Rattle.csv_rows.specs.Told.{run_said, cut_all, weights_kept}
+use Rattle.csv_rows.specs.Told.{mode_said, run_said, cut_all, weights_kept}
 use Rattle.csv_rows.proofs.Fronts.{kept-next}
 use Rattle.csv_rows.proofs.Pieces.{fields-are, raw-count}
 use Rattle.csv_rows.proofs.Reading.{said-not, said-true, said-false}
+
+-- ---- the mode
+
+-- No field: a distance.
+pub mode-none : mode_said [] ≡ Some 0
+unfolding is_mode value_after decimal_value
+mode-none = refl
+
+-- Another field than `1`.
+pub mode-other : (f : List ℕ) (fs : List (List ℕ)) → word_said (bytes "1") f ≡ None → mode_said (f ∷ fs) ≡ None
+unfolding is_mode
+mode-other f [] h = rw (said-false (same_numbers f (bytes "1")) tt h)
+mode-other f (g ∷ fs) h = refl
+
+-- A field too many.
+pub mode-more : (f : List ℕ) (fs : List (List ℕ)) → (fs ≡ [] → ⊥) → mode_said (f ∷ fs) ≡ None
+unfolding is_mode
+mode-more f [] h = absurd (h refl)
+mode-more f (g ∷ fs) h = refl
+
+-- `1` alone: a share.
+pub mode-one : (f : List ℕ) → word_said (bytes "1") f ≡ Some tt → mode_said (f ∷ []) ≡ Some 1
+unfolding is_mode bytes same_numbers value_after decimal_value
+mode-one f h = rw (same-equal f (bytes "1") (said-true (same_numbers f (bytes "1")) tt tt h).0)
 
 -- ---- the limits
 
 -- A record of another word says no limits.
 pub run-word : (w : List ℕ) (fs : List (List ℕ)) → word_said (bytes "run") w ≡ None → run_said (w ∷ fs) ≡ None
 unfolding is_run
-run-word w fs h = rw (said-false (same_numbers w (bytes "run")) tt h)
-
--- Nor does one that has not two numbers behind its word.
-run-not : (w : List ℕ) (fs : List (List ℕ)) → eqb (length fs) 2 && all_numerals fs ≡ false → run_said (w ∷ fs) ≡ None
-unfolding is_run
-run-not w fs h = rw (h, and-false (same_numbers w (bytes "run")))
+run-word w [] h = refl
+run-word w (a ∷ []) h = refl
+run-word w (a ∷ b ∷ fs) h = rw (said-false (same_numbers w (bytes "run")) tt h)
 
 -- The word alone;
 pub run-alone : (w : List ℕ) → run_said (w ∷ []) ≡ None
-run-alone w = run-not w [] refl
+unfolding is_run
+run-alone w = refl
 
 -- no allowance;
 pub run-first : (w a : List ℕ) (fs : List (List ℕ)) → numeral_said a ≡ None → run_said (w ∷ a ∷ fs) ≡ None
-unfolding all_numerals
-run-first w a fs h = run-not w (a ∷ fs) (rw (said-false (is_numeral a) _ h) (and-false (eqb (length (a ∷ fs)) 2)))
+unfolding is_run
+run-first w a [] h = refl
+run-first w a (b ∷ fs) h = rw (said-false (is_numeral a) _ h, and-false (same_numbers w (bytes "run")))
 
 -- no field behind it;
 pub run-one : (w a : List ℕ) → run_said (w ∷ a ∷ []) ≡ None
-run-one w a = run-not w (a ∷ []) refl
+unfolding is_run
+run-one w a = refl
 
 -- no budget;
 pub run-second : (w a b : List ℕ) (fs : List (List ℕ)) → numeral_said b ≡ None → run_said (w ∷ a ∷ b ∷ fs) ≡ None
-unfolding all_numerals
-run-second w a b fs h = run-not w (a ∷ b ∷ fs) (rw (said-false (is_numeral b) _ h, and-false (is_numeral a)) (and-false (eqb (length (a ∷ b ∷ fs)) 2)))
+unfolding is_run
+run-second w a b fs h = rw (said-false (is_numeral b) _ h, and-false (is_numeral a), and-false (same_numbers w (bytes "run")))
 
--- a field too many.
-pub run-more : (w a b : List ℕ) (fs : List (List ℕ)) → (fs ≡ [] → ⊥) → run_said (w ∷ a ∷ b ∷ fs) ≡ None
-run-more w a b [] h = absurd (h refl)
-run-more w a b (c ∷ fs) h = run-not w (a ∷ b ∷ c ∷ fs) (rw (ne_eqb (length (a ∷ b ∷ c ∷ fs)) 2 (λ e. omega arith)))
+-- something else than a mode behind it.
+pub run-mode : (w a b : List ℕ) (fs : List (List ℕ)) → mode_said fs ≡ None → run_said (w ∷ a ∷ b ∷ fs) ≡ None
+unfolding is_run
+run-mode w a b fs h =
+    rw (said-false (is_mode fs) _ h, and-false (is_numeral b), and-false (is_numeral a), and-false (same_numbers w (bytes "run")))
 
 -- The record of the limits.
-pub run-all : (w a b : List ℕ) {x y : ℕ} → word_said (bytes "run") w ≡ Some tt → numeral_said a ≡ Some x → numeral_said b ≡ Some y
-    → run_said (w ∷ a ∷ b ∷ []) ≡ Some (record { allowance = x; budget = y })
-unfolding is_run all_numerals limits_said
-run-all w a b {x} {y} h k l =
+pub run-all : (w a b : List ℕ) (fs : List (List ℕ)) {x y z : ℕ}
+    → word_said (bytes "run") w ≡ Some tt → numeral_said a ≡ Some x → numeral_said b ≡ Some y → mode_said fs ≡ Some z
+    → run_said (w ∷ a ∷ b ∷ fs) ≡ Some (record { allowance = x; budget = y; mode = z })
+unfolding is_run limits_said
+run-all w a b fs {x} {y} {z} h k l m =
+    let word = said-true (same_numbers w (bytes "run")) tt tt h in
     let first = said-true (is_numeral a) (decimal_value a) x k in
     let second = said-true (is_numeral b) (decimal_value b) y l in
-    rw ((said-true (same_numbers w (bytes "run")) tt tt h).0, first.0, second.0, first.1, second.1)
+    let third = said-true (is_mode fs) (decimal_value (get_or fs 0 [])) z m in
+    rw (word.0, first.0, second.0, third.0, first.1, second.1, third.1)
 
 -- ---- the weights
 

@@ -1,12 +1,13 @@
 -- What the functions of this crate tell of the first line of a text, given by its fields.
 -- Rests on `csv_text`, Shapes, and on Scan.antt and Walks.antt.
-use Rattle.std.specs.Prelude.{◌≡◌, ◌||◌, if◌then◌else◌, List, [], ◌∷◌, map, take, length, ℕ, min, ltb, Option, Some, None}
+use Rattle.std.specs.Prelude.{◌≡◌, ◌||◌, if◌then◌else◌, List, [], ◌∷◌, map, take, length, get_or, ℕ, min, ltb, Option, Some, None}
 use Rattle.std.specs.Bool.{then_some}
 use Rattle.std.specs.Borrow.{Bor}
 use Rattle.rules.specs.Sheet.{Cue}
 use Rattle.rules.specs.declared.Limits.{Limits}
+use Rattle.rules.specs.Text.{decimal_value}
 use Rattle.csv_text.specs.Cut.{fields_in}
-use Rattle.csv_text.specs.Shapes.{is_run, limits_said, is_weights, weights_said, fault_in, is_empty_way, is_names, faults_named, is_row, row_in}
+use Rattle.csv_text.specs.Shapes.{is_mode, is_run, limits_said, is_weights, weights_said, fault_in, is_empty_way, is_names, faults_named, is_row, row_in}
 use Rattle.csv_rows.specs.declared.heads.WeightsKept.{WeightsKept}
 use Rattle.csv_rows.specs.declared.Named.{Named}
 use Rattle.csv_rows.specs.declared.Named.TheVariants.{Near, Far}
@@ -14,12 +15,20 @@ use Rattle.csv_rows.specs.declared.Row.{Row}
 use Rattle.csv_rows.specs.Scan.{first_line, next_lines}
 use Rattle.csv_rows.specs.Walks.{apart, named_in}
 
--- The first line is read: what its fields say, and the lines behind it; nothing if they say nothing.
+-- Fields are read, and they are the last of their record: what they say, and the lines behind them; nothing if they say nothing.
+abbrev pub ReadsFields : {A : Type 0} → (List (List ℕ) → Option A) → List (List ℕ) → List ℕ → Option (A × Bor (List ℕ)) → Type 0
+ReadsFields says fs lines None = says fs ≡ None
+ReadsFields says fs lines (Some r) = (says fs ≡ Some r.0) × (r.1.now ≡ lines)
+
+-- The first line is read.
 abbrev pub ReadsLine : {A : Type 0} → (List (List ℕ) → Option A) → List ℕ → Option (A × Bor (List ℕ)) → Type 0
-ReadsLine says t None = says (fields_in (first_line t)) ≡ None
-ReadsLine says t (Some r) = (says (fields_in (first_line t)) ≡ Some r.0) × (r.1.now ≡ next_lines t)
+ReadsLine says t r = ReadsFields says (fields_in (first_line t)) (next_lines t) r
 
 -- ---- the limits and the weights
+
+-- The mode, by the fields behind the allowance and the budget.
+abbrev pub mode_said : List (List ℕ) → Option ℕ
+mode_said fs = then_some (is_mode fs) (decimal_value (get_or fs 0 []))
 
 -- The limits.
 abbrev pub run_said : List (List ℕ) → Option Limits

@@ -1,5 +1,6 @@
 //! The first two records of a text: the limits and the weights. Rests on fields.rt and lists.rt.
-ghost use Rattle.csv_rows.specs.Told.{ReadsLine, run_said, weights_kept};
+ghost use Rattle.csv_rows.specs.Fields.{fields_left, lines_left};
+ghost use Rattle.csv_rows.specs.Told.{ReadsFields, ReadsLine, mode_said, run_said, weights_kept};
 
 use super::fields::{Rest, number_field, word_field};
 use super::lists::keep;
@@ -14,15 +15,34 @@ pub struct WeightsKept<const N: usize> {
     pub count: usize,
 }
 
-/// The record of the limits: `run`, allowance, budget.
+/// The mode, by what is left behind the allowance and the budget: 0 by nothing, 1 by `1` alone.
+fn mode(rest: Rest<'_>) -> Option<(u64, &[u8])>
+    ensures { ReadsFields mode_said (fields_left rest.entry) (lines_left rest.entry) result }
+{
+    match rest {
+        Rest::Lines(lines) => Some((0, lines)),
+        Rest::Fields(fields) => {
+            let ((), rest) = word_field(fields, b"1")?;
+            let lines = rest.lines()?;
+            Some((1, lines))
+        }
+    }
+}
+
+/// The record of the limits: `run`, allowance, budget, and `1` behind them where the allowance is a share.
 pub fn run(text: &[u8]) -> Option<(Limits, &[u8])>
     ensures { ReadsLine run_said text.now result }
 {
     let ((), rest) = word_field(text, b"run")?;
     let (allowance, rest) = number_field(rest.fields()?)?;
     let (budget, rest) = number_field(rest.fields()?)?;
-    let lines = rest.lines()?;
-    Some((Limits { allowance, budget }, lines))
+    let (mode, lines) = mode(rest)?;
+    let limits = Limits {
+        allowance,
+        budget,
+        mode,
+    };
+    Some((limits, lines))
 }
 
 // No iterator goes over the fields: the lines behind the record would have to be got out of it at its end.

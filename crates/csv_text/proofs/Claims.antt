@@ -1,12 +1,12 @@
 -- WHERE TO LOOK FIRST: what is shown of sheets as text, each claim under the clauses of docs/RULES.md that it settles.
 -- Every claim is about the definitions in specs/; the contracts of import and export say that their results equal those definitions.
 use mathlib.Core.Path.{◌≡◌, refl, ap, ◌∙◌}
-use mathlib.Core.Bool.{false}
+use mathlib.Core.Bool.{true, false}
 use mathlib.Core.List.{List, [], ◌∷◌, ◌++◌}
 use mathlib.Core.Logic.{◌↔◌}
 use Prim.Native.Nat.{ℕ, zero, suc, ◌≤◌, ◌<◌}
 use native.Mathlib.Omega.{arith}
-use lib.ListN.{length}
+use lib.ListN.{length, get_or}
 use lib.Dec.{eqb}
 use borrow.Author.Tests.{ne_eqb}
 use Rattle.rules.specs.Rounding.{S}
@@ -17,20 +17,21 @@ use Rattle.std.specs.Prelude.{Ok}
 use Rattle.rules.proofs.Refused.{numbers_tried}
 use Rattle.rules.proofs.Sheets.{within_decoded, encode_decode, encode-bytes}
 use Rattle.csv_text.specs.Cut.{records_in}
-use Rattle.csv_text.specs.Shapes.{misread, sheet_in}
-use Rattle.csv_text.specs.Texts.{sheet_records, rendered, csv_of}
+use Rattle.csv_text.specs.Shapes.{is_run, misread, sheet_in}
+use Rattle.csv_text.specs.Texts.{run_record, sheet_records, rendered, csv_of}
 use Rattle.csv_text.specs.Calls.{text_lists, import_refusals, import_number, import_answer, import_reply, import_count, imported}
 use Rattle.csv_text.specs.Calls.{export_refusals, export_number, export_answer, exported}
 use Rattle.csv_text.proofs.Written.{ImportAlike, StandTable, quoting-same, Unended, last-end-same}
 use Rattle.csv_text.proofs.Order.{ShuffledRows, order_same}
 use Rattle.csv_text.proofs.First.{Fine, due, FirstAmiss, misread-none, misread_first}
+use Rattle.csv_text.proofs.RunRecord.{RunForm, run-exactly, run-misread, ModeSaid, text-mode}
 use Rattle.csv_text.proofs.Rfc.{Rfc}
 use Rattle.csv_text.proofs.Grammar.{ReadsRfc, reads-rfc, accepted-rfc, AnsweredAlike, rfc-alike, csv-rfc}
 use Rattle.csv_text.proofs.Longest.{csv-length, csv-attained}
 use Rattle.csv_text.proofs.Taken.{import-length, import-attained}
 use Rattle.csv_text.proofs.Imports.{AtFront, not_misread, import_within, import_room, import-accepts, import_answered, import-put, import-refused}
-use Rattle.csv_text.proofs.Imports.{import_read, import_decoded, import-replies, number-not-21, number_misread, number_read, write-below}
-use Rattle.csv_text.proofs.Exports.{csv_records, csv_read, sheet_csv, csv-ended, csv_imported, export_read, export_room, read_export}
+use Rattle.csv_text.proofs.Imports.{import_read, import_decoded, import-replies, number-not-3, number-not-21, number_misread, number_read, write-below}
+use Rattle.csv_text.proofs.Exports.{csv_mode, csv_records, csv_read, sheet_csv, csv-ended, csv_imported, export_read, export_room, read_export}
 use Rattle.csv_text.proofs.Exports.{export_answered, export-put, export-refused}
 
 -- ---- RULES 13.1 to 13.3: texts are read as RFC 4180 has them. Where a text says records by its grammar (Rfc.antt), whatever is quoted in them, the import
@@ -56,6 +57,19 @@ with-or-without-end = last-end-same
 pub bare-or-quoted : (rs ps qs : List (List (List ℕ))) → StandTable rs ps → StandTable rs qs → ImportAlike (rendered ps) (rendered qs)
 bare-or-quoted = quoting-same
 
+-- ---- RULES 13.5: the first record is `run`, allowance and budget, and `1` behind them where the allowance is a share.
+
+-- It is of its shape exactly if it is of one of these two forms (RunRecord.antt), and 23 tells record 1 exactly if it is of neither.
+pub first-record : (r : List (List ℕ)) → (is_run r ≡ true) ↔ RunForm r
+first-record = run-exactly
+
+pub first-record-misread : (t : List ℕ) → (misread t ≡ 1) ↔ (RunForm (get_or (records_in t) 0 []) → ⊥)
+first-record-misread = run-misread
+
+-- A text of which no record is misread says mode 1 exactly if its first record has a third number, and else mode 0.
+pub mode-said : (t : List ℕ) → misread t ≡ 0 → ModeSaid (get_or (records_in t) 0 []) (sheet_in t).limits.mode
+mode-said = text-mode
+
 -- ---- RULES 13.7: faults in any order. Two texts whose records are equal but for the order of the faults in the records of ways import alike.
 
 pub faults-any-order : (r w : List (List ℕ)) (rs ss : List (List (List ℕ))) → ShuffledRows rs ss → (t u : List ℕ)
@@ -71,11 +85,15 @@ first-misread = misread_first
 pub none_misread : (t : List ℕ) → (misread t ≡ 0) ↔ ((j : ℕ) → j < due (records_in t) → Fine (records_in t) j)
 none_misread = misread-none
 
-pub import-order : (t : List ℕ) (n : ℕ) → numbers_tried (import_refusals t n) ≡ 23 ∷ 2 ∷ 5 ∷ 6 ∷ 10 ∷ 12 ∷ 13 ∷ 14 ∷ 15 ∷ 21 ∷ 22 ∷ []
+pub import-order : (t : List ℕ) (n : ℕ) → numbers_tried (import_refusals t n) ≡ 23 ∷ 2 ∷ 3 ∷ 5 ∷ 6 ∷ 10 ∷ 12 ∷ 13 ∷ 14 ∷ 15 ∷ 21 ∷ 22 ∷ []
 unfolding import_refusals write_refusals lists_refusals way_refusals limit_refusals
 import-order t n = refl
 
--- But never 21: the lists of a text agree in length.
+-- But never 3: any third number of the first record but `1` is 23.
+pub import-never-3 : (t : List ℕ) (n : ℕ) → import_number t n ≡ 3 → ⊥
+import-never-3 = number-not-3
+
+-- And never 21: the lists of a text agree in length.
 pub never-gives-21 : (t : List ℕ) (n : ℕ) → import_number t n ≡ 21 → ⊥
 never-gives-21 = number-not-21
 
@@ -164,11 +182,14 @@ pub record TextOf (s : Sheet) : Type 0 where
   pub ended : (u : List ℕ) × (csv_of s ≡ u ++ 13 ∷ 10 ∷ [])
   pub read : misread (csv_of s) ≡ 0
   pub says : sheet_in (csv_of s) ≡ s
+  -- Its first record has a third number, `1`, exactly if the allowance is a share.
+  pub mode : ModeSaid (run_record s.limits) s.limits.mode
   -- It is a text of RFC 4180.
   pub of_rfc : Rfc (csv_of s) (sheet_records s)
 
 pub text_of : (s : Sheet) → Within s → TextOf s
-text_of s w = record { records = csv_records s w; ended = csv-ended s; read = csv_read s w; says = sheet_csv s w; of_rfc = csv-rfc s w }
+text_of s w =
+    record { records = csv_records s w; ended = csv-ended s; read = csv_read s w; says = sheet_csv s w; mode = csv_mode s w; of_rfc = csv-rfc s w }
 
 -- ---- RULES 13.14: export's refusals in their order, which sheets it accepts, and what it writes.
 
@@ -216,12 +237,12 @@ pub import-export : (t : List ℕ) (n : ℕ) → import_number t n ≡ 0 → (be
 import-export t n h between space room long =
     export-import (encode (sheet_in t)) (encode-bytes (sheet_in t)) (import_read t n h) between space (rw (import_decoded t n h) room) long
 
--- ---- RULES 13.16: no text of a sheet has more than 781,021 bytes, and that of one sheet has as many.
+-- ---- RULES 13.16: no text of a sheet has more than 781,023 bytes, and that of one sheet has as many.
 
-pub longest-text : ((s : Sheet) → Within s → length (csv_of s) ≤ 781021) × ((s : Sheet) × Within s × (length (csv_of s) ≡ 781021))
+pub longest-text : ((s : Sheet) → Within s → length (csv_of s) ≤ 781023) × ((s : Sheet) × Within s × (length (csv_of s) ≡ 781023))
 longest-text = (csv-length, csv-attained)
 
--- No text that import accepts has more than 1,180,517, and one has as many.
-pub longest-taken : ((t : List ℕ) (n : ℕ) → import_number t n ≡ 0 → length t ≤ 1180517)
-    × ((t : List ℕ) × (n : ℕ) × (import_number t n ≡ 0) × (length t ≡ 1180517))
+-- No text that import accepts has more than 1,180,521, and one has as many.
+pub longest-taken : ((t : List ℕ) (n : ℕ) → import_number t n ≡ 0 → length t ≤ 1180521)
+    × ((t : List ℕ) × (n : ℕ) × (import_number t n ≡ 0) × (length t ≡ 1180521))
 longest-taken = (import-length, import-attained)

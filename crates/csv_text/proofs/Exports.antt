@@ -1,11 +1,11 @@
 -- A sheet within the limits: the records of its text are found again, none of them is misread, they say the sheet, and import accepts them
--- (RULES 13.13, 13.15). Rests on Written.antt, Names.antt, Rows.antt, Imports.antt, and on `rules`, WriterLists, WithinLimits.
+-- (RULES 13.13, 13.15). Rests on Written.antt, Names.antt, Rows.antt, RunRecord.antt, Imports.antt, and on `rules`, WriterLists, WithinLimits.
 use mathlib.Core.Path.{◌≡◌, refl, sym, ap, ◌∙◌}
 use mathlib.Core.Bool.{true}
 use mathlib.Core.List.{List, [], ◌∷◌, ◌++◌, append_assoc}
 use Prim.Native.Nat.{ℕ, zero, suc, ◌^◌, ◌<◌, ◌≤◌}
 use native.Mathlib.Omega.{arith}
-use lib.ListN.{length}
+use lib.ListN.{length, get_or}
 use lib.Dec.{ltb}
 use borrow.Author.Tests.{ltb-false, le-ltb, not-false}
 use Rattle.rules.specs.Rounding.{S}
@@ -16,7 +16,7 @@ use Rattle.rules.specs.Sheet.{Cue, Sheet, same_numbers, AllBelow, Within, lists_
 use Rattle.rules.specs.Sheet.{read_refusals, read_number, written_by}
 use Rattle.std.specs.Prelude.{None, Ok}
 use Rattle.rules.proofs.Answering.{answered-free}
-use Rattle.rules.specs.Text.{bytes}
+use Rattle.rules.specs.Text.{bytes, digits, decimal, value_after, decimal_value}
 use Rattle.rules.proofs.Booleans.{and_both}
 use Rattle.rules.proofs.Bytes.{below-mono}
 use Rattle.rules.proofs.Decimal.{decimal-value}
@@ -25,12 +25,13 @@ use Rattle.rules.proofs.WriterLists.{Kept, lists_kept, kept_agree, none_above, w
 use Rattle.rules.proofs.WithinLimits.{Tested, within-tested}
 use Rattle.decimal.proofs.Numerals.{decimal-numeral}
 use Rattle.csv_text.specs.Cut.{records_in}
-use Rattle.csv_text.specs.Shapes.{all_numerals, is_run, limits_said, is_weights, weights_said, misread_weights, misread_records, misread, sheet_said, sheet_in}
-use Rattle.csv_text.specs.Texts.{cue_records, run_record, weights_record, sheet_records, record_text, rendered, csv_of}
+use Rattle.csv_text.specs.Shapes.{is_mode, is_run, limits_said, is_weights, weights_said, misread_weights, misread_records, misread, sheet_said, sheet_in}
+use Rattle.csv_text.specs.Texts.{cue_records, mode_fields, run_record, weights_record, sheet_records, record_text, rendered, csv_of}
 use Rattle.csv_text.specs.Calls.{import_number, export_refusals, export_number, export_answer, exported}
-use Rattle.csv_text.proofs.Written.{Every, PlainRecord, records-rendered}
+use Rattle.csv_text.proofs.Written.{Every, Plain, PlainRecord, records-rendered}
 use Rattle.csv_text.proofs.Names.{decimal-plain, all-decimal}
 use Rattle.csv_text.proofs.Rows.{Worded, Well, cues_well, steps-read}
+use Rattle.csv_text.proofs.RunRecord.{ModeSaid, run-mode}
 use Rattle.csv_text.proofs.Imports.{AtFront, written-front, import-accepts}
 
 -- ---- what a sheet within the limits has
@@ -51,15 +52,23 @@ words-cues n (c ∷ cs) h k =
 
 -- ---- the first two records
 
+-- What stands for the mode behind the two numbers has its shape, says the mode, and is plain.
+mode-read : (k : ℕ) → k ≤ 1 → (is_mode (mode_fields k) ≡ true) × (decimal_value (get_or (mode_fields k) 0 []) ≡ k) × Every Plain (mode_fields k)
+unfolding is_mode mode_fields bytes decimal digits decimal_value value_after same_numbers
+mode-read zero h = (refl, refl, tt)
+mode-read (suc zero) h = (refl, refl, (decimal-plain 1, tt))
+mode-read (suc (suc k)) h = absurd (omega arith)
+
 -- The record of the limits has its shape, says them, and is plain.
-run-read : (m : Limits) → m.allowance < 10 ^ 10 → m.budget < 10 ^ 10
+run-read : (m : Limits) → m.allowance < 10 ^ 10 → m.budget < 10 ^ 10 → m.mode ≤ 1
     → (is_run (run_record m) ≡ true) × (limits_said (run_record m) ≡ m) × PlainRecord (run_record m)
-unfolding is_run run_record limits_said bytes same_numbers all_numerals
-run-read m h k = (
-  and_both _ _ (decimal-numeral m.allowance h) (and_both _ _ (decimal-numeral m.budget k) refl),
-  (λ i. record { allowance = decimal-value m.allowance i; budget = decimal-value m.budget i }),
-  (omega arith, (omega arith, (decimal-plain m.allowance, (decimal-plain m.budget, tt)))),
-)
+unfolding is_run run_record limits_said bytes same_numbers
+run-read m h k l =
+    let mode = mode-read m.mode l in (
+      and_both _ _ (decimal-numeral m.allowance h) (and_both _ _ (decimal-numeral m.budget k) mode.0),
+      (λ i. record { allowance = decimal-value m.allowance i; budget = decimal-value m.budget i; mode = mode.1 i }),
+      (omega arith, (omega arith, (decimal-plain m.allowance, (decimal-plain m.budget, mode.2)))),
+    )
 
 -- So has that of the weights.
 weights-read : (ws : List ℕ) → AllBelow (10 ^ 10) ws
@@ -80,7 +89,11 @@ module _ (s : Sheet) (w : Within s) where
 
   -- The record of the limits has its shape, says them, and is plain.
   run_back : (is_run (run_record s.limits) ≡ true) × (limits_said (run_record s.limits) ≡ s.limits) × PlainRecord (run_record s.limits)
-  run_back = run-read s.limits (omega (arith, w.allowance)) (omega (arith, w.budget))
+  run_back = run-read s.limits (omega (arith, w.allowance)) (omega (arith, w.budget)) w.mode
+
+  -- It has a third number exactly if the allowance is a share.
+  pub csv_mode : ModeSaid (run_record s.limits) s.limits.mode
+  csv_mode = rw run_back.1 at (run-mode (run_record s.limits) run_back.0)
 
   -- The record of the weights.
   weights_back : (is_weights (weights_record s.weights) ≡ true) × (weights_said (weights_record s.weights) ≡ s.weights)

@@ -6,7 +6,7 @@ use mathlib.Core.Bool.{Bool, true, ◌&&◌}
 use mathlib.Core.List.{List, [], ◌∷◌, ◌++◌}
 use Prim.Native.Nat.{ℕ, zero, suc}
 use Prim.Native.String.{String}
-use lib.ListN.{length, replicate}
+use lib.ListN.{length, take, drop, replicate}
 use lib.Dec.{eqb}
 use Rattle.rules.specs.Refusals
 use Rattle.rules.specs.Answers
@@ -36,10 +36,10 @@ of-cutting = tt
 -- What records say.
 unfoldable of-shapes : Unit {0}
 unfolding of-cutting Text.bytes Text.digits Text.decimal Text.value_after Text.decimal_value Sheet.same_numbers Numerals.is_numeral
-    Shapes.all_numerals Shapes.is_run Shapes.limits_said Shapes.is_weights Shapes.weights_said Shapes.signed Shapes.unsigned Shapes.is_fault Shapes.fault_in
-    Shapes.all_faults Shapes.same_sense Shapes.among Shapes.repeats Shapes.word_of Shapes.is_empty_way Shapes.is_names Shapes.is_row Shapes.faults_named
-    Shapes.row_in Shapes.follows Shapes.misread_rows Shapes.misread_weights Shapes.misread_records Shapes.misread Shapes.attach Shapes.grouped
-    Shapes.sheet_said Shapes.sheet_in
+    Shapes.all_numerals Shapes.is_mode Shapes.is_run Shapes.limits_said Shapes.is_weights Shapes.weights_said Shapes.signed Shapes.unsigned Shapes.is_fault
+    Shapes.fault_in Shapes.all_faults Shapes.same_sense Shapes.among Shapes.repeats Shapes.word_of Shapes.is_empty_way Shapes.is_names Shapes.is_row
+    Shapes.faults_named Shapes.row_in Shapes.follows Shapes.misread_rows Shapes.misread_weights Shapes.misread_records Shapes.misread Shapes.attach
+    Shapes.grouped Shapes.sheet_said Shapes.sheet_in
 of-shapes = tt
 
 -- An import.
@@ -52,8 +52,8 @@ of-import = tt
 unfoldable of-export : Unit {0}
 unfolding of-reading Answers.counted_by Text.bytes Text.digits Text.decimal Refusals.answered Sheet.written_by
     Texts.fault_text Texts.mark Texts.faults_from Texts.or_zero
-    Texts.way_record Texts.way_records Texts.or_alone Texts.cue_records Texts.run_record Texts.weights_record Texts.sheet_records Texts.further_fields
-    Texts.record_text Texts.rendered Texts.csv_of Calls.export_refusals Calls.export_number Calls.export_answer Calls.exported
+    Texts.way_record Texts.way_records Texts.or_alone Texts.cue_records Texts.mode_fields Texts.run_record Texts.weights_record Texts.sheet_records
+    Texts.further_fields Texts.record_text Texts.rendered Texts.csv_of Calls.export_refusals Calls.export_number Calls.export_answer Calls.exported
 of-export = tt
 
 -- ---- the form of a figure
@@ -141,9 +141,13 @@ abbrev sevens : ℕ → List ℕ
 sevens zero = []
 sevens (suc k) = bytes "7,1\r\n" ++ sevens k
 
--- A sheet with the limits 1 and 2.
+-- A sheet with the limits 1 and 2, in a mode.
+abbrev in_mode : ℕ → List ℕ → List Cue → Sheet
+in_mode m ws cs = record { limits = record { allowance = 1; budget = 2; mode = m }; weights = ws; cues = cs }
+
+-- By a distance.
 abbrev plain : List ℕ → List Cue → Sheet
-plain ws cs = record { limits = record { allowance = 1; budget = 2 }; weights = ws; cues = cs }
+plain ws cs = in_mode 0 ws cs
 
 -- A cue.
 abbrev cue : ℕ → List ℕ → List ℕ → Cue
@@ -162,6 +166,26 @@ small c = encode (plain (5 ∷ []) (c ∷ []))
 abbrev printed : List ℕ
 printed = bytes "run,10000000,40\r\nweights,500000000,500000000,200000000\r\n7,1,2\r\n7,1,3\r\n9\r\n"
 
+-- The text of a sheet of three weights and one cue of two ways, with these limits in front.
+abbrev limited : String → List ℕ
+limited run = bytes run ++ bytes "\r\nweights,500000000,500000000,200000000\r\n7,1,2\r\n7,1,3\r\n"
+
+-- The head of such a sheet, of allowance 76923077 and budget 255, by the two bytes of its mode.
+abbrev headed : ℕ → ℕ → List ℕ
+headed low high = 0x03 ∷ 0x00 ∷ 0x01 ∷ 0x00 ∷ 0xC5 ∷ 0xC0 ∷ 0x95 ∷ 0x04 ∷ 0xFF ∷ 0x00 ∷ low ∷ high ∷ []
+
+-- The whole sheet: behind the head it is the sheet of RULES 11.7 without its second cue.
+abbrev whole : ℕ → ℕ → List ℕ
+whole low high = headed low high ++ drop 12 (encode (record { limits = (show 40).limits; weights = (show 40).weights; cues = take 1 (show 40).cues }))
+
+-- A run, and behind it one weight and a cue.
+abbrev run : String → CsvCall
+run s = importing (bytes s ++ bytes "\r\nweights,5\r\n7\r\n")
+
+-- The bytes of that sheet by share.
+abbrev by_share : List ℕ
+by_share = encode (in_mode 1 (5 ∷ []) (cue 7 [] [] ∷ []))
+
 -- ---- the figures
 
 -- Each is a call with what it is to tell and to write.
@@ -174,6 +198,30 @@ figures =
     ∷ refused_in 72 22 (exporting (encode (show 40)))
     -- Every field quoted, no CR LF at the end.
     ∷ taken 40 (quote "\"run\",\"1\",\"2\"\r\n\"weights\",\"5\"\r\n\"7\",\"-1\"") (small (cue 7 (0 ∷ []) (1 ∷ [])))
+    -- By share: `1` behind the two numbers, bare or quoted, and mode 1 in the head; by distance neither.
+    ∷ taken 64 (importing (limited "run,76923077,255,1")) (whole 1 0)
+    ∷ taken 73 (exporting (whole 1 0)) (limited "run,76923077,255,1")
+    ∷ refused_in 72 22 (exporting (whole 1 0))
+    ∷ taken 64 (importing (limited "run,76923077,255")) (whole 0 0)
+    ∷ taken 71 (exporting (whole 0 0)) (limited "run,76923077,255")
+    ∷ refused_by 3 (exporting (whole 2 0))
+    ∷ refused_by 3 (exporting (whole 0 1))
+    ∷ refused_by 3 (exporting (whole 255 255))
+    ∷ taken 24 (run "run,1,2,1") by_share
+    ∷ taken 24 (run "run,1,2,\"1\"") by_share
+    ∷ taken 24 (run "\"run\",\"1\",\"2\",\"1\"") by_share
+    -- Nothing else may stand there, and nothing behind it.
+    ∷ misread_at 1 (run "run,1,2,0")
+    ∷ misread_at 1 (run "run,1,2,\"0\"")
+    ∷ misread_at 1 (run "run,1,2,2")
+    ∷ misread_at 1 (run "run,1,2,01")
+    ∷ misread_at 1 (run "run,1,2,11")
+    ∷ misread_at 1 (run "run,1,2,-1")
+    ∷ misread_at 1 (run "run,1,2,")
+    ∷ misread_at 1 (run "run,1,2,\"\"")
+    ∷ misread_at 1 (run "run,1,2,1,1")
+    ∷ misread_at 1 (run "run,1,2,1,")
+    ∷ misread_at 1 (run "run,1,,1")
     -- No record of a cue is 2; so are no weights.
     ∷ refused_by 2 (one "")
     ∷ refused_by 2 (quote "run,1,2\r\nweights\r\n")
@@ -209,15 +257,17 @@ figures =
     ∷ refused_by 12 (one "7,1,65\r\n")
     ∷ refused_by 13 (one "7,1,-1\r\n")
     -- Numbers: ten digits at most, no plus, no leading zero, no blank.
-    ∷ refused_by 14 (quote "run,9999999999,2\r\nweights,5\r\n7\r\n")
-    ∷ misread_at 1 (quote "run,10000000000,2\r\nweights,5\r\n7\r\n")
-    ∷ refused_by 15 (quote "run,1,256\r\nweights,5\r\n7\r\n")
+    ∷ refused_by 14 (run "run,9999999999,2")
+    ∷ refused_by 14 (run "run,9999999999,2,1")
+    ∷ misread_at 1 (run "run,10000000000,2")
+    ∷ refused_by 15 (run "run,1,256")
+    ∷ refused_by 15 (run "run,1,256,1")
     ∷ refused_by 10 (quote "run,1,2\r\nweights,1000000001\r\n7,2\r\n")
-    ∷ misread_at 1 (quote "run,01,2\r\nweights,5\r\n7\r\n")
-    ∷ misread_at 1 (quote "run,+1,2\r\nweights,5\r\n7\r\n")
-    ∷ misread_at 1 (quote "run, 1,2\r\nweights,5\r\n7\r\n")
-    ∷ misread_at 1 (quote "run,-1,2\r\nweights,5\r\n7\r\n")
-    ∷ misread_at 1 (quote "run,,2\r\nweights,5\r\n7\r\n")
+    ∷ misread_at 1 (run "run,01,2")
+    ∷ misread_at 1 (run "run,+1,2")
+    ∷ misread_at 1 (run "run, 1,2")
+    ∷ misread_at 1 (run "run,-1,2")
+    ∷ misread_at 1 (run "run,,2")
     -- The first two records: their words, the number of fields, the end of a line.
     ∷ misread_at 1 (quote "")
     ∷ misread_at 2 (quote "run,1,2")
@@ -225,8 +275,7 @@ figures =
     ∷ misread_at 2 (quote "run,1,2\r\n\r\nweights,5\r\n7\r\n")
     ∷ misread_at 1 (quote "weights,5\r\nrun,1,2\r\n7\r\n")
     ∷ misread_at 1 (quote "Run,1,2\r\nweights,5\r\n7\r\n")
-    ∷ misread_at 1 (quote "run,1\r\nweights,5\r\n7\r\n")
-    ∷ misread_at 1 (quote "run,1,2,0\r\nweights,5\r\n7\r\n")
+    ∷ misread_at 1 (run "run,1")
     ∷ misread_at 1 (quote "run,1,2\nweights,5\n7\n")
     ∷ misread_at 1 (importing (239 ∷ 187 ∷ 191 ∷ bytes "run,1,2\r\nweights,5\r\n7\r\n"))
     ∷ misread_at 3 (one "7\n")

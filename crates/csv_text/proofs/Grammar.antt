@@ -27,6 +27,7 @@ use Rattle.csv_text.specs.Calls.{import_number, import_answer_by, import_answer,
 use Rattle.csv_text.proofs.Written.{Every, Free, free-append, raw-front, cut_by, lines_cut, bare-line, lines-front, quotes, unquoted-quotes, import-same}
 use Rattle.csv_text.proofs.Imports.{number_misread, import-refused}
 use Rattle.csv_text.proofs.Exports.{csv_records, csv_read}
+use Rattle.csv_text.proofs.RunRecord.{RunForm, by-distance, by-share, run-form}
 use Rattle.csv_text.proofs.First.{Fine, due, FirstAmiss, records-none, records-first}
 use Rattle.csv_text.proofs.Rfc.{above_comma, is_text, AllText, Enclosed, no_byte, one_byte, doubled_quote, FieldOf, bare_field, quoted_field}
 use Rattle.csv_text.proofs.Rfc.{RecordOf, last_field, field_before, Rfc, no_record, last_unended, record_ended, rfc-once}
@@ -72,12 +73,15 @@ word-text : (w v : List ℕ) → same_numbers w v ≡ true → all_above v ≡ t
 word-text w v e h = subst AllText (sym (same-equal w v e)) (above-text v h)
 
 -- A record of the shape of the first.
+form-text : (r : List (List ℕ)) → RunForm r → AllTexts r
+unfolding bytes all_above
+form-text _ (by-distance {a = a} {b = b} h k) = (above-text (bytes "run") refl, (numeral-text a h, (numeral-text b k, tt)))
+form-text _ (by-share {a = a} {b = b} h k) =
+    (above-text (bytes "run") refl, (numeral-text a h, (numeral-text b k, (above-text (bytes "1") refl, tt))))
+
+-- So by its test.
 run-text : (r : List (List ℕ)) → is_run r ≡ true → AllTexts r
-unfolding is_run bytes all_above
-run-text [] h = absurd (true≢false (sym h))
-run-text (w ∷ fs) h =
-    let both = and_split (same_numbers w (bytes "run")) _ h in
-    (word-text w (bytes "run") both.0 refl, numerals-text fs (and_right (eqb (length fs) 2) (all_numerals fs) both.1))
+run-text r h = form-text r (run-form r h)
 
 -- One of the shape of the second.
 weights-text : (r : List (List ℕ)) → is_weights r ≡ true → AllTexts r

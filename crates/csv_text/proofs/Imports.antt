@@ -1,5 +1,5 @@
--- Every text: 21 never applies; what an accepted import gives; what the answers of import and export say in number and count (RULES 13.11 to 13.14).
--- Rests on the definitions, and on `rules`, Laid, WriterLists, WithinLimits, Sheets, RoundTrip and Replies.
+-- Every text: 3 and 21 never apply; what an accepted import gives; what the answers of import and export say in number and count (RULES 13.11 to 13.14).
+-- Rests on the definitions, on RunRecord.antt, and on `rules`, Laid, WriterLists, WithinLimits, Sheets, RoundTrip and Replies.
 use mathlib.Core.Path.{◌≡◌, refl, sym, ap, ◌∙◌}
 use mathlib.Core.Bool.{Bool, true, false, ◌&&◌, ◌||◌, true≢false}
 use mathlib.Core.List.Memᴰ
@@ -11,7 +11,7 @@ use lib.Seq.{take-append_seam, drop-append_seam}
 use lib.Dec.{eqb, ltb}
 use borrow.Author.Tests.{ltb-true, le-ltb, lt-ltb, ne_eqb, eq-eqb}
 use Rattle.rules.specs.Rounding.{S}
-use Rattle.rules.specs.Refusals.{Test, test, number, first, way_refusals, limit_refusals}
+use Rattle.rules.specs.Refusals.{Test, test, number, first, mode_above, way_refusals, limit_refusals}
 use Rattle.rules.specs.declared.Refusal.{Refusal}
 use Rattle.rules.specs.Sheet.{Cue, Sheet, Lists, AllBelow, Within, lists_of, sheet_of, numbers_of, encode, decode, read_number, disagree}
 use Rattle.rules.specs.Sheet.{lists_refusals, write_refusals, write_number, write_answer, written_by}
@@ -35,6 +35,7 @@ use Rattle.csv_text.specs.Texts.{csv_of}
 use Rattle.csv_text.specs.Calls.{text_lists, import_refusals, import_number, taken_over, import_answer_by, import_answer, import_reply, import_count, imported}
 use Rattle.csv_text.specs.Calls.{export_refusals, export_number, export_answer}
 use Rattle.csv_text.specs.Promises.{told}
+use Rattle.csv_text.proofs.RunRecord.{text-mode}
 
 -- ---- words in pairs, so 21 never applies
 
@@ -157,6 +158,18 @@ module _ (t : List ℕ) (n : ℕ) where
   pub number_read : misread t ≡ 0 → import_number t n ≡ write_number (text_lists t) n
   unfolding import_number import_refusals write_number
   number_read e = first-later (test Refusal.Misread (ltb 0 (misread t))) (write_refusals (text_lists t) n) (le-ltb 0 (misread t) (omega (arith, e)))
+
+-- 3 is never given: a text says no mode above 1.
+pub number-not-3 : (t : List ℕ) (n : ℕ) → import_number t n ≡ 3 → ⊥
+unfolding text_lists lists_of write_number write_refusals lists_refusals way_refusals limit_refusals mode_above
+number-not-3 t n h = split (misread t) refl
+  where
+    split : (k : ℕ) → misread t ≡ k → ⊥
+    split zero e =
+        let low : ltb 1 (sheet_in t).limits.mode ≡ false = le-ltb 1 (sheet_in t).limits.mode (text-mode t e).either in
+        let found = first-applies 3 (write_refusals (text_lists t) n) (omega arith) (sym (number_read t n e) ∙ h) in
+        true≢false (sym found ∙ ap (λ (b : Bool). b || false) low)
+    split (suc k) e = omega (arith, h, number_misread t n k e)
 
 -- ---- an accepted import
 

@@ -1,5 +1,5 @@
--- The longest text of a sheet has 781,021 bytes (RULES 13.16): no text of a sheet within the limits is longer, and one is as long.
--- 20 bytes for the run, 713 for 64 weights, and 254 for each of 24 times 128 ways that name 64 faults absent.
+-- The longest text of a sheet has 781,023 bytes (RULES 13.16): no text of a sheet within the limits is longer, and one is as long.
+-- 22 bytes for the run, whose allowance is a share, 713 for 64 weights, and 254 for each of 24 times 128 ways that name 64 faults absent.
 -- Rests on the definitions of Texts, on the library's laws of sums and on `rules`, Decimal and WithinLimits.
 use mathlib.Core.Path.{◌≡◌, refl, ap, ◌∙◌}
 use mathlib.Core.Bool.{Bool, true, false, ◌&&◌, true≢false}
@@ -14,6 +14,7 @@ use Rattle.std.specs.List.{sum_by}
 use Rattle.std.proofs.lemmas.List.Sums.{sum_by-cons, sum_by-append}
 use borrow.Author.Tests.{eqb-true}
 use Rattle.rules.specs.Rounding.{S}
+use Rattle.rules.specs.declared.Limits.{Limits}
 use Rattle.rules.specs.declared.Way.{Way}
 use Rattle.rules.specs.Table.{odd, bit, rows, ways}
 use Rattle.rules.specs.Members.{In}
@@ -26,8 +27,8 @@ use Rattle.rules.proofs.Decimal.{decimal-length, billion-digits}
 use Rattle.rules.proofs.Laid.{Paired, paired_none, paired-cons}
 use Rattle.rules.proofs.WithinLimits.{tested-within}
 use Rattle.csv_text.specs.Shapes.{Fault}
-use Rattle.csv_text.specs.Texts.{fault_text, mark, faults_from, or_zero, way_record, way_records, or_alone, cue_records, run_record, weights_record}
-use Rattle.csv_text.specs.Texts.{sheet_records, further_fields, record_text, rendered, csv_of}
+use Rattle.csv_text.specs.Texts.{fault_text, mark, faults_from, or_zero, way_record, way_records, or_alone, cue_records, mode_fields, run_record}
+use Rattle.csv_text.specs.Texts.{weights_record, sheet_records, further_fields, record_text, rendered, csv_of}
 
 -- ---- the faults of a way
 
@@ -148,16 +149,27 @@ cues-length n m (c ∷ cs) h =
       mul-suc m (length cs),
     )
 
--- The limits, and the weights.
-run_length : (a b : ℕ) → a ≤ S → b ≤ 255 → length (record_text (run_record (record { allowance = a; budget = b }))) ≤ 18
+-- The mode takes a comma and a digit, if it is written.
+mode-length : (k : ℕ) → k ≤ 1 → length (further_fields (mode_fields k)) ≤ 2
+unfolding mode_fields further_fields decimal digits
+mode-length zero h = omega arith
+mode-length (suc zero) h = omega arith
+mode-length (suc (suc k)) h = absurd (omega arith)
+
+-- The limits.
+run_length : (m : Limits) → m.allowance ≤ S → m.budget ≤ 255 → m.mode ≤ 1 → length (record_text (run_record m)) ≤ 20
 unfolding run_record record_text further_fields bytes
-run_length a b h k =
+run_length m h k l =
+    let a : List ℕ = decimal m.allowance in
+    let b : List ℕ = decimal m.budget in
+    let mode : List ℕ = further_fields (mode_fields m.mode) in
     omega (
       arith,
-      length-append (decimal a) (44 ∷ decimal b ++ []),
-      length-append (decimal b) [],
-      billion-digits a h,
-      decimal-length b 2 (omega arith),
+      length-append a (44 ∷ b ++ mode),
+      length-append b mode,
+      billion-digits m.allowance h,
+      decimal-length m.budget 2 (omega arith),
+      mode-length m.mode l,
     )
 
 -- A comma and at most ten digits for each weight.
@@ -172,8 +184,8 @@ weights-length (w ∷ ws) h =
       weights-length ws (λ x i. h x (Memᴰ.tail i)),
     )
 
--- THE TEXT OF A SHEET within the limits has at most 781,021 bytes.
-pub csv-length : (s : Sheet) → Within s → length (csv_of s) ≤ 781021
+-- THE TEXT OF A SHEET within the limits has at most 781,023 bytes.
+pub csv-length : (s : Sheet) → Within s → length (csv_of s) ≤ 781023
 unfolding csv_of sheet_records weights_record record_text bytes ways
 csv-length s w =
     let cues : List (List (List ℕ)) = cue_records (length s.weights) s.cues in
@@ -181,7 +193,7 @@ csv-length s w =
       arith,
       rendered-cons (run_record s.limits) (weights_record s.weights ∷ cues),
       rendered-cons (weights_record s.weights) cues,
-      run_length s.limits.allowance s.limits.budget w.allowance w.budget,
+      run_length s.limits w.allowance w.budget w.mode,
       weights-length s.weights w.weights,
       w.few_faults,
       w.few_cues,
@@ -209,9 +221,13 @@ widest_from : ℕ → ℕ → List Cue
 widest_from c zero = []
 widest_from c (suc k) = widest c ∷ widest_from (suc c) k
 
--- The highest limits, 64 of the highest weight, and 24 such cues with numbers of five digits.
+-- The highest limits, by share.
+abbrev highest : Limits
+highest = record { allowance = S; budget = 255; mode = 1 }
+
+-- These, 64 of the highest weight, and 24 such cues with numbers of five digits.
 wordiest : Sheet
-wordiest = record { limits = record { allowance = S; budget = 255 }; weights = replicate 64 S; cues = widest_from 10000 24 }
+wordiest = record { limits = highest; weights = replicate 64 S; cues = widest_from 10000 24 }
 
 -- Its parts, by computing.
 every-length : length (further_fields (or_zero (map fault_text (faults_from 0 64 0 every)))) ≡ 247
@@ -281,15 +297,15 @@ wordiest-fives = refl
 
 -- Its first record.
 abbrev run : List (List ℕ)
-run = run_record (record { allowance = S; budget = 255 })
+run = run_record highest
 
 -- Its second.
 abbrev weights : List (List ℕ)
 weights = weights_record (replicate 64 S)
 
--- The two have 729 bytes.
-wordiest-front : length (record_text run) + length (record_text weights) ≡ 729
-unfolding run_record weights_record record_text further_fields bytes decimal digits
+-- The two have 731 bytes.
+wordiest-front : length (record_text run) + length (record_text weights) ≡ 731
+unfolding mode_fields run_record weights_record record_text further_fields bytes decimal digits
 wordiest-front = refl
 
 -- It is within the limits.
@@ -297,8 +313,8 @@ wordiest-within : Within wordiest
 unfolding wordiest
 wordiest-within = tested-within wordiest (record { numbered = wordiest-numbered; paired = widest-paired 10000 24; kept = wordiest-kept })
 
--- Its text has 781,021 bytes.
-wordiest-length : length (csv_of wordiest) ≡ 781021
+-- Its text has 781,023 bytes.
+wordiest-length : length (csv_of wordiest) ≡ 781023
 unfolding csv_of sheet_records wordiest
 wordiest-length =
     ap (λ (n : ℕ). length (rendered (run ∷ weights ∷ cue_records n (widest_from 10000 24)))) (length-replicate 64 S)
@@ -341,13 +357,13 @@ cues-fields c (suc k) =
       cues-fields (suc c) k,
     )
 
--- Its first two records have 68.
-front-fields : length run + length weights ≡ 68
-unfolding run_record weights_record
+-- Its first two records have 69.
+front-fields : length run + length weights ≡ 69
+unfolding mode_fields run_record weights_record
 front-fields = refl
 
--- It has 199,748.
-wordiest-fields : fields_of (sheet_records wordiest) ≡ 199748
+-- It has 199,749.
+wordiest-fields : fields_of (sheet_records wordiest) ≡ 199749
 unfolding sheet_records wordiest
 wordiest-fields =
     ap (λ (n : ℕ). fields_of (run ∷ weights ∷ cue_records n (widest_from 10000 24))) (length-replicate 64 S)
@@ -360,9 +376,9 @@ wordiest-fields =
     )
 
 -- A TEXT IS AS LONG, and has so many fields.
-pub csv-widest : (s : Sheet) × Within s × (length (csv_of s) ≡ 781021) × (fields_of (sheet_records s) ≡ 199748)
+pub csv-widest : (s : Sheet) × Within s × (length (csv_of s) ≡ 781023) × (fields_of (sheet_records s) ≡ 199749)
 csv-widest = (wordiest, wordiest-within, wordiest-length, wordiest-fields)
 
 -- So the bound on an exported text is attained.
-pub csv-attained : (s : Sheet) × Within s × (length (csv_of s) ≡ 781021)
+pub csv-attained : (s : Sheet) × Within s × (length (csv_of s) ≡ 781023)
 csv-attained = (csv-widest.0, csv-widest.1, csv-widest.2)

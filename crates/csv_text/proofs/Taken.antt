@@ -1,5 +1,5 @@
--- The longest text that import accepts has 1,180,517 bytes (RULES 13.16): no longer one is accepted, and one as long is. Every field is quoted: 26 bytes
--- for the run, 843 for 64 weights, and 384 for each of 24 times 128 ways that name 64 faults absent.
+-- The longest text that import accepts has 1,180,521 bytes (RULES 13.16): no longer one is accepted, and one as long is. Every field is quoted: 30 bytes
+-- for the run, whose allowance is a share, 843 for 64 weights, and 384 for each of 24 times 128 ways that name 64 faults absent.
 -- Rests on Imports.antt for the sheet of an accepted text, on Longest.antt for the sheet of the longest, on Order.antt, and on `rules`, Bits and Decimal.
 use mathlib.Core.Path.{◌≡◌, refl, sym, ap, ap₂, ◌∙◌}
 use mathlib.Core.Bool.{Bool, true, false, not, ◌&&◌, ◌||◌, true≢false}
@@ -9,7 +9,7 @@ use Rattle.std.specs.Prelude.{Option, Some, None}
 use Prim.Native.Nat.{ℕ, zero, suc, ◌+◌, ◌-◌, ◌*◌, ◌^◌, ◌≤◌, ◌<◌, max}
 use native.Mathlib.Decide.{dec_lt, ℕ_discrete}
 use native.Mathlib.Omega.{arith}
-use lib.ListN.{length, drop, get_or, length-append, length-take, length-drop, length-map}
+use lib.ListN.{length, drop, length-append, length-take, length-drop, length-map}
 use lib.Dec.{eqb, ltb, leb}
 use borrow.Author.Tests.{ltb-true, leb-true, eqb-true, eq-eqb, ne_eqb, not-true}
 use Rattle.std.proofs.lemmas.List.Sums.{sum_by-cons}
@@ -35,6 +35,7 @@ use Rattle.csv_text.proofs.Written.{Every, Pairwise, Clean, Plain, PlainRecord, 
 use Rattle.csv_text.proofs.Written.{records-standing, import-same}
 use Rattle.csv_text.proofs.Order.{sense-itself}
 use Rattle.csv_text.proofs.First.{Joins, follows-joins}
+use Rattle.csv_text.proofs.RunRecord.{RunForm, by-distance, by-share, run-form}
 use Rattle.csv_text.proofs.Imports.{row-paired, not_misread, import_within}
 use Rattle.csv_text.proofs.Exports.{csv_plain, csv_records, csv_imported}
 use Rattle.csv_text.proofs.Longest.{absent_width, absent_room, room-all, fields_of, rendered-cons, csv-widest}
@@ -492,29 +493,11 @@ rows-length k o (r ∷ rs) e w = split (is_row r && follows o (row_in r)) refl (
 
 -- ---- the first two records
 
--- The limits.
-limits-length : (fs : List (List ℕ)) → length fs ≡ 2 → all_numerals fs ≡ true → decimal_value (get_or fs 1 []) ≤ 255 → quoted_length fs ≤ 19
-unfolding all_numerals lengths
-limits-length [] e h l = absurd (omega arith)
-limits-length (a ∷ []) e h l = absurd (omega arith)
-limits-length (a ∷ b ∷ []) e h l =
-    let both = and_split (is_numeral a) (is_numeral b && true) h in
-    let low : decimal_value b < 1000 = omega (arith, l) in
-    omega (arith, numeral-ten a both.0, numeral-length b 2 (and_left (is_numeral b) true both.1) (omega arith))
-limits-length (a ∷ b ∷ c ∷ fs) e h l = absurd (omega arith)
-
--- The run takes 25 bytes.
-run_length : (r : List (List ℕ)) → is_run r ≡ true → (limits_said r).budget ≤ 255 → quoted_length r ≤ 25
-unfolding is_run limits_said lengths bytes
-run_length [] h l = absurd (true≢false (sym h))
-run_length (w ∷ fs) h l =
-    let both = and_split (same_numbers w (bytes "run")) (eqb (length fs) 2 && all_numerals fs) h in
-    let two = and_split (eqb (length fs) 2) (all_numerals fs) both.1 in
-    omega (
-      arith,
-      ap length (same-equal w (bytes "run") both.0),
-      limits-length fs (eqb-true (length fs) 2 two.0) two.1 l,
-    )
+-- The run takes 29 bytes.
+run_length : (r : List (List ℕ)) → RunForm r → (limits_said r).budget ≤ 255 → quoted_length r ≤ 29
+unfolding limits_said lengths bytes
+run_length _ (by-distance {a = a} {b = b} h k) l = omega (arith, numeral-ten a h, numeral-length b 2 k (omega (arith, l)))
+run_length _ (by-share {a = a} {b = b} h k) l = omega (arith, numeral-ten a h, numeral-length b 2 k (omega (arith, l)))
 
 -- Numerals take 13 each.
 numerals-length : (fs : List (List ℕ)) → all_numerals fs ≡ true → quoted_length fs ≤ 13 * length fs
@@ -547,7 +530,7 @@ read-parts r w rs e = split (is_run r) (is_weights w) refl refl
     split false y' x y = absurd (let z : ◌≡◌ {A = ℕ} 1 0 = rw (x, misread_records) at e in omega arith)
 
 -- The records of a sheet within the limits.
-records-length : (rs : List (List (List ℕ))) → misread_records rs ≡ 0 → Within (sheet_said rs) → records_length rs ≤ 1180517
+records-length : (rs : List (List (List ℕ))) → misread_records rs ≡ 0 → Within (sheet_said rs) → records_length rs ≤ 1180521
 unfolding sheet_said weights_said records_length
 records-length [] e s = absurd (omega (arith, s.some_faults))
 records-length (r ∷ []) e s = absurd (omega (arith, s.some_faults))
@@ -559,7 +542,7 @@ records-length (r ∷ w ∷ rs) e s =
     let few : length cues ≤ 24 = s.few_cues in
     omega (
       arith,
-      run_length r parts.0 s.budget,
+      run_length r (run-form r parts.0) s.budget,
       weights-length w parts.1 s.few_faults,
       both.0,
       both.1,
@@ -567,8 +550,8 @@ records-length (r ∷ w ∷ rs) e s =
       few,
     )
 
--- A TEXT THAT IMPORT ACCEPTS has at most 1,180,517 bytes.
-pub import-length : (t : List ℕ) (n : ℕ) → import_number t n ≡ 0 → length t ≤ 1180517
+-- A TEXT THAT IMPORT ACCEPTS has at most 1,180,521 bytes.
+pub import-length : (t : List ℕ) (n : ℕ) → import_number t n ≡ 0 → length t ≤ 1180521
 unfolding misread sheet_in
 import-length t n h = omega (arith, text_length t, records-length (records_in t) (not_misread t n h) (import_within t n h))
 
@@ -627,7 +610,7 @@ quoted-imported s w =
     ∙ csv_imported s w (length (encode s)) (omega arith)
 
 -- A TEXT THAT IMPORT ACCEPTS is as long.
-pub import-attained : (t : List ℕ) × (n : ℕ) × (import_number t n ≡ 0) × (length t ≡ 1180517)
+pub import-attained : (t : List ℕ) × (n : ℕ) × (import_number t n ≡ 0) × (length t ≡ 1180521)
 unfolding csv_of
 import-attained =
     let s : Sheet = csv-widest.0 in (
@@ -637,5 +620,5 @@ import-attained =
       rendered-quoted (sheet_records s) ∙ total (length (csv_of s)) (fields_of (sheet_records s)) csv-widest.2 csv-widest.3,
     )
   where
-    total : (a b : ℕ) → a ≡ 781021 → b ≡ 199748 → a + 2 * b ≡ 1180517
+    total : (a b : ℕ) → a ≡ 781023 → b ≡ 199749 → a + 2 * b ≡ 1180521
     total a b e f = omega arith

@@ -16,7 +16,7 @@ use Rattle.csv_text.specs.Texts.{csv_of}
 unfoldable pub text_lists : List ℕ → Lists
 text_lists t = lists_of (sheet_in t)
 
--- 23, then the writer's own: 2, 5, 6, 10, 12 to 15, (21 never), 22.
+-- 23, then the writer's own: 2, (3 never), 5, 6, 10, 12 to 15, (21 never), 22.
 unfoldable pub import_refusals : List ℕ → ℕ → List Test
 import_refusals t n = test Refusal.Misread (ltb 0 (misread t)) ∷ write_refusals (text_lists t) n
 

@@ -17,14 +17,22 @@ unfoldable pub all_numerals : List (List ℕ) → Bool
 all_numerals [] = true
 all_numerals (f ∷ fs) = is_numeral f && all_numerals fs
 
--- `run`, allowance, budget.
+-- What may stand behind the two numbers: nothing, or `1`: the allowance is a share.
+unfoldable pub is_mode : List (List ℕ) → Bool
+is_mode [] = true
+is_mode (f ∷ []) = same_numbers f (bytes "1")
+is_mode (f ∷ g ∷ fs) = false
+
+-- `run`, allowance, budget, and `1` behind them where the allowance is a share.
 unfoldable pub is_run : List (List ℕ) → Bool
 is_run [] = false
-is_run (w ∷ fs) = same_numbers w (bytes "run") && (eqb (length fs) 2 && all_numerals fs)
+is_run (w ∷ []) = false
+is_run (w ∷ a ∷ []) = false
+is_run (w ∷ a ∷ b ∷ fs) = same_numbers w (bytes "run") && (is_numeral a && (is_numeral b && is_mode fs))
 
--- The limits that it says.
+-- The limits that it says. Where no third number stands, the mode is 0: the allowance is a distance.
 unfoldable pub limits_said : List (List ℕ) → Limits
-limits_said r = record { allowance = decimal_value (get_or r 1 []); budget = decimal_value (get_or r 2 []) }
+limits_said r = record { allowance = decimal_value (get_or r 1 []); budget = decimal_value (get_or r 2 []); mode = decimal_value (get_or r 3 []) }
 
 -- `weights`, then each weight, if any.
 unfoldable pub is_weights : List (List ℕ) → Bool

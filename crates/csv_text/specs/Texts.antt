@@ -51,9 +51,14 @@ unfoldable pub cue_records : ℕ → List Cue → List (List (List ℕ))
 cue_records n [] = []
 cue_records n (c ∷ cs) = or_alone c.number (way_records n c.number c.present c.absent) ++ cue_records n cs
 
+-- The mode, which is written where it is not 0.
+unfoldable pub mode_fields : ℕ → List (List ℕ)
+mode_fields zero = []
+mode_fields (suc k) = decimal (suc k) ∷ []
+
 -- The limits.
 unfoldable pub run_record : Limits → List (List ℕ)
-run_record m = bytes "run" ∷ decimal m.allowance ∷ decimal m.budget ∷ []
+run_record m = bytes "run" ∷ decimal m.allowance ∷ decimal m.budget ∷ mode_fields m.mode
 
 -- The weights.
 unfoldable pub weights_record : List ℕ → List (List ℕ)

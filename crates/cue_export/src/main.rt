@@ -9,7 +9,7 @@ use std::io::Write;
 use streams::{SHEET_READ, filled, read_up_to};
 
 /// The length of the longest text.
-const LONGEST: usize = 781021;
+const LONGEST: usize = 781023;
 
 // As in cue_import: one function for both would be handed two lengths and the call, which is all that either says.
 /// Fails only for want of memory: a read that fails is taken for the end, and output that cannot be written is lost.

@@ -8,8 +8,8 @@ use std::io;
 use std::io::Write;
 use streams::{LONGEST_SHEET, filled, read_up_to};
 
-/// The longest text that is taken has 1,180,517 bytes, every field quoted. One more is read, so that a longer one is not taken for its front.
-const MOST: usize = 1180518;
+/// The longest text that is taken has 1,180,521 bytes, every field quoted. One more is read, so that a longer one is not taken for its front.
+const MOST: usize = 1180522;
 
 /// Fails only for want of memory: a read that fails is taken for the end, and output that cannot be written is lost.
 fn main(rt: HostRuntime) -> io::Result<()> {

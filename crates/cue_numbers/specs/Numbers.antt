@@ -28,7 +28,7 @@ use Rattle.cue_numbers.specs.declared.CueOrder.{CueOrder}
 
 -- The version: another one for every change of a struct or of a call, and for every new one. CUE_VERSION in include/cue_risk.h.
 abbrev pub version : ℕ
-version = 5
+version = 6
 
 -- The refinement asked for (docs/RULES.md, 5.4): 0 is independence, 1 the fault named, 2 the common part. Any other number asks for fault 64, which no
 -- accepted table has.
@@ -79,7 +79,7 @@ flat_spot None = record { found = 0; at = 0 }
 -- The head that reading a whole sheet hands over; refused, zeros.
 abbrev pub head_handed : Result Head Refusal → Head
 head_handed (Ok h) = h
-head_handed (Err r) = record { faults = 0; cues = 0; limits = record { allowance = 0; budget = 0 } }
+head_handed (Err r) = record { faults = 0; cues = 0; limits = record { allowance = 0; budget = 0; mode = 0 } }
 
 -- The answer of reading a whole sheet.
 abbrev pub flat_sheet : Result Head Refusal → CueSheet
@@ -90,6 +90,7 @@ flat_sheet a =
       cues = (head_handed a).cues;
       allowance = (head_handed a).limits.allowance;
       budget = (head_handed a).limits.budget;
+      mode = (head_handed a).limits.mode;
     }
 
 -- Whether a reader's call was past the last cue.

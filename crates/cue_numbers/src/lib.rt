@@ -8,7 +8,7 @@ pub mod numbers;
 use rules::{MOST_FAULTS, MOST_WAYS};
 
 /// The answer of a call on a tree, and of a call that fills a space: writer, report, import and export. `verdict` is 0 none, 1 met, 2 done, 3 full, 4 spent.
-/// `figure` is that of an accepted run, and 0 in every other answer.
+/// `figure` is that of an accepted run, by share 0, and 0 in every other answer.
 #[repr(C)]
 #[derive(Clone, Copy)]
 pub struct CueAnswer {
@@ -37,6 +37,7 @@ pub struct CueSheet {
     pub cues: u64,
     pub allowance: u64,
     pub budget: u64,
+    pub mode: u64,
 }
 
 /// The answer of a reader's call: a cue; past the last cue `past` is 1 and the rest 0; refused, the number and zeros.

@@ -149,6 +149,7 @@ impl From<Result<Head, Refusal>> for CueSheet {
                 cues: u64::from(head.cues),
                 allowance: head.limits.allowance,
                 budget: head.limits.budget,
+                mode: head.limits.mode,
             },
             Err(refusal) => CueSheet {
                 number: u64::from(refusal),

@@ -30,7 +30,7 @@ use writer::lists::Lists;
 pub extern "C" fn cue_version() -> u64
     ensures promise { result ≡ version }
 {
-    5
+    6
 }
 
 /// Opens a table. What the tree held before does not matter; refused, it is left without nodes.
@@ -66,7 +66,7 @@ pub extern "C" fn cue_refine(
     CueAnswer::from(dtree::refining::refine(weights, present, absent, tree, place, kind))
 }
 
-/// Makes a run on the tree.
+/// Makes a run on the tree. The mode says what the allowance is: 0 a distance, 1 a share of the chance.
 #[unsafe(no_mangle)]
 pub extern "C" fn cue_run(
     tree: &mut Tree,
@@ -75,11 +75,17 @@ pub extern "C" fn cue_run(
     absent: &[u64],
     allowance: u64,
     budget: u64,
+    mode: u64,
 ) -> CueAnswer
     ensures promise { RunningTold (table weights.now present.now absent.now)
-        tree.old (record { allowance = allowance; budget = budget }) tree.new result }
+        tree.old (record { allowance = allowance; budget = budget; mode = mode }) tree.new result }
 {
-    CueAnswer::from(dtree::runs::run(weights, present, absent, tree, Limits { allowance, budget }))
+    let limits = Limits {
+        allowance,
+        budget,
+        mode,
+    };
+    CueAnswer::from(dtree::runs::run(weights, present, absent, tree, limits))
 }
 
 /// Where the widest open leaf stands in any records, the first of equally wide ones.
@@ -129,10 +135,11 @@ pub extern "C" fn cue_sheet_write(
     absent: &[u64],
     allowance: u64,
     budget: u64,
+    mode: u64,
     space: &mut [u8],
 ) -> CueAnswer
     ensures promise { WritingTold (lists weights.now numbers.now counts.now
-        present.now absent.now (record { allowance = allowance; budget = budget })) space.old space.new result }
+        present.now absent.now (record { allowance = allowance; budget = budget; mode = mode })) space.old space.new result }
 {
     let lists = Lists {
         weights,
@@ -140,7 +147,11 @@ pub extern "C" fn cue_sheet_write(
         counts,
         present,
         absent,
-        limits: Limits { allowance, budget },
+        limits: Limits {
+            allowance,
+            budget,
+            mode,
+        },
     };
     CueAnswer::from(writer::write(lists, space))
 }

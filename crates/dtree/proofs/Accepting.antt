@@ -1,13 +1,15 @@
--- What the tests at the front of a call come to: a table or limits that are refused, and those that are accepted.
+-- What the tests at the front of a call come to: a mode, a table or limits that are refused, and those that are accepted.
 -- Rests on the contracts of `checks` and `running`.
 use mathlib.Core.Path.{◌≡◌, sym, ap, ◌∙◌}
-use mathlib.Core.List.{List}
+use mathlib.Core.Bool.{false}
+use mathlib.Core.List.{List, [], ◌∷◌}
 use Prim.Native.Nat.{ℕ}
 use Rattle.std.specs.Prelude.{Result, Ok, Err}
 use Rattle.rules.specs.Table.{table}
-use Rattle.rules.specs.Refusals.{Test, first, answered, table_refusals, limit_refusals}
+use Rattle.rules.specs.Refusals.{Test, test, first, answered, mode_above, table_refusals, limit_refusals}
 use Rattle.rules.specs.declared.Limits.{Limits}
 use Rattle.rules.specs.declared.Refusal.{Refusal}
+use Rattle.rules.proofs.First.{none-applies}
 use Rattle.rules.proofs.Answering.{first-accepted}
 use Rattle.checks.specs.declared.accepted.Table.{Table}
 use Rattle.checks.specs.Tables.{passed, Accepting}
@@ -17,6 +19,19 @@ use Rattle.running.specs.Tasks.{passed as task_passed, Accepting as TaskAcceptin
 -- Whether a list of tests refuses, and by which.
 abbrev pub judged : List Test → Result (Unit {0}) Refusal
 judged xs = answered xs tt
+
+-- The test of the mode.
+abbrev pub of-mode : Limits → List Test
+of-mode m = test Refusal.ModeAbove (mode_above m) ∷ []
+
+module _ (m : Limits) (w : Result (Unit {0}) Refusal) (a : w ≡ judged (of-mode m)) where
+  -- A mode is refused by 3.
+  pub mode_refused : (r : Refusal) → w ≡ Err r → judged (of-mode m) ≡ Err r
+  mode_refused r e = sym a ∙ e
+
+  -- Accepted, it is not above 1.
+  pub mode_taken : (u : Unit {0}) → w ≡ Ok u → mode_above m ≡ false
+  mode_taken u e = (none-applies (of-mode m) (first-accepted (of-mode m) tt u (sym a ∙ e))).0
 
 module _ (ws ps qs : List ℕ) (w : Result Table Refusal) (a : Accepting ws ps qs w) where
   -- A table is refused by the first of its tests that applies.

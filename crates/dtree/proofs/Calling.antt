@@ -30,7 +30,7 @@ use Rattle.records.proofs.History.{layout-count, history-layout}
 use Rattle.records.proofs.Sixteen.{good-sure}
 use Rattle.records.proofs.ByTheRules.{call-tree, call-outcome, still_series}
 use Rattle.records.proofs.Demand.{root-read}
-use Rattle.dtree.proofs.Accepting.{judged}
+use Rattle.dtree.proofs.Accepting.{judged, of-mode}
 use Rattle.dtree.specs.Promises.{root_of, root_figures, number_of, Worked, Called}
 use Rattle.dtree.proofs.Stored.{every-place}
 
@@ -84,7 +84,9 @@ sixteen-free b xs h = (none-applies (test Refusal.NotGood b ∷ xs) h).0
 pub free : (t : Table) (x : Tree) (c : Call) → number_of t x c ≡ 0 → (Accepted t) × (bad t x ≡ false)
 unfolding number_of hand_number run_number hand_refusals run_refusals table_number
 free t x (by_hand bs k) h = (front-free (table_refusals t) _ h, sixteen-free (bad t x) _ (back-free (table_refusals t) _ h))
-free t x (by_run m) h = (front-free (table_refusals t) _ h, sixteen-free (bad t x) [] (back-free (limit_refusals m) _ (back-free (table_refusals t) _ h)))
+free t x (by_run m) h =
+    let rest = back-free (of-mode m) _ h in
+    (front-free (table_refusals t) _ rest, sixteen-free (bad t x) [] (back-free (limit_refusals m) _ (back-free (table_refusals t) _ rest)))
 
 -- ---- accepted
 
@@ -114,7 +116,7 @@ accepted-reply : (t : Table) (s : DTree) (c : Call) → call_number t s c ≡ 0 
 unfolding outcome hand_answer run_answer makes makes_by call_number hand_number run_number would_make
 accepted-reply t s (by_hand bs k) e = rw (answered-free (hand_refusals t false s bs k) (figures t s (hand_makes bs k)) e, e) refl
 accepted-reply t s (by_run m) e =
-    rw (answered-free (run_refusals t false m) (ended (verdict t (aim_of m) m.budget s) (figures t s (run_makes t s m))) e, e) refl
+    rw (answered-free (run_refusals t false m) (ended (aim_of m) (verdict t (aim_of m) m.budget s) (figures t s (run_makes t s m))) e, e) refl
 
 -- That interval is the one that the root's record shows.
 root-shown : (t : Table) (ns : List Refinement) (c : Call) → call_number t (tree ns) c ≡ 0

@@ -9,21 +9,21 @@ use Rattle.std.specs.Prelude.{Result, Err}
 use Rattle.rules.specs.declared.Direction.TheVariants.{Down, Up}
 use Rattle.rules.specs.Table.{Table}
 use Rattle.rules.specs.Tree.{leaf, root_ways, end, series_from, grow}
-use Rattle.rules.specs.Refusals.{table_refusals, limit_refusals, table_number, Accepted}
+use Rattle.rules.specs.Refusals.{test, mode_above, table_refusals, limit_refusals, table_number, Accepted}
 use Rattle.rules.specs.Calls.{run_refusals, run_answer, by_run, Outcome, handed, ran, outcome}
 use Rattle.rules.specs.declared.Limits.{Limits}
 use Rattle.rules.specs.declared.Ended.{Ended}
 use Rattle.rules.specs.declared.Refusal.{Refusal}
 use Rattle.rules.proofs.LeafEnds.{leaf-le}
 use Rattle.rules.proofs.First.{none-applies}
-use Rattle.rules.proofs.Answering.{answered-after, answered-before}
+use Rattle.rules.proofs.Answering.{answered-after, answered-before, answered-later}
 use Rattle.records.specs.Records.{tree_records, blank, no_nodes, record_at, layout, left_code, position, above, places, same_place, Good}
 use Rattle.records.specs.Library.{call_outcome}
 use Rattle.records.specs.declared.Tree.{Tree}
 use Rattle.records.proofs.ByTheRules.{call-outcome}
 use Rattle.records.specs.Safe.{SafeNode, Safe}
 use Rattle.records.proofs.SafeLaws.{safe-blanks, safe-set}
-use Rattle.dtree.proofs.Accepting.{judged}
+use Rattle.dtree.proofs.Accepting.{judged, of-mode}
 use Rattle.dtree.proofs.Opens.{one-layout, root-record}
 
 -- The record of the root leaf is safe.
@@ -66,13 +66,25 @@ ran-afresh t m x a o e = ap (answer_of a) (e ∙ ap (λ (y : Tree). call_outcome
 -- ---- what a run on it answers that is refused
 
 module _ (t : Table) (m : Limits) (a : Result Ended Refusal) (r : Refusal) (e : a ≡ Err r) where
-  -- By its table.
-  pub table-refused-afresh : judged (table_refusals t) ≡ Err r → a ≡ run_answer t false leaf m
+  -- By its mode.
+  pub mode-refused-afresh : judged (of-mode m) ≡ Err r → a ≡ run_answer t false leaf m
   unfolding run_answer run_refusals
-  table-refused-afresh f = e ∙ sym (answered-before (table_refusals t) _ tt _ r f)
+  mode-refused-afresh f = e ∙ sym (answered-before (of-mode m) _ tt _ r f)
 
-  -- By its limits.
-  pub limits-refused-afresh : Accepted t → judged (limit_refusals m) ≡ Err r → a ≡ run_answer t false leaf m
-  unfolding run_answer run_refusals table_number
-  limits-refused-afresh ok f =
-      e ∙ sym (answered-after (table_refusals t) _ _ (none-applies (table_refusals t) ok) ∙ answered-before (limit_refusals m) _ tt _ r f)
+  module _ (low : mode_above m ≡ false) where
+    -- By its table.
+    pub table-refused-afresh : judged (table_refusals t) ≡ Err r → a ≡ run_answer t false leaf m
+    unfolding run_answer run_refusals
+    table-refused-afresh f =
+        e ∙ sym (answered-later (test Refusal.ModeAbove (mode_above m)) _ _ low ∙ answered-before (table_refusals t) _ tt _ r f)
+
+    -- By its limits.
+    pub limits-refused-afresh : Accepted t → judged (limit_refusals m) ≡ Err r → a ≡ run_answer t false leaf m
+    unfolding run_answer run_refusals table_number
+    limits-refused-afresh ok f =
+        e
+        ∙ sym (
+        answered-later (test Refusal.ModeAbove (mode_above m)) _ _ low
+        ∙ answered-after (table_refusals t) _ _ (none-applies (table_refusals t) ok)
+        ∙ answered-before (limit_refusals m) _ tt _ r f
+        )

@@ -1,14 +1,15 @@
 -- What an accepted run says, how much it makes and what its figure is worth.
--- Rests on `rules`, Runs, where each verdict is what it says, and Distance, where the figure is.
-use mathlib.Core.Path.{◌≡◌, refl, ap, ◌∙◌}
+-- Rests on `rules`, Runs, where each verdict is what it says, and Aims, for what met and the figure are worth.
+use mathlib.Core.Path.{◌≡◌, ap, ◌∙◌}
 use mathlib.Core.Bool.{true, false}
 use mathlib.Core.List.{List, ◌++◌}
 use mathlib.Core.Logic.{◌↔◌}
 use Rattle.std.specs.Prelude.{Option, Some, None, Result, Err}
 use Prim.Native.Nat.{ℕ, ◌+◌, ◌-◌, ◌*◌, ◌/◌, ◌≤◌}
-use Rattle.rules.specs.Table.{Table, ways, Near}
+use Rattle.rules.specs.Rounding.{S}
+use Rattle.rules.specs.Table.{Table, ways, Near, ShareKept}
 use Rattle.rules.specs.Tree.{Refinement, leaf, tree, grow, low, high, series}
-use Rattle.rules.specs.Run.{aim_of, picks, figure}
+use Rattle.rules.specs.Run.{aim_of, picks}
 use Rattle.rules.specs.Answers.{run_verdict, run_figure}
 use Rattle.rules.specs.Refusals.{Accepted}
 use Rattle.rules.specs.Calls.{run_number, Outcome, handed, ran, reply, by_run, figures, call_number, outcome, makes}
@@ -19,7 +20,7 @@ use Rattle.rules.specs.declared.Ended.{Ended}
 use Rattle.rules.specs.declared.Refusal.{Refusal}
 use Rattle.rules.proofs.Series.{grow-append}
 use Rattle.rules.proofs.Runs.{picks-budget}
-use Rattle.rules.proofs.Distance.{met-exactly, figure-handed, no_figure}
+use Rattle.rules.proofs.Aims.{aims_distance, aims_share, met_distance, met_share, Aimed, aimed, no_figure}
 use Rattle.records.specs.Records.{layout, history, bad}
 use Rattle.records.specs.Library.{call_tree, call_outcome}
 use Rattle.records.specs.declared.Tree.{Tree}
@@ -42,32 +43,47 @@ figure_of (ran a) = run_figure a
 -- What an accepted run on a table says that leaves the tree y.
 record Says (t : Table) (m : Limits) (y : Tree) (o : Outcome) : Type 0 where
   in_budget : (reply o).count ≤ m.budget
-  met : (verdict_of o ≡ Some Met) ↔ ((root_of y).high - (root_of y).low ≤ 2 * m.allowance)
-  figure_is : figure_of o ≡ (root_of y).low + ((root_of y).high - (root_of y).low) / 2
-  near : verdict_of o ≡ Some Met → Near t.weights (ways t) (figure_of o) m.allowance
+  met_distance : m.mode ≡ 0 → (verdict_of o ≡ Some Met) ↔ ((root_of y).high - (root_of y).low ≤ 2 * m.allowance)
+  met_share : m.mode ≡ 1 → (verdict_of o ≡ Some Met) ↔ ((S - m.allowance) * (root_of y).high ≤ (S + m.allowance) * (root_of y).low)
+  figure_is : m.mode ≡ 0 → figure_of o ≡ (root_of y).low + ((root_of y).high - (root_of y).low) / 2
+  share_figure : m.mode ≡ 1 → figure_of o ≡ 0
+  near : m.mode ≡ 0 → verdict_of o ≡ Some Met → Near t.weights (ways t) (figure_of o) m.allowance
+  in_share : m.mode ≡ 1 → verdict_of o ≡ Some Met → ShareKept t.weights (ways t) m.allowance (root_of y).low (root_of y).high
 
--- At met its figure is near.
-near-said : (t : Table) → Accepted t → (ns : List Refinement) → series t ns ≡ true → (m : Limits) → run_number t false m ≡ 0
-    → verdict_of (outcome t (tree ns) (by_run m)) ≡ Some Met → Near t.weights (ways t) (figure_of (outcome t (tree ns) (by_run m))) m.allowance
+-- What a run's answer is worth; a hand refinement has none.
+abbrev WorthOf : Table → Limits → Outcome → Type 0
+WorthOf t m (handed a) = Unit {0}
+WorthOf t m (ran a) = Aimed t m a
+
+-- Of an accepted run by the rules it is that.
+worth : (t : Table) → Accepted t → (ns : List Refinement) → series t ns ≡ true → (m : Limits) → run_number t false m ≡ 0
+    → WorthOf t m (outcome t (tree ns) (by_run m))
 unfolding outcome
-near-said t ok ns s m z = (figure-handed t ok ns s m z).near
+worth t ok ns s m z = aimed t ok ns s m z
+
+-- What a verdict says, said of a verdict that is there.
+of_some : {v w : Verdict} {P : Type 0} → (v ≡ w) ↔ P → (Some v ≡ Some w) ↔ P
+of_some x = (λ e. x.0 (cc e), λ p. ap (λ (v : Verdict). Some v) (x.1 p))
 
 -- By the rules, on the tree of a series.
 on_series : (t : Table) → Accepted t → (ns : List Refinement) → series t ns ≡ true → (m : Limits) → run_number t false m ≡ 0
     → Says t m (layout t (ns ++ picks t (aim_of m) m.budget (tree ns))) (outcome t (tree ns) (by_run m))
-unfolding figures figure
+unfolding figures
 on_series t ok ns s m z =
     let ps = picks t (aim_of m) m.budget (tree ns) in
-    let x = met-exactly t (aim_of m) m.budget (tree ns) in
     let e = said t (tree ns) m z in
+    let a = rw e at (worth t ok ns s m z) in
     let l : (root_of (layout t (ns ++ ps))).low ≡ low t (grow (tree ns) ps) = root_low t (ns ++ ps) ∙ ap (low t) (grow-append ns ps leaf) in
     let h : (root_of (layout t (ns ++ ps))).high ≡ high t (grow (tree ns) ps) = root_high t (ns ++ ps) ∙ ap (high t) (grow-append ns ps leaf) in
     rw e
     record {
       in_budget = picks-budget t (aim_of m) m.budget (tree ns);
-      met = rw (l, h) (λ v. x.0 (cc v), λ w. ap (λ (v : Verdict). Some v) (x.1 w));
-      figure_is = rw (l, h) refl;
-      near = rw e at (near-said t ok ns s m z);
+      met_distance = λ q. rw (l, h) (of_some (met_distance t (aim_of m) m.allowance (aims_distance m q) m.budget (tree ns)));
+      met_share = λ q. rw (l, h) (of_some (met_share t (aim_of m) m.allowance (aims_share m q) m.budget (tree ns)));
+      figure_is = λ q. rw (l, h) (a.is_middle q);
+      share_figure = a.share_figure;
+      near = a.near;
+      in_share = λ q v. rw (l, h) (a.in_share q v);
     }
 
 -- On every tree.
@@ -90,10 +106,13 @@ running t x m y a c =
     record {
       call = c;
       in_budget = λ z. (at z).in_budget;
-      met = λ z. (at z).met;
+      met_distance = λ z. (at z).met_distance;
+      met_share = λ z. (at z).met_share;
       figure_is = λ z. (at z).figure_is;
+      share_figure = λ z. (at z).share_figure;
       no_figure = λ f. ap figure_of c.outcome_is ∙ refused-figure t x m f;
       near = λ z. (at z).near;
+      in_share = λ z. (at z).in_share;
     }
   where
     at : number_of t x (by_run m) ≡ 0 → Says t m y (ran a)

@@ -3,7 +3,7 @@
 use Rattle.std.specs.Prelude.{◌≡◌, false, Result, Some, List, [], ◌∷◌, ◌++◌, ◌↔◌, ℕ, ◌+◌, ◌-◌, ◌*◌, ◌/◌, ◌≤◌}
 use Rattle.std.proofs.Math.Option.{none, some}
 use Rattle.rules.specs.Rounding.{S}
-use Rattle.rules.specs.Table.{Table, ways, Encloses, Near}
+use Rattle.rules.specs.Table.{Table, ways, Encloses, Near, ShareKept}
 use Rattle.rules.specs.Leaf.{minimal}
 use Rattle.rules.specs.Refusals.{table_number, Accepted}
 use Rattle.rules.specs.Answers.{Reply, refused, answer_reply, run_reply, run_verdict, run_figure}
@@ -138,10 +138,17 @@ pub record Refining (t : Table) (x : Tree) (bs : List ℕ) (k : Kind) (y : Tree)
 pub record Running (t : Table) (x : Tree) (m : Limits) (y : Tree) (a : Result Ended Refusal) : Type 0 where
   pub call : Called t x (by_run m) y (ran a)
   pub in_budget : number_of t x (by_run m) ≡ 0 → (run_reply a).count ≤ m.budget
-  -- It says met exactly if the root is then at most twice the allowance wide.
-  pub met : number_of t x (by_run m) ≡ 0 → (run_verdict a ≡ Some Met) ↔ ((root_of y).high - (root_of y).low ≤ 2 * m.allowance)
-  -- Accepted, whatever the verdict, the figure is low plus half the width at the root, rounded down; refused, it is 0.
-  pub figure_is : number_of t x (by_run m) ≡ 0 → run_figure a ≡ (root_of y).low + ((root_of y).high - (root_of y).low) / 2
+  -- Accepted, it says met exactly if the root is then, in mode 0, at most twice the allowance wide, and in mode 1, with the allowance e for a share,
+  -- if (S − e) × high ≤ (S + e) × low.
+  pub met_distance : number_of t x (by_run m) ≡ 0 → m.mode ≡ 0 → (run_verdict a ≡ Some Met) ↔ ((root_of y).high - (root_of y).low ≤ 2 * m.allowance)
+  pub met_share : number_of t x (by_run m) ≡ 0 → m.mode ≡ 1
+      → (run_verdict a ≡ Some Met) ↔ ((S - m.allowance) * (root_of y).high ≤ (S + m.allowance) * (root_of y).low)
+  -- Accepted, whatever the verdict, the figure is, in mode 0, low plus half the width at the root, rounded down, and in mode 1, 0; refused, it is 0.
+  pub figure_is : number_of t x (by_run m) ≡ 0 → m.mode ≡ 0 → run_figure a ≡ (root_of y).low + ((root_of y).high - (root_of y).low) / 2
+  pub share_figure : number_of t x (by_run m) ≡ 0 → m.mode ≡ 1 → run_figure a ≡ 0
   pub no_figure : (number_of t x (by_run m) ≡ 0 → ⊥) → run_figure a ≡ 0
-  -- At met the exact chance of the table's ways is within the allowance of the figure.
-  pub near : number_of t x (by_run m) ≡ 0 → run_verdict a ≡ Some Met → Near t.weights (ways t) (run_figure a) m.allowance
+  -- At met, in mode 0, the exact chance of the table's ways is within the allowance of the figure; in mode 1 every number from (S − e) × high / S
+  -- to (S + e) × low / S is within that share of it, and there is one.
+  pub near : number_of t x (by_run m) ≡ 0 → m.mode ≡ 0 → run_verdict a ≡ Some Met → Near t.weights (ways t) (run_figure a) m.allowance
+  pub in_share : number_of t x (by_run m) ≡ 0 → m.mode ≡ 1 → run_verdict a ≡ Some Met
+      → ShareKept t.weights (ways t) m.allowance (root_of y).low (root_of y).high

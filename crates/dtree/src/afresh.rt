@@ -8,6 +8,7 @@ ghost use Rattle.rules.specs.Table.{table};
 use super::opening::put_root;
 use super::runs::run_good;
 use checks::accepted::Table;
+use checks::limits::check_mode;
 use records::NO_NODES;
 use rules::{Ended, Limits, Refusal};
 use running::Task;
@@ -24,6 +25,7 @@ pub fn run_afresh(
     ensures answer { result ≡ run_answer (table weights.now present.now absent.now)
         false leaf limits }
 {
+    check_mode(limits)?;
     let table = Table::accept(weights, present, absent)?;
     let task = Task::accept(limits)?;
     let mut tree = NO_NODES;

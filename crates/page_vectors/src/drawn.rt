@@ -44,6 +44,7 @@ impl<'a> Drawn<'a> {
         let once = Limits {
             allowance: 0,
             budget: 1,
+            mode: 0,
         };
         let _ = run(
             self.weights,

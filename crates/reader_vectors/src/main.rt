@@ -17,16 +17,19 @@ const WHOLE: usize = 72;
 /// How many of its bytes a case has, and a byte that it changes: where, and to what. A tuple: rows of field names would be no plainer.
 type Case = (usize, Option<(usize, u8)>);
 
-/// The sheets that are refused. The second call gives the number again.
-const REFUSED: &[Case] = &[
-    // Before their contents are looked at.
+/// The sheets over which a reader is driven for two calls. All but the first are refused, and the second call gives the number again.
+const CASES: &[Case] = &[
+    // Accepted: the last two bytes of the head are 1. The calls give the two cues.
+    (WHOLE, Some((10, 1))),
+    // Refused before their contents are looked at.
     // 1: 11 bytes (RULES 11.9).
     (11, None),
     // 2: 65 faults; no cues.
     (WHOLE, Some((0, 65))),
     (WHOLE, Some((2, 0))),
-    // 3: the last two bytes of the head are 1.
-    (WHOLE, Some((10, 1))),
+    // 3: the last two bytes of the head are 2; 256, by the higher of them.
+    (WHOLE, Some((10, 2))),
+    (WHOLE, Some((11, 1))),
     // 4: head, contents of 2 cues and weights of 3 faults have 40 bytes together.
     (39, None),
     // For their contents.
@@ -68,7 +71,7 @@ fn sheets(rt: &(impl Input + Print + AllocGlobal)) -> io::Result<()> {
     let mut out = BufWriter::new(rt.alloc(), io::writer(rt))?;
     // Cue 7 with 2 ways at 40, cue 9 with none at 72; past the last, and past it again, cue 0 with 0 ways.
     drive(&sheet, 4, &mut out)?;
-    for &(length, change) in REFUSED {
+    for &(length, change) in CASES {
         let mut other = sheet;
         if let Some((at, byte)) = change {
             other[at] = byte;

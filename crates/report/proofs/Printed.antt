@@ -10,11 +10,12 @@ use lib.Seq.{drop-cons}
 use Rattle.rules.specs.Table.{Table}
 use Rattle.rules.specs.Tree.{leaf}
 use Rattle.rules.specs.Run.{aim_of, verdict}
-use Rattle.rules.specs.Refusals.{first, limit_refusals, way_refusals, Accepted}
+use Rattle.rules.specs.Refusals.{test, first, mode_above, limit_refusals, way_refusals, Accepted}
 use Rattle.rules.specs.Calls.{run_number, run_refusals, run_answer, run_makes, figures, ended}
 use Rattle.rules.specs.Sheet.{Cue, table_of, cues_in, limits_in, decode, read_refusals, read_number, entry_in, AllBelow}
 use Rattle.rules.specs.Text.{line, lines}
 use Rattle.rules.specs.declared.Limits.{Limits}
+use Rattle.rules.specs.declared.Refusal.{Refusal}
 use Rattle.rules.proofs.Answering.{answered-free}
 use Rattle.rules.proofs.First.{none-applies, first-later, first-none}
 use Rattle.rules.proofs.Demand3.{run-number}
@@ -24,12 +25,12 @@ use Rattle.sheet.proofs.Tables.{entry_table, no_cue, cue_accepted}
 use Rattle.report.specs.Lines.{answer_text, ended_text, entry_text, entries_text}
 
 -- The limits of accepted bytes are accepted.
-limits-kept : (bs : List ℕ) → read_number bs ≡ 0 → first (limit_refusals (limits_in bs)) ≡ 0
+limits-kept : (bs : List ℕ) → read_number bs ≡ 0 → first (test Refusal.ModeAbove (mode_above (limits_in bs)) ∷ limit_refusals (limits_in bs)) ≡ 0
 unfolding read_number read_refusals way_refusals limit_refusals
 limits-kept bs h =
     let n = none-applies (read_refusals bs) h in
     let last = n.1.1.1.1.1.1.1.1.1.1.1 in
-    first-later _ _ last.0 ∙ first-later _ _ last.1.0 ∙ first-none
+    first-later _ _ n.1.1.0 ∙ first-later _ _ last.0 ∙ first-later _ _ last.1.0 ∙ first-none
 
 -- A run that is not refused has the verdict and the figures of the rules, and they are those of the line.
 line_of : (m : Limits) (ws : List ℕ) (c : Cue) → run_number (table_of ws c) false m ≡ 0
@@ -37,7 +38,8 @@ line_of : (m : Limits) (ws : List ℕ) (c : Cue) → run_number (table_of ws c) 
 unfolding run_answer run_number answer_text ended_text line figures run_makes
 line_of m ws c e =
     let t : Table = table_of ws c in
-    ap (answer_text c.number) (answered-free (run_refusals t false m) (ended (verdict t (aim_of m) m.budget leaf) (figures t leaf (run_makes t leaf m))) e)
+    let answer = ended (aim_of m) (verdict t (aim_of m) m.budget leaf) (figures t leaf (run_makes t leaf m)) in
+    ap (answer_text c.number) (answered-free (run_refusals t false m) answer e)
 
 module _ (bs : List ℕ) (h : AllBelow 256 bs) (accepted : read_number bs ≡ 0) where
   -- WHAT IS PRINTED for the i-th entry is the line of the i-th cue.

@@ -31,14 +31,14 @@ of-trees = tt
 
 -- Runs: the pick, a turn, the verdict, the figure.
 unfoldable pub of-runs : Unit {0}
-unfolding of-trees Run.from Run.wider Run.widest Run.named Run.most_named Run.choice Run.next Run.narrow Run.turn Run.picks Run.verdict Run.figure
+unfolding of-trees Run.from Run.wider Run.widest Run.named Run.most_named Run.choice Run.next Run.aim_of Run.narrow Run.turn Run.picks Run.verdict Run.figure
 of-runs = tt
 
 -- The tests of the refusals, and a table's number.
 unfoldable pub of-refusals : Unit {0}
 unfolding of-ways Refusals.first Refusals.faults_outside Refusals.cues_outside Refusals.some_above Refusals.rising Refusals.not_rising
-    Refusals.crowded Refusals.overweight Refusals.words_amiss Refusals.names_beyond Refusals.names_both Refusals.allowance_above Refusals.budget_above
-    Refusals.way_refusals Refusals.limit_refusals Refusals.table_refusals Refusals.table_number
+    Refusals.crowded Refusals.overweight Refusals.words_amiss Refusals.names_beyond Refusals.names_both Refusals.mode_above Refusals.allowance_above
+    Refusals.budget_above Refusals.way_refusals Refusals.limit_refusals Refusals.table_refusals Refusals.table_number
 of-refusals = tt
 
 -- Calls: their numbers and answers.

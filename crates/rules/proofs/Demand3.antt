@@ -14,7 +14,7 @@ use Rattle.rules.specs.Leaf.{is_open}
 use Rattle.rules.specs.Tree.{root_ways, left, right, Place, DTree, leaf, possible, low, high, inners, Refinement}
 use Rattle.rules.specs.Tree.{grow, tree, kind_at, leaf_ways, roomy, interval_at, acceptable, series_from, series}
 use Rattle.rules.specs.Run.{aim_of, picks, verdict}
-use Rattle.rules.specs.Refusals.{Test, test, number, first, table_refusals, table_number, way_refusals, limit_refusals, Accepted}
+use Rattle.rules.specs.Refusals.{mode_above, Test, test, number, first, table_refusals, table_number, way_refusals, limit_refusals, Accepted}
 use Rattle.rules.specs.Calls.{step_to, place_of, place_bytes, leaf_named, no_leaf, of_leaf, leaf_refusals, hand_refusals, run_refusals, hand_number, run_number}
 use Rattle.rules.specs.Calls.{hand_makes, run_makes, figures, ended, hand_answer, run_answer, makes_by, Call, by_hand, by_run}
 use Rattle.rules.specs.Calls.{reply, call_number, outcome, would_make, makes, noted_from, noted, outcomes_from, outcomes, reports}
@@ -23,7 +23,7 @@ use Rattle.rules.specs.declared.Limits.{Limits}
 use Rattle.rules.specs.declared.Refusal.{Refusal}
 use Rattle.rules.proofs.Booleans.{and_both}
 use Rattle.rules.specs.Answers.{answer_reply, run_reply}
-use Rattle.rules.proofs.First.{number-above, none-applies, first-after, first-later, first-end}
+use Rattle.rules.proofs.First.{number-above, none-applies, first-after, first-later, first-end, first-same}
 use Rattle.rules.proofs.Answering.{by-number, answered-free}
 use Rattle.rules.proofs.Series.{Same, acceptable-found, grow-append, series-append, same-tree, series-inners, grown-inners}
 use Rattle.rules.proofs.Enclosure.{root-encloses, enclosing-order, end-le}
@@ -34,7 +34,7 @@ use Rattle.rules.proofs.Narrowing.{NoWider, refined-within, grown-within}
 -- ---- what an accepted call makes could be made
 
 module _ (t : Table) (ok : Accepted t) where
-  -- 9 to 13 do not apply, so a call's number is that of its own refusals.
+  -- 9 to 13 do not apply, so a call's number is that of its other refusals.
   table_passed : (xs : List Test) → first (table_refusals t ++ xs) ≡ first xs
   unfolding table_number table_refusals way_refusals
   table_passed xs = first-after (table_refusals t) xs (none-applies (table_refusals t) ok)
@@ -45,9 +45,12 @@ module _ (t : Table) (ok : Accepted t) where
       let rest : List Test = leaf_refusals t s bs k (leaf_named t s bs) in
       table_passed (test Refusal.NotGood false ∷ rest) ∙ first-later (test Refusal.NotGood false) rest refl
 
-  pub run-number : (m : Limits) → run_number t false m ≡ first (limit_refusals m)
+  pub run-number : (m : Limits) → run_number t false m ≡ first (test Refusal.ModeAbove (mode_above m) ∷ limit_refusals m)
   unfolding run_number run_refusals first
-  run-number m = table_passed (limit_refusals m ++ test Refusal.NotGood false ∷ []) ∙ first-end (limit_refusals m) (test Refusal.NotGood false ∷ []) refl
+  run-number m =
+      let rest : List Test = limit_refusals m ++ test Refusal.NotGood false ∷ [] in
+      first-same (test Refusal.ModeAbove (mode_above m)) (table_refusals t ++ rest) (limit_refusals m)
+      (λ k. table_passed rest ∙ first-end (limit_refusals m) (test Refusal.NotGood false ∷ []) refl)
 
 -- A hand refinement that none of 17 to 20 refuses is acceptable.
 leaf-acceptable : (t : Table) (s : DTree) (bs : List ℕ) (k : Kind) (p : Place) → place_of bs ≡ some p → first (leaf_refusals t s bs k (leaf_named t s bs)) ≡ 0
@@ -196,7 +199,8 @@ pub record Share (t : Table) (cs cs' : List Call) : Type 0 where
   pub places : inners (tree (noted t cs)) ≡ length (noted t cs)
   pub reported : inners (tree (noted t cs)) ≡ reports (outcomes t cs)
   pub reported' : inners (tree (noted t cs)) ≡ reports (outcomes t cs')
-  -- the outcome of every further run, refused ones included (RULES 5.13): number, verdict, count and figure, then every place with its kind and its interval
+  -- the outcome of every further run on equal limits, mode included, refused ones too (RULES 5.13): number, verdict, count and figure, then every place with
+  -- its kind and its interval
   pub answers : (m : Limits) → outcome t (tree (noted t cs)) (by_run m) ≡ outcome t (tree (noted t cs')) (by_run m)
   pub then_kinds : (m : Limits) (p : Place) → kind_at p (after_run t (tree (noted t cs)) m) ≡ kind_at p (after_run t (tree (noted t cs')) m)
   pub then_intervals : (m : Limits) (p : Place) → interval_at t p (after_run t (tree (noted t cs)) m) ≡ interval_at t p (after_run t (tree (noted t cs')) m)
@@ -249,13 +253,13 @@ accepted-low : (t : Table) (s : DTree) (c : Call) → call_number t s c ≡ 0 �
 unfolding outcome hand_answer run_answer makes makes_by call_number hand_number run_number would_make figures
 accepted-low t s (by_hand bs k) e = rw (answered-free (hand_refusals t false s bs k) (figures t s (hand_makes bs k)) e, e) refl
 accepted-low t s (by_run m) e =
-    rw (answered-free (run_refusals t false m) (ended (verdict t (aim_of m) m.budget s) (figures t s (run_makes t s m))) e, e) refl
+    rw (answered-free (run_refusals t false m) (ended (aim_of m) (verdict t (aim_of m) m.budget s) (figures t s (run_makes t s m))) e, e) refl
 
 accepted-high : (t : Table) (s : DTree) (c : Call) → call_number t s c ≡ 0 → (reply (outcome t s c)).high ≡ high t (grow s (makes t s c))
 unfolding outcome hand_answer run_answer makes makes_by call_number hand_number run_number would_make figures
 accepted-high t s (by_hand bs k) e = rw (answered-free (hand_refusals t false s bs k) (figures t s (hand_makes bs k)) e, e) refl
 accepted-high t s (by_run m) e =
-    rw (answered-free (run_refusals t false m) (ended (verdict t (aim_of m) m.budget s) (figures t s (run_makes t s m))) e, e) refl
+    rw (answered-free (run_refusals t false m) (ended (aim_of m) (verdict t (aim_of m) m.budget s) (figures t s (run_makes t s m))) e, e) refl
 
 pub hands-back : (t : Table) → Accepted t → (ns : List Refinement) → series t ns ≡ true → (c : Call) → call_number t (tree ns) c ≡ 0 → HandsBack t (tree ns) c
 unfolding high

@@ -9,14 +9,14 @@ use Prim.Native.Nat.{ℕ, suc, ◌+◌, ◌-◌, ◌*◌, ◌≤◌, ◌<◌}
 use native.Mathlib.Omega.{arith}
 use lib.ListN.{length, take}
 use lib.Dec.{eqb}
-use Rattle.rules.specs.Rounding.{over}
+use Rattle.rules.specs.Rounding.{S, over}
 use Rattle.rules.specs.declared.Direction.{Direction}
-use Rattle.rules.specs.Table.{bit, Way, Table, ways, Assignment, happens, Encloses}
+use Rattle.rules.specs.Table.{bit, Way, Table, ways, Assignment, happens, Encloses, InShare, InRange}
 use Rattle.rules.specs.Leaf.{drop_all, is_open, Lean}
 use Rattle.rules.specs.Common.{shared, lowest}
 use Rattle.rules.specs.Tree.{Side, left, right, Place, DTree, possible, child, combine, inners, nodes, Refinement, refine, tree, leaf_at, on_path, kind_at}
 use Rattle.rules.specs.Tree.{Subtree, subtree, root, remains, interval_at, Interval, interval, acceptable, series, low, high}
-use Rattle.rules.specs.Run.{next, picks, verdict, ran}
+use Rattle.rules.specs.Run.{next, narrow, picks, verdict, ran}
 use Rattle.rules.specs.Refusals.{names_both, Accepted}
 use Rattle.rules.specs.declared.Kind.{Kind}
 use Rattle.rules.specs.declared.Kind.TheVariants.{IndependentAnd}
@@ -38,7 +38,7 @@ use Rattle.rules.proofs.Narrowing.{Narrower, no-place-widens, refined-within}
 use Rattle.rules.proofs.Levels.{levels, few-nodes}
 use Rattle.rules.proofs.Runs.{TooWide, Exactly, verdict-exactly, OneRun, two_runs, picks-budget, report-inners, one-step}
 use Rattle.rules.proofs.Demand3.{Share, same-share, never_wider, noted_series, HandsBack, hands-back, HandMade, hand-made}
-use Rattle.rules.proofs.Distance.{met-exactly, FigureHanded, figure-handed, picks_to, verdict_to, same_picks, same_verdict}
+use Rattle.rules.proofs.Aims.{met_distance, met_share, share-tight, Aimed, aimed, picks_to, verdict_to, same_picks, same_verdict}
 use Rattle.rules.proofs.Accepted.{Inside, accepted-inside, inside-accepted}
 use Rattle.rules.proofs.WithinLimits.{Tested, tested-within, within-tested, cue-inside}
 use Rattle.rules.proofs.CueTables.{LineCertain, printed-certain}
@@ -163,11 +163,13 @@ pub record OneRunOf (t : Table) (a : Aim) (budget : ℕ) (s : DTree) : Type 0 wh
   pub in_budget : length (picks t a budget s) ≤ budget
   -- RULES 5.7: the verdict is the first of met, done, full, spent that applies.
   pub stops : Exactly t a (ran t a budget s) (verdict t a budget s)
-  -- Met is said exactly if the width is at most twice the allowance.
-  pub met : (verdict t a budget s ≡ Met) ↔ (high t (ran t a budget s) - low t (ran t a budget s) ≤ 2 * a.allowance)
-  -- RULES 5.6: the allowance decides where the run stops and nothing else: it is the run that stops at that width.
-  pub by_width : (picks t a budget s ≡ picks_to t (2 * a.allowance) budget s) × (verdict t a budget s ≡ verdict_to t (2 * a.allowance) budget s)
-  -- RULES 5.12: two runs in a row are one run with both budgets together.
+  -- Met is said, by distance, exactly if the width is at most twice the allowance; by share, exactly if (S − e) × high ≤ (S + e) × low.
+  pub met_distance : (e : ℕ) → a ≡ Aim.Distance e → (verdict t a budget s ≡ Met) ↔ (high t (ran t a budget s) - low t (ran t a budget s) ≤ 2 * e)
+  pub met_share : (e : ℕ) → a ≡ Aim.Share e
+      → (verdict t a budget s ≡ Met) ↔ ((S - e) * high t (ran t a budget s) ≤ (S + e) * low t (ran t a budget s))
+  -- RULES 5.6: what is aimed at decides where the run stops and nothing else: it is the run that stops by the test `narrow a`.
+  pub by_test : (picks t a budget s ≡ picks_to t (narrow a) budget s) × (verdict t a budget s ≡ verdict_to t (narrow a) budget s)
+  -- RULES 5.12: two runs in a row, with one allowance and in one mode, are one run with both budgets together.
   pub cut : (more : ℕ) → OneRun t a budget more s
   -- RULES 5.11: budget 1, on a tree that is not met, done or full at the start: one inner node and no more.
   pub single : (n : Refinement) → TooWide t a s → next t s ≡ some n → inners s < 255 → picks t a 1 s ≡ n ∷ []
@@ -178,18 +180,25 @@ one-run t ok a b s =
       report = omega (arith, report-inners t ok a b s);
       in_budget = picks-budget t a b s;
       stops = verdict-exactly t a b s;
-      met = met-exactly t a b s;
-      by_width = (same_picks t a b s, same_verdict t a b s);
+      met_distance = λ e q. met_distance t a e q b s;
+      met_share = λ e q. met_share t a e q b s;
+      by_test = (same_picks t a b s, same_verdict t a b s);
       cut = λ c. two_runs t a b c s;
       single = one-step t a s;
     }
 
--- ---- RULES 5.16: the figure that an accepted run hands back.
+-- ---- RULES 5.16, 5.17: the figure that an accepted run hands back, and what met says of the exact chance.
 
--- It is low plus half the width, rounded down, lies in the interval, and at met the exact chance is within the allowance of it.
-pub every-figure : (t : Table) → Accepted t → (ns : List Refinement) → series t ns ≡ true → (m : Limits) → run_number t false m ≡ 0
-    → FigureHanded t m (run_answer t false (tree ns) m)
-every-figure = figure-handed
+-- In mode 0 the figure is low plus half the width, rounded down, lies in the interval, and at met the exact chance is within the allowance of it.
+-- In mode 1 it is 0, and at met every number from (S − e) × high / S to (S + e) × low / S is within the share of the exact chance, and there is one.
+pub every-aim : (t : Table) → Accepted t → (ns : List Refinement) → series t ns ≡ true → (m : Limits) → run_number t false m ≡ 0
+    → Aimed t m (run_answer t false (tree ns) m)
+every-aim = aimed
+
+-- To be within the share is no weaker than that: where the exact chance is a whole number p of billionths, a number is within the share of it exactly if it
+-- stands between (S − e) × p / S and (S + e) × p / S.
+pub in-share-exactly : (ws : List ℕ) (vs : List Way) (e p x d : ℕ) → Encloses ws vs p p → 0 < d → InShare ws vs e x d ↔ InRange e p p x d
+in-share-exactly = share-tight
 
 -- ---- RULES 5.1: the interval that every accepted call after an opening hands back.
 
@@ -219,7 +228,8 @@ pub writes-exactly : (x : Lists) (n : ℕ) → AllBelow 65536 x.numbers → (wri
 writes-exactly = write-exactly
 
 -- ---- DEMAND 3 (RULES 5.14, 5.15, 4.13): two lists of calls that note the same refinements in the end, in whatever order, share every interval, the number
--- ---- of refinements and the outcome of every further run; and along a list no refinement widens the root.
+-- ---- of refinements and the outcome of every further run; and along a list no refinement widens the root. Each run of a list has limits of its own, so
+-- ---- that a list may mix modes; a further run has one and the same limits after either list, mode included.
 
 pub record Demand-3 (t : Table) : Type 0 where
   pub share : (cs cs' : List Call) → Same (noted t cs) (noted t cs') → Share t cs cs'

@@ -20,7 +20,7 @@ NoneApplies (x ∷ xs) = (x.applies ≡ false) × NoneApplies xs
 pub number-above : (r : Refusal) → 0 < number r
 number-above Refusal.NoHead = omega arith
 number-above Refusal.CountsOutside = omega arith
-number-above Refusal.TailUsed = omega arith
+number-above Refusal.ModeAbove = omega arith
 number-above Refusal.TooShort = omega arith
 number-above Refusal.NotRising = omega arith
 number-above Refusal.Crowded = omega arith

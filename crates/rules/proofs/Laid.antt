@@ -8,9 +8,9 @@ use native.Mathlib.Omega.{arith}
 use lib.ListN.{length, take, drop, length-append, length-drop, take-append-drop}
 use lib.Seq.{take-add, drop_at, take_all}
 use Rattle.rules.specs.Members.{In}
-use Rattle.rules.specs.Sheet.{little, value, field, column, AllBelow, Cue, Sheet, Lists, total, numbers_of, counts_of, present_of, absent_of, lists_of}
+use Rattle.rules.specs.Sheet.{little, field, column, AllBelow, Cue, Sheet, Lists, total, numbers_of, counts_of, present_of, absent_of, lists_of}
 use Rattle.rules.specs.Sheet.{weights_start, bodies_start, starts, head_bytes, contents_bytes, weights_bytes, body_bytes, bodies_bytes, encode}
-use Rattle.rules.specs.Sheet.{faults_in, cues_in, limits_in, zero_in, numbers_in, counts_in, places_in, weights_in, bodies_in, present_in, absent_in, lists_in}
+use Rattle.rules.specs.Sheet.{faults_in, cues_in, limits_in, numbers_in, counts_in, places_in, weights_in, bodies_in, present_in, absent_in, lists_in}
 use Rattle.rules.proofs.Bytes.{below-drop, value-little, length-column, column-drop, column-at, front-field, front-row}
 
 -- The contents: a number, a count and a place for each cue.
@@ -204,6 +204,7 @@ pub record Fits (x : Lists) : Type 0 where
   pub cues : length x.numbers < 256 ^ 2
   pub allowance : x.limits.allowance < 256 ^ 4
   pub budget : x.limits.budget < 256 ^ 2
+  pub mode : x.limits.mode < 256 ^ 2
   pub numbers : AllBelow (256 ^ 2) x.numbers
   pub counts : AllBelow (256 ^ 2) x.counts
   pub weights : AllBelow (256 ^ 4) x.weights
@@ -211,9 +212,8 @@ pub record Fits (x : Lists) : Type 0 where
   pub absent : AllBelow (256 ^ 8) x.absent
   pub ends : bodies_start (length x.numbers) (length x.weights) + 16 * total x.counts < 256 ^ 4
 
--- Settled bytes: zeros end their head, and their places and their length are those that their own numbers ask for.
+-- Settled bytes: their places and their length are those that their own numbers ask for.
 pub record Settled (bs : List ℕ) : Type 0 where
-  pub zeros : zero_in bs ≡ 0
   pub places : places_in bs ≡ starts (bodies_in bs) (counts_in bs)
   pub ends : length bs ≡ bodies_in bs + 16 * total (counts_in bs)
 
@@ -270,11 +270,13 @@ module _ (x : Lists) (a : Agree x) (f : Fits x) where
 
   limits_read : limits_in (laid_out x) ≡ x.limits
   unfolding laid_out head_bytes field little
-  limits_read = λ i. record { allowance = value-little 4 x.limits.allowance f.allowance i; budget = value-little 2 x.limits.budget f.budget i }
-
-  zero_read : zero_in (laid_out x) ≡ 0
-  unfolding laid_out head_bytes field little value
-  zero_read = refl
+  limits_read =
+      λ i.
+      record {
+        allowance = value-little 4 x.limits.allowance f.allowance i;
+        budget = value-little 2 x.limits.budget f.budget i;
+        mode = value-little 2 x.limits.mode f.mode i;
+      }
 
   -- What stands behind the head, behind the contents and behind the weights.
   after_head : drop 12 (laid_out x) ≡ contents_part x ++ (weights_part x ++ bodies_part x)
@@ -346,7 +348,6 @@ module _ (x : Lists) (a : Agree x) (f : Fits x) where
   pub layout_settled : Settled (laid_out x)
   layout_settled =
       record {
-        zeros = zero_read;
         places = columns_read.2 ∙ sym (ap₂ starts bodies-in columns_read.1);
         ends = layout_length x a ∙ sym (ap₂ (λ (i : ℕ) (ks : List ℕ). i + 16 * total ks) bodies-in columns_read.1);
       }
@@ -395,16 +396,16 @@ body-column (suc n) bs h long =
     (front-row 16 n bs)
 
 -- The head in the first bytes.
-head-fields : (bs : List ℕ) → AllBelow 256 bs → 12 ≤ length bs → zero_in bs ≡ 0 → head_bytes (faults_in bs) (cues_in bs) (limits_in bs) ≡ take 12 bs
+head-fields : (bs : List ℕ) → AllBelow 256 bs → 12 ≤ length bs → head_bytes (faults_in bs) (cues_in bs) (limits_in bs) ≡ take 12 bs
 unfolding head_bytes
-head-fields bs h long z =
+head-fields bs h long =
     rw (
       front-field 2 0 bs h (omega arith),
       front-field 2 2 bs h (omega arith),
       front-field 4 4 bs h (omega arith),
       front-field 2 8 bs h (omega arith),
     )
-    (ap (λ (y : ℕ). take 10 bs ++ little 2 y) (sym z) ∙ front-field 2 10 bs h (omega arith))
+    (front-field 2 10 bs h (omega arith))
 
 module _ (bs : List ℕ) (h : AllBelow 256 bs) (s : Settled bs) where
   -- They are as long as their four parts.
@@ -443,7 +444,7 @@ module _ (bs : List ℕ) (h : AllBelow 256 bs) (s : Settled bs) where
         length-column 4 4 (weights_start (cues_in bs)) (faults_in bs) bs,
         length-column 2 8 12 (cues_in bs) bs,
         ← s.places,
-        head-fields bs h (omega (arith, long)) s.zeros,
+        head-fields bs h (omega (arith, long)),
         contents_found,
         weights_found,
         bodies_found,

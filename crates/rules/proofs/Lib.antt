@@ -29,7 +29,7 @@ pub mod Levels
 pub mod Widest
 pub mod Runs
 pub mod Demand3
-pub mod Distance
+pub mod Aims
 pub mod Computing
 pub mod Paper
 pub mod Refused

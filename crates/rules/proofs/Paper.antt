@@ -1,6 +1,6 @@
 -- The cases on paper (RULES 11): P1 to P9 as one list with one claim about the list, the runs that RULES 11.6 names, A1 to A10 on ways that
 -- say nothing new (RULES 3.4), C1 to C11 on the allowance as a distance (RULES 5.7, 5.16), E1 to E8 on the common part (RULES 4.15, 4.16), F1 to F4
--- on the kept ways (RULES 3.10), and the whole sheet of RULES 11.7 with its lines.
+-- on the kept ways (RULES 3.10), G1 to G22 on the allowance as a share (RULES 5.7, 5.17), and the whole sheet of RULES 11.7 with its lines.
 -- Each list of cases stands above the claim that settles it.
 -- The checker computes all of them from the definitions. Rests on Computing.antt, which names those.
 use mathlib.Core.Path.{◌≡◌, refl}
@@ -8,7 +8,7 @@ use mathlib.Core.Bool.{Bool, true, false, ◌&&◌, beq}
 use mathlib.Core.List.{List, [], ◌∷◌}
 use mathlib.Core.Option.{Option, none, some}
 use Prim.Native.Nat.{ℕ}
-use lib.ListN.{length}
+use lib.ListN.{length, drop}
 use lib.Dec.{eqb}
 use Rattle.rules.specs.Rounding.{S}
 use Rattle.rules.specs.Table.{Way, Table, table}
@@ -93,7 +93,7 @@ abbrev p3 : Table
 p3 = table (333333333 ∷ 333333333 ∷ []) (3 ∷ []) (0 ∷ [])
 
 abbrev limits : ℕ → ℕ → Limits
-limits a b = record { allowance = a; budget = b }
+limits a b = record { allowance = a; budget = b; mode = 0 }
 
 -- A run's answer: verdict, low, high, refinements made, figure.
 abbrev ended : Verdict → ℕ → ℕ → ℕ → ℕ → Result Ended Refusal
@@ -374,16 +374,107 @@ pub kept-on-paper : AllEqual kept_ones
 unfolding of-lists
 kept-on-paper = (refl, (refl, (refl, (refl, tt))))
 
+-- ---- the allowance is a share: G1 to G22 (RULES 11.16)
+
+-- The limits of a run by share.
+abbrev shares : ℕ → ℕ → Limits
+shares e b = record { allowance = e; budget = b; mode = 1 }
+
+-- Two faults of 3 in a million, either of which is enough.
+abbrev small : Table
+small = table (3000 ∷ 3000 ∷ []) (1 ∷ 2 ∷ []) (0 ∷ 0 ∷ [])
+
+-- Weights of 1: a low end of 0.
+abbrev least : Table
+least = table (1 ∷ 1 ∷ []) (3 ∷ []) (0 ∷ [])
+
+abbrev least_two : Table
+least_two = table (1 ∷ 1 ∷ 1 ∷ []) (3 ∷ 5 ∷ []) (0 ∷ 0 ∷ [])
+
+abbrev nothing : Table
+nothing = table [] [] []
+
+-- A run on a fresh opening.
+abbrev fresh : Table → Limits → List Outcome
+fresh t m = outcomes t (by_run m ∷ [])
+
+abbrev once : Result Ended Refusal → List Outcome
+once a = ran a ∷ []
+
+-- Each list of calls after an opening with what its calls are to hand back.
+abbrev by_share : List (List Outcome × List Outcome)
+by_share =
+    -- G1, G2: one below the share at which 5999 and 6000 are near enough, and that share. The figure is 0 in this mode, whatever the verdict.
+    (fresh small (shares 83340 255), once (ended Done 5999 6000 1 0))
+    ∷ (fresh small (shares 83341 255), once (ended Met 5999 6000 0 0))
+    -- G3: the same numbers as a distance.
+    ∷ (fresh small (limits 83341 255), once (ended Met 5999 6000 0 5999))
+    -- G4 to G7: the share is not doubled, and met is looked for before each refinement.
+    ∷ (fresh p4 (shares 76923076 255), once (ended Met 300000000 300000000 2 0))
+    ∷ (fresh p4 (shares 76923077 255), once (ended Met 300000000 350000000 1 0))
+    ∷ (fresh p4 (shares 166666666 255), once (ended Met 300000000 350000000 1 0))
+    ∷ (fresh p4 (shares 166666667 255), once (ended Met 250000000 350000000 0 0))
+    -- G8, G9: with a low end of 0 only the share S is met.
+    ∷ (fresh least (shares 999999999 255), once (ended Done 0 1 0 0))
+    ∷ (fresh least (shares S 255), once (ended Met 0 1 0 0))
+    -- G10: a chance of 0 is met at every share.
+    ∷ (fresh (table (500000000 ∷ []) [] []) (shares 0 255), once (ended Met 0 0 0 0))
+    -- G11, G12: P3.
+    ∷ (fresh p3 (shares 4 255), once (ended Done 111111110 111111111 0 0))
+    ∷ (fresh p3 (shares 5 255), once (ended Met 111111110 111111111 0 0))
+    -- G13, G14: an open leaf with a low end of 0, and no budget.
+    ∷ (fresh least_two (shares 999999999 0), once (ended Spent 0 2 0 0))
+    ∷ (fresh least_two (shares S 0), once (ended Met 0 2 0 0))
+    -- G15: a small and a larger chance.
+    ∷ (fresh (table (3 ∷ 1000000 ∷ []) (1 ∷ 2 ∷ []) (0 ∷ 0 ∷ [])) (shares 100000000 255), once (ended Met 1000002 1000003 0 0))
+    -- G16, G17: a mode above 1 is refused before all else, and all of its bits are judged.
+    ∷ (fresh nothing (record { allowance = 1000000001; budget = 300; mode = 2 }), once (Err Refusal.ModeAbove))
+    ∷ (fresh p4 (record { allowance = 0; budget = 255; mode = 256 }), once (Err Refusal.ModeAbove))
+    -- G18, G19: in mode 1 all else is refused as in mode 0.
+    ∷ (fresh p4 (shares 1000000001 255), once (Err Refusal.AllowanceAbove))
+    ∷ (fresh nothing (shares 0 255), once (Err Refusal.FaultsOutside))
+    -- G20 to G22: one list may mix modes.
+    ∷ (
+      outcomes p4 (by_run (limits 0 1) ∷ by_run (shares 76923077 255) ∷ []),
+      ran (ended Spent 300000000 350000000 1 325000000) ∷ ran (ended Met 300000000 350000000 0 0) ∷ [],
+    )
+    ∷ (
+      outcomes p4 (by_run (shares 76923077 255) ∷ by_run (limits 0 255) ∷ []),
+      ran (ended Met 300000000 350000000 1 0) ∷ ran (ended Met 300000000 300000000 1 300000000) ∷ [],
+    )
+    ∷ (
+      outcomes small
+          (by_run (shares 83340 255) ∷ by_run (limits 83340 255) ∷ by_run (shares 83341 255) ∷ by_run (limits 83341 255) ∷ by_run (limits 0 255) ∷ []),
+      ran (ended Done 5999 6000 1 0)
+          ∷ ran (ended Met 5999 6000 0 5999)
+          ∷ ran (ended Met 5999 6000 0 0)
+          ∷ ran (ended Met 5999 6000 0 5999)
+          ∷ ran (ended Done 5999 6000 0 5999)
+          ∷ [],
+    )
+    ∷ []
+
+-- G1 TO G22 HOLD.
+pub shares-on-paper : AllEqual by_share
+unfolding of-lists
+shares-on-paper =
+    let last-eleven : AllEqual (drop 11 by_share) = (refl, (refl, (refl, (refl, (refl, (refl, (refl, (refl, (refl, (refl, (refl, tt))))))))))) in
+    (refl, (refl, (refl, (refl, (refl, (refl, (refl, (refl, (refl, (refl, (refl, last-eleven)))))))))))
+
 -- ---- the whole sheet
 
--- 3 faults, 2 cues, allowance 10000000; cue 7 with the ways of P4, cue 9 with none.
-abbrev pub show : ℕ → Sheet
-show budget =
+-- 3 faults, 2 cues, with these limits; cue 7 with the ways of P4, cue 9 with none.
+abbrev pub show_with : Limits → Sheet
+show_with m =
     record {
-      limits = record { allowance = 10000000; budget = budget };
+      limits = m;
       weights = 500000000 ∷ 500000000 ∷ 200000000 ∷ [];
       cues = record { number = 7; present = 3 ∷ 5 ∷ []; absent = 0 ∷ 0 ∷ [] } ∷ record { number = 9; present = []; absent = [] } ∷ [];
     }
+
+-- With an allowance of a hundredth, a distance.
+abbrev pub show : ℕ → Sheet
+show budget = show_with (limits 10000000 budget)
 
 -- Its 72 bytes.
 pub show-length : length (encode (show 40)) ≡ 72
@@ -398,3 +489,12 @@ sheet-text = refl
 pub sheet-text-1 : text (encode (show 1)) ≡ bytes "cue low high steps verdict\n7 300000000 350000000 1 spent\n9 0 0 0 met\n"
 unfolding of-text
 sheet-text-1 = refl
+
+-- And with a share: the least that is met after one refinement, and one billionth less.
+pub sheet-text-share : text (encode (show_with (shares 76923077 255))) ≡ bytes "cue low high steps verdict\n7 300000000 350000000 1 met\n9 0 0 0 met\n"
+unfolding of-text
+sheet-text-share = refl
+
+pub sheet-text-less : text (encode (show_with (shares 76923076 255))) ≡ bytes "cue low high steps verdict\n7 300000000 300000000 2 met\n9 0 0 0 met\n"
+unfolding of-text
+sheet-text-less = refl

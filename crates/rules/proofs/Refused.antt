@@ -37,11 +37,11 @@ pub hand-concerns : (t : Table) (bad : Bool) (s : DTree) (bs : List ℕ) (k : Ki
 unfolding hand_refusals leaf_refusals table_refusals way_refusals
 hand-concerns t bad s bs k = refl
 
-pub run-concerns : (t : Table) (bad : Bool) (m : Limits) → numbers_tried (run_refusals t bad m) ≡ 9 ∷ 10 ∷ 11 ∷ 12 ∷ 13 ∷ 14 ∷ 15 ∷ 16 ∷ []
+pub run-concerns : (t : Table) (bad : Bool) (m : Limits) → numbers_tried (run_refusals t bad m) ≡ 3 ∷ 9 ∷ 10 ∷ 11 ∷ 12 ∷ 13 ∷ 14 ∷ 15 ∷ 16 ∷ []
 unfolding run_refusals table_refusals way_refusals limit_refusals
 run-concerns t bad m = refl
 
-pub writing-concerns : (x : Lists) (space : ℕ) → numbers_tried (write_refusals x space) ≡ 2 ∷ 5 ∷ 6 ∷ 10 ∷ 12 ∷ 13 ∷ 14 ∷ 15 ∷ 21 ∷ 22 ∷ []
+pub writing-concerns : (x : Lists) (space : ℕ) → numbers_tried (write_refusals x space) ≡ 2 ∷ 3 ∷ 5 ∷ 6 ∷ 10 ∷ 12 ∷ 13 ∷ 14 ∷ 15 ∷ 21 ∷ 22 ∷ []
 unfolding write_refusals lists_refusals way_refusals limit_refusals
 writing-concerns x space = refl
 
@@ -71,7 +71,10 @@ abbrev given : Limits → List ℕ → List ℕ → List ℕ → Lists
 given m ns ks ps = record { limits = m; weights = 500000000 ∷ 500000000 ∷ 200000000 ∷ []; numbers = ns; counts = ks; present = ps; absent = 0 ∷ 0 ∷ [] }
 
 abbrev usual : Limits
-usual = record { allowance = 10000000; budget = 40 }
+usual = record { allowance = 10000000; budget = 40; mode = 0 }
+
+abbrev in_mode : ℕ → Limits
+in_mode k = record { allowance = 10000000; budget = 40; mode = k }
 
 abbrev examples : List Example
 examples =
@@ -93,7 +96,12 @@ examples =
     ∷ reading (take 11 (encode (show 40))) 1
     ∷ reading (changed 0 (65 ∷ [])) 2
     ∷ reading (changed 2 (25 ∷ [])) 2
-    ∷ reading (changed 10 (1 ∷ [])) 3
+    -- The last two bytes of the head, 0 or 1: both count.
+    ∷ reading (changed 10 (1 ∷ 0 ∷ [])) 0
+    ∷ reading (changed 10 (2 ∷ 0 ∷ [])) 3
+    ∷ reading (changed 10 (0 ∷ 1 ∷ [])) 3
+    ∷ reading (changed 10 (1 ∷ 1 ∷ [])) 3
+    ∷ reading (changed 10 (255 ∷ 255 ∷ [])) 3
     ∷ reading (take 39 (encode (show 40))) 4
     ∷ reading (changed 20 (7 ∷ [])) 5
     ∷ reading (changed 14 (129 ∷ [])) 6
@@ -110,6 +118,11 @@ examples =
     ∷ writing (given usual (7 ∷ 9 ∷ []) (1 ∷ 0 ∷ []) (3 ∷ 5 ∷ [])) 72 21
     ∷ writing (given usual (7 ∷ 9 ∷ []) (2 ∷ 0 ∷ []) (3 ∷ 5 ∷ 8 ∷ [])) 72 12
     ∷ writing (given usual [] (2 ∷ []) (3 ∷ [])) 0 2
+    -- The mode, 0 or 1, directly after 2: before a cue number of 0.
+    ∷ writing (given (in_mode 1) (7 ∷ 9 ∷ []) (2 ∷ 0 ∷ []) (3 ∷ 5 ∷ [])) 72 0
+    ∷ writing (given (in_mode 2) (0 ∷ 9 ∷ []) (2 ∷ 0 ∷ []) (3 ∷ 5 ∷ [])) 72 3
+    ∷ writing (given (in_mode 2) [] (2 ∷ []) (3 ∷ [])) 0 2
+    ∷ writing (given (in_mode 65537) (7 ∷ 9 ∷ []) (2 ∷ 0 ∷ []) (3 ∷ 5 ∷ [])) 72 3
     ∷ []
 
 -- EVERY EXAMPLE GETS ITS NUMBER.

@@ -78,7 +78,7 @@ next-acceptable t ok s n room e = by (widest t.weights (root_ways t) s) (widest-
 
 -- ---- a turn, read backwards
 
--- The interval at the root is as narrow as is aimed at. Which width that is, Distance.antt says: `narrow-exactly`, `wide-exactly`.
+-- The interval at the root is as narrow as is aimed at. What that says of its ends, Aims.antt tells: `distance-exactly`, `share-exactly`.
 abbrev pub NarrowEnough : Table → Aim → DTree → Type 0
 NarrowEnough t a s = narrow a (low t s) (high t s) ≡ true
 

@@ -10,13 +10,13 @@ use native.Mathlib.Omega.{arith}
 use native.Mathlib.Decide.{dec_le}
 use lib.ListN.{length, take, drop, replicate, length-drop, take-append-drop}
 use lib.Seq.{length-take-le, take-append_seam, drop-append_seam, take_at, drop_at, take_all}
-use lib.Dec.{eqb, ltb}
-use borrow.Author.Tests.{ltb-false, le-ltb, eqb-true, eq-eqb, ne_eqb, not-false}
-use Rattle.rules.specs.Refusals.{Test, test, first, faults_outside, cues_outside, not_rising, crowded, way_refusals, limit_refusals}
+use lib.Dec.{eqb}
+use borrow.Author.Tests.{le-ltb, eqb-true, eq-eqb, ne_eqb, not-false}
+use Rattle.rules.specs.Refusals.{Test, test, first, faults_outside, cues_outside, not_rising, crowded, mode_above, way_refusals, limit_refusals}
 use Rattle.rules.specs.declared.Refusal.{Refusal}
 use Rattle.rules.specs.Sheet.{AllBelow, Cue, Sheet, Lists, total, deal, sheet_of, numbers_of, counts_of, present_of, absent_of, lists_of}
 use Rattle.rules.specs.Sheet.{weights_start, bodies_start, starts, head_bytes, contents_bytes, weights_bytes, body_bytes, bodies_bytes, encode}
-use Rattle.rules.specs.Sheet.{faults_in, cues_in, zero_in, numbers_in, counts_in, places_in, bodies_in, lists_in, decode}
+use Rattle.rules.specs.Sheet.{faults_in, cues_in, limits_in, numbers_in, counts_in, places_in, bodies_in, lists_in, decode}
 use Rattle.rules.specs.Sheet.{same_numbers, read_refusals, read_number, lists_refusals, Within}
 use Rattle.rules.proofs.Bytes.{below-append, little-bytes, length-column, column-below, field-take, column-take}
 use Rattle.rules.proofs.Booleans.{or_split, or-neither, and_split, and_both}
@@ -147,6 +147,7 @@ read_kept bs h =
         faults = rw faults two.0;
         cues = rw (length-column 2 8 12 (cues_in bs) bs) two.1;
         counted = rw (length-column 2 8 14 (cues_in bs) bs) two.1;
+        mode = n.1.1.0;
         rising = rest.0;
         counts = rest.1.0;
         weights = rest.1.1.1.1.0;
@@ -157,7 +158,6 @@ read_kept bs h =
         agree = agree-disagree (lists_in bs) (found-agree bs);
       },
       record {
-        zeros = omega (arith, ltb-false 0 (zero_in bs) n.1.1.0);
         places = same-equal _ _ (not-false _ rest.1.1.0);
         ends = eqb-true _ _ (not-false _ rest.1.1.1.0);
       },
@@ -180,7 +180,7 @@ kept_read bs k s =
     let cues = length-column 2 8 12 (cues_in bs) bs in
     first-later _ _ (le-ltb (length bs) 12 (settled-head bs s))
     ∙ first-later _ _ (or-neither _ _ (rw faults at k.faults) (rw cues at k.cues))
-    ∙ first-later _ _ (le-ltb 0 (zero_in bs) (omega (arith, s.zeros)))
+    ∙ first-later _ _ k.mode
     ∙ first-later _ _ (le-ltb (length bs) (bodies_in bs) (omega (arith, s.ends)))
     ∙ first-later _ _ k.rising
     ∙ first-later _ _ k.counts
@@ -302,7 +302,7 @@ full_cues n (suc k) = record { number = n; present = replicate 128 0; absent = r
 
 -- 24 such cues over 64 faults.
 unfoldable pub full_sheet : Sheet
-full_sheet = record { limits = record { allowance = 0; budget = 0 }; weights = replicate 64 0; cues = full_cues 1 24 }
+full_sheet = record { limits = record { allowance = 0; budget = 0; mode = 0 }; weights = replicate 64 0; cues = full_cues 1 24 }
 
 -- It is within the limits.
 full-numbered : (n k : ℕ) → n + k ≤ 65536 → AllBelow 65536 (numbers_of (full_cues n k))
@@ -334,7 +334,7 @@ attained = (
 front_refusals : List ℕ → List Test
 front_refusals bs =
     test Refusal.CountsOutside (faults_outside (faults_in bs) || cues_outside (cues_in bs))
-    ∷ test Refusal.TailUsed (ltb 0 (zero_in bs))
+    ∷ test Refusal.ModeAbove (mode_above (limits_in bs))
     ∷ test Refusal.NotRising (not_rising (numbers_in bs))
     ∷ test Refusal.Crowded (crowded (counts_in bs))
     ∷ test Refusal.Misplaced (not (same_numbers (places_in bs) (starts (bodies_in bs) (counts_in bs))))
@@ -378,7 +378,7 @@ too_long bs long =
 
 -- Those refusals look at the first 208 bytes only.
 front-take : (m : ℕ) (bs : List ℕ) → 208 ≤ m → first (front_refusals (take m bs)) ≡ first (front_refusals bs)
-unfolding front_refusals
+unfolding front_refusals mode_above
 front-take m bs h =
     rw (field-take 2 0 m bs (omega arith), field-take 2 2 m bs (omega arith), field-take 2 10 m bs (omega arith))
     (first-same _ _ _ (λ two.

@@ -16,7 +16,8 @@ use Rattle.rules.specs.Rounding.{S}
 use Rattle.rules.specs.Table.{Way, absent_rows, rows, ways}
 use Rattle.rules.specs.Leaf.{any}
 use Rattle.rules.specs.Refusals.{first, faults_outside, cues_outside, some_above, rising, not_rising, crowded, overweight}
-use Rattle.rules.specs.Refusals.{words_amiss, names_beyond, names_both, allowance_above, budget_above, way_refusals, table_refusals, table_number, Accepted}
+use Rattle.rules.specs.Refusals.{words_amiss, names_beyond, names_both, mode_above, allowance_above, budget_above, way_refusals, table_refusals, table_number}
+use Rattle.rules.specs.Refusals.{Accepted}
 use Rattle.rules.specs.Sheet.{AllBelow, Cue, Sheet, table_of, numbers_of, counts_of, present_of, absent_of, lists_of, lists_refusals, Within}
 use Rattle.rules.proofs.Members.{In, each-most, most-each}
 use Rattle.rules.proofs.Booleans.{and_split, and_both, or_left, or_right, or-neither}
@@ -181,7 +182,7 @@ tested-cue s w c m =
 
 -- A sheet that passes the tests is within the limits.
 pub tested-within : (s : Sheet) → Tested s → Within s
-unfolding lists_of faults_outside cues_outside not_rising overweight allowance_above budget_above
+unfolding lists_of faults_outside cues_outside not_rising overweight mode_above allowance_above budget_above
 tested-within s w =
     record {
       some_faults = (not-outside 64 (length s.weights) k.faults).0;
@@ -198,6 +199,7 @@ tested-within s w =
       one_sense_each = λ c m. (cue c m).one_sense_each;
       allowance = ltb-false S s.limits.allowance k.allowance;
       budget = ltb-false 255 s.limits.budget k.budget;
+      mode = ltb-false 1 s.limits.mode k.mode;
     }
   where
     k : Kept (lists_of s)
@@ -225,7 +227,7 @@ cue-inside s w c m =
 
 -- A sheet within the limits passes the tests.
 pub within-tested : (s : Sheet) → Within s → Tested s
-unfolding lists_of faults_outside cues_outside not_rising overweight names_beyond names_both allowance_above budget_above ways
+unfolding lists_of faults_outside cues_outside not_rising overweight names_beyond names_both mode_above allowance_above budget_above ways
 within-tested s w = record { numbered = below-number 65536 s.cues w.two_bytes; paired = w.paired; kept = kept-lists (lists_of s) tests }
   where
     n : ℕ
@@ -250,5 +252,6 @@ within-tested s w = record { numbered = below-number 65536 s.cues w.two_bytes; p
           both = all_ways (λ p q. not (eqb (bit_and p q) 0)) 0 s.cues w.paired (λ c m. one_sense (table_of s.weights c) (cue c m));
           allowance = le-ltb S s.limits.allowance w.allowance;
           budget = le-ltb 255 s.limits.budget w.budget;
+          mode = le-ltb 1 s.limits.mode w.mode;
           agree = agree-disagree (lists_of s) (paired-agree s w.paired);
         }

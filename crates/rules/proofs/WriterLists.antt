@@ -13,7 +13,7 @@ use Rattle.rules.specs.Rounding.{S}
 use Rattle.rules.specs.Table.{rows}
 use Rattle.rules.specs.Leaf.{any}
 use Rattle.rules.specs.Refusals.{first, faults_outside, cues_outside, some_above, not_rising, crowded, overweight, names_beyond, names_both}
-use Rattle.rules.specs.Refusals.{allowance_above, budget_above, way_refusals, limit_refusals}
+use Rattle.rules.specs.Refusals.{mode_above, allowance_above, budget_above, way_refusals, limit_refusals}
 use Rattle.rules.specs.Sheet.{Lists, total, weights_start, bodies_start, disagree, lists_refusals, AllBelow}
 use Rattle.rules.proofs.Bytes.{below-mono}
 use Rattle.rules.proofs.Booleans.{or_split, or-neither}
@@ -28,6 +28,7 @@ pub record Kept (x : Lists) : Type 0 where
   pub faults : faults_outside (length x.weights) ≡ false
   pub cues : cues_outside (length x.numbers) ≡ false
   pub counted : cues_outside (length x.counts) ≡ false
+  pub mode : mode_above x.limits ≡ false
   pub rising : not_rising x.numbers ≡ false
   pub counts : crowded x.counts ≡ false
   pub weights : overweight x.weights ≡ false
@@ -48,14 +49,15 @@ lists_kept x h =
       faults = two.0;
       cues = lists.0;
       counted = lists.1;
-      rising = n.1.0;
-      counts = n.1.1.0;
-      weights = n.1.1.1.0;
-      beyond = n.1.1.1.1.0;
-      both = n.1.1.1.1.1.0;
-      allowance = n.1.1.1.1.1.1.0;
-      budget = n.1.1.1.1.1.1.1.0;
-      agree = n.1.1.1.1.1.1.1.1.0;
+      mode = n.1.0;
+      rising = n.1.1.0;
+      counts = n.1.1.1.0;
+      weights = n.1.1.1.1.0;
+      beyond = n.1.1.1.1.1.0;
+      both = n.1.1.1.1.1.1.0;
+      allowance = n.1.1.1.1.1.1.1.0;
+      budget = n.1.1.1.1.1.1.1.1.0;
+      agree = n.1.1.1.1.1.1.1.1.1.0;
     }
 
 -- None of them applies to such lists.
@@ -63,6 +65,7 @@ pub kept-lists : (x : Lists) → Kept x → first (lists_refusals x) ≡ 0
 unfolding lists_refusals way_refusals limit_refusals
 kept-lists x k =
     first-later _ _ (or-neither _ _ k.faults (or-neither _ _ k.cues k.counted))
+    ∙ first-later _ _ k.mode
     ∙ first-later _ _ k.rising
     ∙ first-later _ _ k.counts
     ∙ first-later _ _ k.weights
@@ -148,7 +151,7 @@ module _ (x : Lists) (k : Kept x) where
 
   -- Lists that the writer keeps fit the fields, if the cue numbers do.
   pub kept_fits : AllBelow 65536 x.numbers → Fits x
-  unfolding crowded overweight allowance_above budget_above
+  unfolding crowded overweight mode_above allowance_above budget_above
   kept_fits numbers =
       let faults : length x.weights ≤ 64 = faults-most (length x.weights) k.faults in
       let cues : length x.numbers ≤ 24 = cues-most (length x.numbers) k.cues in
@@ -159,6 +162,7 @@ module _ (x : Lists) (k : Kept x) where
         cues = omega arith;
         allowance = omega (arith, ltb-false S x.limits.allowance k.allowance);
         budget = omega (arith, ltb-false 255 x.limits.budget k.budget);
+        mode = omega (arith, ltb-false 1 x.limits.mode k.mode);
         numbers = numbers;
         counts = below-mono 129 (256 ^ 2) x.counts (omega arith) (none_above 128 x.counts k.counts);
         weights = below-mono (suc S) (256 ^ 4) x.weights (omega arith) (none_above S x.weights k.weights);

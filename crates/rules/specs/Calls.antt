@@ -6,11 +6,12 @@ use Rattle.rules.specs.Table.{Way, Table}
 use Rattle.rules.specs.Leaf.{is_open}
 use Rattle.rules.specs.Tree.{Side, left, right, Place, DTree, leaf, possible, root_ways, low, high, roomy, Refinement, grow, tree, leaf_ways}
 use Rattle.rules.specs.Run.{aim_of, picks, verdict, figure}
-use Rattle.rules.specs.Refusals.{Test, test, first, answered, table_refusals, limit_refusals}
+use Rattle.rules.specs.Refusals.{Test, test, first, answered, mode_above, table_refusals, limit_refusals}
 use Rattle.rules.specs.Answers.{Reply, answer_reply, run_reply}
 use Rattle.rules.specs.declared.Kind.{Kind}
 use Rattle.rules.specs.declared.Verdict.{Verdict}
 use Rattle.rules.specs.declared.Limits.{Limits}
+use Rattle.rules.specs.declared.Aim.{Aim}
 use Rattle.rules.specs.declared.Figures.{Figures}
 use Rattle.rules.specs.declared.Ended.{Ended}
 use Rattle.rules.specs.declared.Refusal.{Refusal}
@@ -68,9 +69,9 @@ leaf_refusals t s bs k o =
 unfoldable pub hand_refusals : Table → Bool → DTree → List ℕ → Kind → List Test
 hand_refusals t bad s bs k = table_refusals t ++ (test Refusal.NotGood bad ∷ leaf_refusals t s bs k (leaf_named t s bs))
 
--- A run: 9 to 16.
+-- A run: 3, then 9 to 16.
 unfoldable pub run_refusals : Table → Bool → Limits → List Test
-run_refusals t bad m = table_refusals t ++ (limit_refusals m ++ test Refusal.NotGood bad ∷ [])
+run_refusals t bad m = test Refusal.ModeAbove (mode_above m) ∷ (table_refusals t ++ (limit_refusals m ++ test Refusal.NotGood bad ∷ []))
 
 unfoldable pub hand_number : Table → Bool → DTree → List ℕ → Kind → ℕ
 hand_number t bad s bs k = first (hand_refusals t bad s bs k)
@@ -95,8 +96,8 @@ figures t s ns = record { low = low t (grow s ns); high = high t (grow s ns); co
 -- ---- the answers
 
 -- A run that ended: its verdict, its figures, and the one figure that is shown for them.
-abbrev pub ended : Verdict → Figures → Ended
-ended v f = record { verdict = v; figures = f; figure = figure f.low f.high }
+abbrev pub ended : Aim → Verdict → Figures → Ended
+ended aim v f = record { verdict = v; figures = f; figure = figure aim f.low f.high }
 
 -- An opening: the root leaf alone, count 0.
 unfoldable pub open_answer : Table → Result Figures Refusal
@@ -108,7 +109,7 @@ hand_answer t bad s bs k = answered (hand_refusals t bad s bs k) (figures t s (h
 
 -- A run on a tree.
 unfoldable pub run_answer : Table → Bool → DTree → Limits → Result Ended Refusal
-run_answer t bad s m = answered (run_refusals t bad m) (ended (verdict t (aim_of m) m.budget s) (figures t s (run_makes t s m)))
+run_answer t bad s m = answered (run_refusals t bad m) (ended (aim_of m) (verdict t (aim_of m) m.budget s) (figures t s (run_makes t s m)))
 
 -- What a call makes, by its number: a refused call makes nothing.
 unfoldable pub makes_by : ℕ → List Refinement → List Refinement

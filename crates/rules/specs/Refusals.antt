@@ -12,7 +12,7 @@ use Rattle.rules.specs.declared.Refusal.{Refusal}
 abbrev pub number : Refusal → ℕ
 number Refusal.NoHead = 1
 number Refusal.CountsOutside = 2
-number Refusal.TailUsed = 3
+number Refusal.ModeAbove = 3
 number Refusal.TooShort = 4
 number Refusal.NotRising = 5
 number Refusal.Crowded = 6
@@ -97,6 +97,10 @@ names_beyond n vs = any (λ v. leb (2 ^ n) v.present || leb (2 ^ n) v.absent) vs
 -- 13: a way names a fault in both senses.
 unfoldable pub names_both : List Way → Bool
 names_both vs = any (λ v. not (eqb (bit_and v.present v.absent) 0)) vs
+
+-- 3: the mode is above 1.
+unfoldable pub mode_above : Limits → Bool
+mode_above m = ltb 1 m.mode
 
 -- 14: the allowance is above S.
 unfoldable pub allowance_above : Limits → Bool

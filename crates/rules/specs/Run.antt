@@ -1,7 +1,8 @@
 -- A run: when it stops, which leaf it takes, what it does there and the figure that it hands back (RULES 5.6 to 5.10, 5.16).
--- The allowance is a distance: how far the exact chance may be from that figure, above or below.
+-- The allowance is a distance from that figure, above or below, or a share of the chance: only `aim_of`, `narrow` and `figure` know which.
 use Rattle.std.specs.Prelude.{Bool, true, false, not, List, [], ◌∷◌, ℕ, zero, suc, ◌+◌, ◌-◌, ◌*◌, ◌/◌, length, eqb, ltb, leb}
 use Rattle.std.proofs.Math.Option.{Option, none, some}
+use Rattle.rules.specs.Rounding.{S}
 use Rattle.rules.specs.Table.{bit, Way, Table, faults}
 use Rattle.rules.specs.Leaf.{leaf_width, is_open}
 use Rattle.rules.specs.Group.{fall_apart}
@@ -11,6 +12,7 @@ use Rattle.rules.specs.declared.Kind.{Kind}
 use Rattle.rules.specs.declared.Kind.TheVariants.{IndependentOr, IndependentAnd, Shannon}
 use Rattle.rules.specs.declared.Limits.{Limits}
 use Rattle.rules.specs.declared.Aim.{Aim}
+use Rattle.rules.specs.declared.Aim.TheVariants.{Distance, Share}
 use Rattle.rules.specs.declared.Verdict.{Verdict}
 use Rattle.rules.specs.declared.Verdict.TheVariants.{Met, Done, Full, Spent}
 
@@ -70,13 +72,14 @@ next t s =
 
 -- ---- when it stops
 
--- What a run with these limits aims at.
-abbrev pub aim_of : Limits → Aim
-aim_of m = record { allowance = m.allowance }
+-- What a run with these limits aims at: in mode 1 the allowance is a share of the chance, in mode 0 a distance. 3 refuses every other mode.
+unfoldable pub aim_of : Limits → Aim
+aim_of m = elim (eqb m.mode 1) as (λ b. Aim) [ true ↦ Share m.allowance | false ↦ Distance m.allowance ]
 
--- The interval is as narrow as is aimed at: its width is at most twice the allowance.
+-- The interval is as narrow as is aimed at. With e for a distance, its width is at most 2 × e; with e for a share, (S − e) × high ≤ (S + e) × low.
 unfoldable pub narrow : Aim → ℕ → ℕ → Bool
-narrow aim lo hi = leb (hi - lo) (2 * aim.allowance)
+narrow (Distance e) lo hi = leb (hi - lo) (2 * e)
+narrow (Share e) lo hi = leb ((S - e) * hi) ((S + e) * lo)
 
 -- Before a refinement: a reason to stop, or the refinement to make.
 pub data Turn : Type 0 where
@@ -109,6 +112,7 @@ ran t aim budget s = grow s (picks t aim budget s)
 
 -- ---- what it shows
 
--- The figure of an interval: low plus half the width, rounded down.
-unfoldable pub figure : ℕ → ℕ → ℕ
-figure lo hi = lo + (hi - lo) / 2
+-- The figure of an interval: by distance low plus half the width, rounded down; by share 0.
+unfoldable pub figure : Aim → ℕ → ℕ → ℕ
+figure (Distance e) lo hi = lo + (hi - lo) / 2
+figure (Share e) lo hi = 0

@@ -4,7 +4,8 @@ use Rattle.std.specs.Prelude.{◌≡◌, Option, Some, None, Result, Bool, true,
 use Rattle.rules.specs.Members.{In}
 use Rattle.rules.specs.Rounding.{S}
 use Rattle.rules.specs.Table.{bit, Way, Table, rows, ways, faults}
-use Rattle.rules.specs.Refusals.{Test, test, first, answered, faults_outside, cues_outside, not_rising, crowded, overweight, way_refusals, limit_refusals}
+use Rattle.rules.specs.Refusals.{Test, test, first, answered, faults_outside, cues_outside, not_rising, crowded, overweight, mode_above}
+use Rattle.rules.specs.Refusals.{way_refusals, limit_refusals}
 use Rattle.rules.specs.declared.Limits.{Limits}
 use Rattle.rules.specs.declared.Head.{Head}
 use Rattle.rules.specs.declared.Entry.{Entry}
@@ -122,9 +123,9 @@ unfoldable pub starts : ℕ → List ℕ → List ℕ
 starts i [] = []
 starts i (k ∷ ks) = i ∷ starts (i + 16 * k) ks
 
--- The head: faults, cues, allowance, budget, zero.
+-- The head: faults, cues, allowance, budget, mode.
 unfoldable pub head_bytes : ℕ → ℕ → Limits → List ℕ
-head_bytes n c m = little 2 n ++ little 2 c ++ little 4 m.allowance ++ little 2 m.budget ++ little 2 0
+head_bytes n c m = little 2 n ++ little 2 c ++ little 4 m.allowance ++ little 2 m.budget ++ little 2 m.mode
 
 -- The contents: number, ways and place of each cue, whose bodies start at position i.
 unfoldable pub contents_bytes : ℕ → List Cue → List ℕ
@@ -164,11 +165,7 @@ abbrev pub cues_in : List ℕ → ℕ
 cues_in bs = field 2 2 bs
 
 abbrev pub limits_in : List ℕ → Limits
-limits_in bs = record { allowance = field 4 4 bs; budget = field 2 8 bs }
-
--- The last two bytes of the head, a number of which only 0 is allowed.
-abbrev pub zero_in : List ℕ → ℕ
-zero_in bs = field 2 10 bs
+limits_in bs = record { allowance = field 4 4 bs; budget = field 2 8 bs; mode = field 2 10 bs }
 
 abbrev pub numbers_in : List ℕ → List ℕ
 numbers_in bs = column 2 8 12 (cues_in bs) bs
@@ -222,7 +219,7 @@ unfoldable pub read_refusals : List ℕ → List Test
 read_refusals bs =
     test Refusal.NoHead (ltb (length bs) 12)
     ∷ test Refusal.CountsOutside (faults_outside (faults_in bs) || cues_outside (cues_in bs))
-    ∷ test Refusal.TailUsed (ltb 0 (zero_in bs))
+    ∷ test Refusal.ModeAbove (mode_above (limits_in bs))
     ∷ test Refusal.TooShort (ltb (length bs) (bodies_in bs))
     ∷ test Refusal.NotRising (not_rising (numbers_in bs))
     ∷ test Refusal.Crowded (crowded (counts_in bs))
@@ -270,10 +267,11 @@ disagree x =
     not (eqb (length x.numbers) (length x.counts))
     || (not (eqb (length x.present) (length x.absent)) || not (eqb (length x.present) (total x.counts)))
 
--- What the lists hold: 2, 5, 6, 10, 12 to 15, 21. To 12 and 13 a word that one of the lists lacks is 0, and the rows of the longer list are judged.
+-- What the lists hold: 2, 3, 5, 6, 10, 12 to 15, 21. To 12 and 13 a word that one of the lists lacks is 0, and the rows of the longer list are judged.
 unfoldable pub lists_refusals : Lists → List Test
 lists_refusals x =
     test Refusal.CountsOutside (faults_outside (length x.weights) || (cues_outside (length x.numbers) || cues_outside (length x.counts)))
+    ∷ test Refusal.ModeAbove (mode_above x.limits)
     ∷ test Refusal.NotRising (not_rising x.numbers)
     ∷ test Refusal.Crowded (crowded x.counts)
     ∷ test Refusal.Overweight (overweight x.weights)
@@ -321,6 +319,7 @@ pub record Within (s : Sheet) : Type 0 where
       → (i : ℕ) → length s.weights ≤ i → bit i (faults v) ≡ false
   pub one_sense_each : (c : Cue) → In c s.cues → (v : Way) → In v (ways (table_of s.weights c))
       → (i : ℕ) → bit i v.present ≡ true → bit i v.absent ≡ false
-  -- The allowance is at most S, the budget at most 255.
+  -- The allowance is at most S, the budget at most 255, the mode 0 or 1.
   pub allowance : s.limits.allowance ≤ S
   pub budget : s.limits.budget ≤ 255
+  pub mode : s.limits.mode ≤ 1

@@ -1,6 +1,6 @@
 -- Tables, ways, assignments and the exact sum (RULES 2).
 -- A table is a formula in disjunctive normal form over independent Boolean variables, the faults; a way is one of its clauses.
-use Rattle.std.specs.Prelude.{Bool, true, false, not, ◌&&◌, ◌||◌, List, [], ◌∷◌, ◌++◌, map, ℕ, zero, suc, ◌+◌, ◌-◌, ◌*◌, ◌/◌, ◌%◌, ◌^◌, ◌≤◌, length, eqb}
+use Rattle.std.specs.Prelude.{Bool, true, false, not, ◌&&◌, ◌||◌, List, [], ◌∷◌, ◌++◌, map, ℕ, zero, suc, ◌+◌, ◌-◌, ◌*◌, ◌/◌, ◌%◌, ◌^◌, ◌≤◌, ◌<◌, length, eqb}
 use Rattle.std.specs.Int.Bits.{bit_or}
 use Rattle.rules.specs.Rounding.{S}
 -- A way: its number, and the words of the faults that it names present and absent.
@@ -110,3 +110,20 @@ pub record Encloses (ws : List ℕ) (vs : List Way) (low high : ℕ) : Type 0 wh
 pub record Near (ws : List ℕ) (vs : List Way) (figure distance : ℕ) : Type 0 where
   pub below : figure * S ^ length ws ≤ S * exact ws vs + distance * S ^ length ws
   pub above : S * exact ws vs ≤ (figure + distance) * S ^ length ws
+
+-- The number x / d is within the share of the chance p of the ways: (S − share) × p ≤ S × (x / d) ≤ (S + share) × p, where p is S × E / S^n.
+-- Written without fractions, both sides times d and S^n.
+pub record InShare (ws : List ℕ) (vs : List Way) (share x d : ℕ) : Type 0 where
+  pub below : (S - share) * (S * exact ws vs) * d ≤ S * x * S ^ length ws
+  pub above : S * x * S ^ length ws ≤ (S + share) * (S * exact ws vs) * d
+
+-- The number x / d stands in the range from (S − share) × high / S to (S + share) × low / S. Written without fractions, both sides times S and d.
+pub record InRange (share low high x d : ℕ) : Type 0 where
+  pub positive : 0 < d
+  pub from : (S - share) * high * d ≤ S * x
+  pub to : S * x ≤ (S + share) * low * d
+
+-- Every number of that range, fractions included, is within the share of the chance of the ways, and there is one.
+pub record ShareKept (ws : List ℕ) (vs : List Way) (share low high : ℕ) : Type 0 where
+  pub every : (x d : ℕ) → InRange share low high x d → InShare ws vs share x d
+  pub some_number : (x : ℕ) × (d : ℕ) × InRange share low high x d

@@ -71,18 +71,21 @@ pub enum Verdict {
     Spent = 4,
 }
 
-/// What a run is asked for: the allowance, a distance in billionths, and the most refinements it may make.
-/// Both are words: a number that 14 or 15 judges is never cut before.
+/// What a run is asked for: the allowance in billionths, the most refinements it may make, and the mode, which says what the allowance is (RULES 5.6):
+/// 0 a distance, 1 a share of the chance. All are words: a number that 3, 14 or 15 judges is never cut before.
 #[derive(Clone, Copy)]
 pub struct Limits {
     pub allowance: u64,
     pub budget: u64,
+    pub mode: u64,
 }
 
-/// What a run aims at: a figure from which the exact chance is no further away than the allowance. The budget is no part of it.
+/// What a run aims at: a figure from which the exact chance is no further away than a distance, or numbers that are within a share of the exact chance.
+/// The budget is no part of it.
 #[derive(Clone, Copy)]
-pub struct Aim {
-    pub allowance: u64,
+pub enum Aim {
+    Distance(u64),
+    Share(u64),
 }
 
 /// What an accepted call on a tree hands back: the interval at the root and the refinements made.
@@ -93,7 +96,7 @@ pub struct Figures {
     pub count: u64,
 }
 
-/// What an accepted run hands back: why it stopped, the interval and the refinements, and the one figure that the page shows.
+/// What an accepted run hands back: why it stopped, the interval and the refinements, and the one figure that the page shows, 0 by share.
 #[derive(Clone, Copy)]
 pub struct Ended {
     pub verdict: Verdict,
@@ -124,8 +127,8 @@ pub enum Refusal {
     NoHead = 1,
     /// The number of faults or of cues is 0 or too large.
     CountsOutside = 2,
-    /// The last two bytes of the head are not 0.
-    TailUsed = 3,
+    /// The mode is above 1.
+    ModeAbove = 3,
     /// The bytes end before the bodies start.
     TooShort = 4,
     /// A cue number is not above the one before it.

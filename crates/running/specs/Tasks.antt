@@ -1,8 +1,9 @@
--- What limits are accepted as.
+-- What limits are accepted as, and the allowance of an aim.
 -- Rests on `rules`, Refusals.
-use Rattle.std.specs.Prelude.{◌≡◌, Result, Ok, Err, IfOk}
+use Rattle.std.specs.Prelude.{◌≡◌, ℕ, Result, Ok, Err, IfOk}
 use Rattle.rules.specs.Refusals.{answered, limit_refusals}
 use Rattle.rules.specs.declared.Limits.{Limits}
+use Rattle.rules.specs.declared.Aim.{Aim}
 use Rattle.rules.specs.declared.Refusal.{Refusal}
 use Rattle.running.specs.declared.Task.{Task}
 
@@ -15,3 +16,8 @@ passed (Err r) = Err r
 pub record Accepting (m : Limits) (r : Result Task Refusal) : Type 0 where
   pub same : IfOk r (λ t. t.limits ≡ m)
   pub answer : passed r ≡ answered (limit_refusals m) tt
+
+-- The allowance of an aim, whichever it is.
+abbrev pub allowance_of : Aim → ℕ
+allowance_of (Aim.Distance e) = e
+allowance_of (Aim.Share e) = e

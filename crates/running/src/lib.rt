@@ -5,13 +5,14 @@
 pub mod run;
 pub mod turn;
 
-ghost use Rattle.std.specs.Prelude.{◌≤◌};
+ghost use Rattle.std.specs.Prelude.{◌≡◌, ◌≤◌};
 ghost use Rattle.rules.specs.Rounding.{S};
+ghost use Rattle.rules.specs.Run.{aim_of};
 
 use checks::limits::check_limits;
-use rules::{Limits, Refusal, Verdict};
+use rules::{Aim, Limits, Refusal, Verdict};
 
-/// What a run is to do: limits whose allowance is at most S, so that its double fits a word.
+/// What a run is to do: limits whose allowance is at most S, so that its double fits a word and it can be taken from S.
 #[derive(Clone, Copy)]
 pub struct Task {
     pub limits: Limits,
@@ -19,7 +20,7 @@ pub struct Task {
 }
 
 impl Task {
-    ghost use Rattle.running.specs.Tasks.{Accepting};
+    ghost use Rattle.running.specs.Tasks.{Accepting, allowance_of};
 
     // Tables, lists and fractions are accepted under this name: a `TryFrom` would say the same and not name it.
     /// The task that the limits set, or why they are refused.
@@ -28,6 +29,19 @@ impl Task {
     {
         check_limits(limits)?;
         Ok(Task { limits })
+    }
+
+    /// What the run aims at.
+    #[tactic(auto, unfolding(rules::specs::Run::aim_of))]
+    pub fn aim(self) -> Aim
+        ensures aim { result ≡ aim_of self.limits }
+        ensures most { allowance_of result ≤ S }
+    {
+        if self.limits.mode == 1 {
+            Aim::Share(self.limits.allowance)
+        } else {
+            Aim::Distance(self.limits.allowance)
+        }
     }
 }
 

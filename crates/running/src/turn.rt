@@ -22,7 +22,7 @@ use node::told::ways_of;
 use pick::leaves::Links;
 use pick::next_leaf;
 use records::{Node, Tree};
-use rules::{Kind, Verdict};
+use rules::{Aim, Kind, S, Verdict};
 use std::ops::ControlFlow;
 
 /// What a run does at a leaf of the table with these ways.
@@ -41,12 +41,17 @@ fn choose(table: Table, c: Clauses) -> Kind
 }
 
 impl Task {
-    /// The record's interval is as narrow as is aimed at. Crossed ends are as narrow as can be.
+    /// The record's interval is as narrow as is aimed at, whatever its ends: by distance crossed ones have no width, and by share no product of 128 bits wraps.
     #[tactic(auto, unfolding(rules::specs::Run::narrow))]
     fn narrow(self, n: &Node) -> bool
         ensures { result ≡ Run.narrow (aim_of self.limits) n.now.low n.now.high }
     {
-        n.width() <= 2 * self.limits.allowance
+        match self.aim() {
+            Aim::Distance(e) => n.width() <= 2 * e,
+            Aim::Share(e) => {
+                u128::from(S - e) * u128::from(n.high) <= u128::from(S + e) * u128::from(n.low)
+            }
+        }
     }
 }
 

@@ -29,6 +29,7 @@ impl Raw<'_> {
         Limits {
             allowance: u64::from(self.u32_at(4)),
             budget: u64::from(self.u16_at(8)),
+            mode: u64::from(self.u16_at(10)),
         }
     }
 

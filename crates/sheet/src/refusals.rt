@@ -5,7 +5,7 @@ ghost use Rattle.rules.specs.Refusals.{answered, faults_outside, cues_outside};
 ghost use Rattle.rules.specs.Sheet.{faults_in, cues_in, read_refusals};
 
 use super::fields::Raw;
-use checks::limits::check_limits;
+use checks::limits::{check_limits, check_mode};
 use checks::lists::{cues_outside, faults_outside};
 use rules::Refusal;
 
@@ -19,7 +19,7 @@ impl Raw<'_> {
         Refusal::CountsOutside.test(
             faults_outside(usize::from(self.faults())) || cues_outside(usize::from(self.cues())),
         )?;
-        Refusal::TailUsed.test(0 < self.u16_at(10))?;
+        check_mode(self.limits())?;
         Refusal::TooShort.test(self.bytes.len() < self.bodies_start())
     }
 

@@ -15,7 +15,7 @@ const ALLOWANCE: Field = (4, 4);
 
 const BUDGET: Field = (8, 2);
 
-const TAIL: Field = (10, 2);
+const MODE: Field = (10, 2);
 
 const FIRST_NUMBER: Field = (12, 2);
 
@@ -63,6 +63,19 @@ pub const CASES: &[Case] = &[
     ("twice is less", WHOLE, &[(ALLOWANCE, 24999999)]),
     ("twice after 1", WHOLE, &[(ALLOWANCE, 25000000)]),
     ("twice at once", WHOLE, &[(ALLOWANCE, 50000000)]),
+    // Accepted: the mode is 1, so that the allowance is a share.
+    ("mode 1", WHOLE, &[(MODE, 1)]),
+    ("share 0", WHOLE, &[(ALLOWANCE, 0), (MODE, 1)]),
+    ("share S", WHOLE, &[(ALLOWANCE, 1000000000), (MODE, 1)]),
+    ("share after 2", WHOLE, &[(ALLOWANCE, 76923076), (MODE, 1)]),
+    ("share after 1", WHOLE, &[(ALLOWANCE, 76923077), (MODE, 1)]),
+    (
+        "share not doubled",
+        WHOLE,
+        &[(ALLOWANCE, 166666666), (MODE, 1)],
+    ),
+    ("share at once", WHOLE, &[(ALLOWANCE, 166666667), (MODE, 1)]),
+    ("share spent", WHOLE, &[(BUDGET, 1), (MODE, 1)]),
     // Accepted: other weights, ways and cue numbers.
     ("weight 0", WHOLE, &[(FIRST_WEIGHT, 0)]),
     ("weight S", WHOLE, &[(FIRST_WEIGHT, 1000000000)]),
@@ -77,8 +90,11 @@ pub const CASES: &[Case] = &[
     ("256 faults", WHOLE, &[(FAULTS, 256)]),
     ("no cues", WHOLE, &[(CUES, 0)]),
     ("25 cues", WHOLE, &[(CUES, 25)]),
-    // 3 and 4: the head's last bytes, and a sheet too short for what it says.
-    ("a last byte of the head", WHOLE, &[(TAIL, 256)]),
+    // 3 and 4: the head's last two bytes, which are one number, and a sheet too short for what it says.
+    ("mode 2", WHOLE, &[(MODE, 2)]),
+    ("mode 256", WHOLE, &[(MODE, 256)]),
+    ("mode 257", WHOLE, &[(MODE, 257)]),
+    ("mode 65535", WHOLE, &[(MODE, 65535)]),
     ("12 bytes", 12, &[]),
     ("39 bytes", 39, &[]),
     ("64 faults", WHOLE, &[(FAULTS, 64)]),
@@ -105,11 +121,12 @@ pub const CASES: &[Case] = &[
     ("absent fault 63", WHOLE, &[(LAST_ABSENT, 1 << 63)]),
     ("fault 0 present and absent", WHOLE, &[(FIRST_ABSENT, 1)]),
     ("allowance S + 1", WHOLE, &[(ALLOWANCE, 1000000001)]),
+    ("share S + 1", WHOLE, &[(ALLOWANCE, 1000000001), (MODE, 1)]),
     ("budget 256", WHOLE, &[(BUDGET, 256)]),
     // Two at once, of 1 to 7: the first in the order counts, looked for everywhere before the next.
     ("1 before 2", 11, &[(FAULTS, 0)]),
-    ("2 before 3", WHOLE, &[(CUES, 25), (TAIL, 1)]),
-    ("3 before 4", WHOLE, &[(TAIL, 1), (FAULTS, 64)]),
+    ("2 before 3", WHOLE, &[(CUES, 25), (MODE, 2)]),
+    ("3 before 4", WHOLE, &[(MODE, 2), (FAULTS, 64)]),
     ("4 before 5", 39, &[(FIRST_NUMBER, 0)]),
     ("5 before 6", WHOLE, &[(FIRST_WAYS, 129), (LAST_NUMBER, 7)]),
     ("6 before 7", WHOLE, &[(FIRST_PLACE, 0), (LAST_WAYS, 129)]),
@@ -144,6 +161,7 @@ fn paper() -> [u8; ROOM] {
         limits: Limits {
             allowance: 10000000,
             budget: 40,
+            mode: 0,
         },
         weights: &[500000000, 500000000, 200000000],
         numbers: &[7, 9],

@@ -51,6 +51,7 @@ pub fn longest(alloc: Global) -> Result<Vec<u8>, AllocError> {
         limits: Limits {
             allowance: 62500000,
             budget: 4,
+            mode: 0,
         },
         weights: &weights,
         numbers: &numbers,

@@ -5,7 +5,7 @@
 mod show;
 
 use rules::Limits;
-use show::{ALLOWANCE, BUDGET, CUES, Cue, WEIGHTS};
+use show::{ALLOWANCE, BUDGET, CUES, Cue, MODE, WEIGHTS};
 use std::io;
 use std::io::Write;
 use streams::{LONGEST_SHEET, filled};
@@ -35,6 +35,7 @@ fn main(rt: HostRuntime) -> io::Result<()> {
         limits: Limits {
             allowance: ALLOWANCE,
             budget: BUDGET,
+            mode: MODE,
         },
         weights: WEIGHTS,
         numbers: &numbers,

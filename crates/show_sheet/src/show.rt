@@ -44,6 +44,9 @@ pub const ALLOWANCE: u64 = 0;
 /// The most refinements that are made for a cue.
 pub const BUDGET: u64 = 8;
 
+/// What the allowance is: 0 a distance from the chance, 1 a share of it.
+pub const MODE: u64 = 0;
+
 /// A way in which a cue goes wrong: the faults that it names present, and those that it names absent. A tuple: no call may stand in a constant, and 20
 /// rows of field names are no plainer.
 pub type Way = (u64, u64);

@@ -49,6 +49,7 @@ impl Call {
             _ => Ok(Call::Run(Limits {
                 allowance: input.number(),
                 budget: input.number(),
+                mode: input.number(),
             })),
         }
     }

@@ -13,9 +13,9 @@ use Rattle.writer.specs.Given.{Short, front_refusals}
 -- ---- the tests in groups, as code tries them
 
 module _ (x : Lists) where
-  -- 2, 5, 6 and 10.
+  -- 2, 3, 5, 6 and 10.
   abbrev pub of-front : List Test
-  of-front = front_refusals x.weights x.numbers x.counts
+  of-front = front_refusals x.limits x.weights x.numbers x.counts
 
   -- 12 and 13.
   abbrev pub of-ways : List Test
@@ -35,7 +35,7 @@ module _ (x : Lists) where
   abbrev pub from-ways : List Test
   from-ways = of-ways ++ from-limits
 
-  -- With 2, 5, 6 and 10 before all, these are the tests of the lists.
+  -- With 2, 3, 5, 6 and 10 before all, these are the tests of the lists.
   pub in_groups : lists_refusals x ≡ of-front ++ from-ways
   unfolding lists_refusals front_refusals way_refusals limit_refusals
   in_groups = refl

@@ -31,7 +31,7 @@ fn put_way(out: &mut Out, way: Words)
 }
 
 impl Lists<'_> {
-    /// The head: faults, cues, allowance, budget, zero.
+    /// The head: faults, cues, allowance, budget, mode.
     #[tactic(auto, unfolding(rules::specs::Sheet::head_bytes))]
     fn put_head(&self, out: &mut Out)
         requires { Room out.old (head_part (given self.now)) }
@@ -41,7 +41,7 @@ impl Lists<'_> {
         out.put_little::<2>(self.numbers.len() as u64);
         out.put_little::<4>(self.limits.allowance);
         out.put_little::<2>(self.limits.budget);
-        out.put_little::<2>(0);
+        out.put_little::<2>(self.limits.mode);
     }
 
     /// The weights.

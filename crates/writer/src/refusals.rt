@@ -7,10 +7,10 @@ ghost use Rattle.writer.specs.Given.{given, front_refusals};
 ghost use Rattle.writer.specs.Judging.{Judging};
 
 use super::lists::{Accepted, Lists};
-use checks::limits::check_limits;
+use checks::limits::{check_limits, check_mode};
 use checks::lists::{crowded, cues_outside, faults_outside, not_rising, overweight};
 use checks::ways::check_ways;
-use rules::Refusal;
+use rules::{Limits, Refusal};
 
 /// The ways that the cues count, which are few enough for the sum to fit.
 fn total(counts: &[u16]) -> usize
@@ -20,14 +20,20 @@ fn total(counts: &[u16]) -> usize
     counts.iter().map(|&count| usize::from(count)).sum()
 }
 
-/// 2, 5, 6 and 10, which tell of all but the ways, the limits and the lengths of the lists.
+/// 2, 3, 5, 6 and 10, which tell of all but the ways, allowance and budget, and the lengths of the lists.
 #[tactic(auto, unfolding(rules::specs::Refusals::answered, crate::specs::Given::front_refusals))]
-pub fn check_front(weights: &[u32], numbers: &[u16], counts: &[u16]) -> Result<(), Refusal>
-    ensures { result ≡ answered (front_refusals weights.now numbers.now counts.now) tt }
+pub fn check_front(
+    limits: Limits,
+    weights: &[u32],
+    numbers: &[u16],
+    counts: &[u16],
+) -> Result<(), Refusal>
+    ensures { result ≡ answered (front_refusals limits weights.now numbers.now counts.now) tt }
 {
     Refusal::CountsOutside.test(
         faults_outside(weights.len()) || cues_outside(numbers.len()) || cues_outside(counts.len()),
     )?;
+    check_mode(limits)?;
     Refusal::NotRising.test(not_rising(numbers))?;
     Refusal::Crowded.test(crowded(counts))?;
     Refusal::Overweight.test(overweight(weights))
@@ -45,12 +51,12 @@ impl<'a> Lists<'a> {
             || self.present.len() != total(self.counts)
     }
 
-    /// 2, 5, 6, 10, 12 to 15 and 21. The counts are added only once 2 has let at most 24 through.
+    /// 2, 3, 5, 6, 10, 12 to 15 and 21. The counts are added only once 2 has let at most 24 through.
     #[tactic(auto, unfolding(rules::specs::Refusals::answered, rules::specs::Refusals::way_refusals, rules::specs::Refusals::limit_refusals, rules::specs::Refusals::cues_outside, rules::specs::Sheet::lists_refusals, crate::specs::Given::front_refusals))]
     fn check_lists(self) -> Result<Accepted<'a>, Refusal>
         ensures { Judging self.entry (lists_refusals (given self.entry)) result }
     {
-        check_front(self.weights, self.numbers, self.counts)?;
+        check_front(self.limits, self.weights, self.numbers, self.counts)?;
         check_ways(self.weights.len(), self.present, self.absent)?;
         check_limits(self.limits)?;
         Refusal::Disagree.test(self.disagree())?;

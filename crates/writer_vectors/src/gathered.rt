@@ -41,6 +41,7 @@ impl Gathered {
             limits: Limits {
                 allowance: input.number(),
                 budget: input.number(),
+                mode: input.number(),
             },
         })
     }

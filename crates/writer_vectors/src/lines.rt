@@ -1,5 +1,5 @@
 //! Printed lines: numbers, and a hash for what is too long to print. Rests on the answers of `rules`.
-use rules::{Entry, Head, MOST_FAULTS, MOST_WAYS, Refusal};
+use rules::{Entry, Head, Limits, MOST_FAULTS, MOST_WAYS, Refusal};
 use std::io;
 use std::io::Write;
 use std::iter::repeat;
@@ -28,10 +28,14 @@ pub fn print_head<W: Write>(head: Head, weights: &[u32], out: &mut W) -> io::Res
         cues,
         limits,
     } = head;
-    let (allowance, budget) = (limits.allowance, limits.budget);
+    let Limits {
+        allowance,
+        budget,
+        mode,
+    } = limits;
     writeln!(
         out,
-        "head {faults} {cues} {allowance} {budget} {}",
+        "head {faults} {cues} {allowance} {budget} {mode} {}",
         hash(weights, MOST_FAULTS)
     )
 }

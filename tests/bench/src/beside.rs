@@ -1,4 +1,5 @@
 //! Another build of the library beside this one, on the same sheets, in turn. Their reports are not compared: the rules may differ.
+//! A shape whose sheets one of them refuses has no line: an older build knows no mode but distance.
 
 use bench::library::other;
 
@@ -33,7 +34,17 @@ fn row(name: &str, [made, other_made]: [f64; 2], medians: Medians<2>) {
     );
 }
 
+/// Whether both builds accept the sheets of a shape.
+fn both_accept(shape: &Shape) -> bool {
+    let sheet = sheets::sheet(shape, 1);
+    let refuses = |report| text(report, &sheet).starts_with(b"refused");
+    !refuses(library::report) && !refuses(other::report)
+}
+
 pub fn line(name: &str, shape: &Shape) {
+    if !both_accept(shape) {
+        return;
+    }
     let sheets = seeded(shape);
     let sides: [Report; 2] = [library::report, other::report];
     let steps = sides.map(|side| refinements(side, &sheets));
@@ -41,9 +52,13 @@ pub fn line(name: &str, shape: &Shape) {
 }
 
 pub fn pieces_line(name: &str, shape: &Shape) {
+    if !both_accept(shape) {
+        return;
+    }
     let rows = sheets::first_table(shape, 1);
-    let sides: [Calls; 2] = [(library::open, library::run), (other::open, other::run)];
-    let made = |side| pieces(side, &rows, shape.budget, &mut Tree::new());
+    let piece = eighth(shape);
+    let sides: [Calls; 2] = [(library::open, library::run), (other::open, other::run())];
+    let made = |side| pieces(side, &rows, piece, &mut Tree::new());
     let steps = sides.map(|side| made(side).iter().map(|answer| answer.count as f64).sum());
-    row(name, steps, measure_pieces(sides, &rows, shape.budget));
+    row(name, steps, measure_pieces(sides, &rows, piece));
 }

@@ -4,7 +4,7 @@
 use std::collections::HashSet;
 
 use crate::formula::{MOST_FAULTS, MOST_WAYS, S};
-use crate::run::{refused, Answer};
+use crate::run::{refused, Answer, Limits};
 use crate::sheet::{self, Sheet, Text, HEAD, MOST_CUES};
 
 pub fn accepted(count: usize) -> Answer {
@@ -97,15 +97,24 @@ impl Cursor<'_> {
         }
     }
 
-    fn run(&mut self) -> Option<[u64; 2]> {
+    fn run(&mut self) -> Option<Limits> {
         self.field(|field| field.word(b"run"))?;
         let mut further = || {
             let more = self.take(b',');
             more.then(|| self.field(Self::number))?
         };
-        let limits = [further()?, further()?];
+        let (allowance, budget) = (further()?, further()?);
+        // A third number is there by share alone, and is 1.
+        let mode = u64::from(self.take(b','));
+        if mode == 1 && self.field(Self::number)? != 1 {
+            return None;
+        }
         self.end()?;
-        Some(limits)
+        Some(Limits {
+            allowance,
+            budget,
+            mode,
+        })
     }
 
     /// The number of weights; the first of them, cut to what is above S, are put into the list.
@@ -185,8 +194,7 @@ struct Way {
 
 /// What a text says. The counts are whole, the lists hold as much as a sheet may have.
 struct Lists {
-    allowance: u64,
-    budget: u64,
+    limits: Limits,
     faults: usize,
     weights: [u32; MOST_FAULTS],
     cues: usize,
@@ -201,8 +209,7 @@ struct Lists {
 impl Lists {
     fn new() -> Lists {
         Lists {
-            allowance: 0,
-            budget: 0,
+            limits: Limits::default(),
             faults: 0,
             weights: [0; MOST_FAULTS],
             cues: 0,
@@ -218,7 +225,7 @@ impl Lists {
     /// Fills the lists; else the number of the first record that is not of its shape.
     fn fill(&mut self, text: &[u8]) -> Result<(), u64> {
         let mut cursor = Cursor { text, at: 0 };
-        [self.allowance, self.budget] = cursor.run().ok_or(1u64)?;
+        self.limits = cursor.run().ok_or(1u64)?;
         self.faults = cursor.weights(&mut self.weights).ok_or(2u64)?;
         let mut record = 3u64;
         // The cue of the record before, and whether it had a way.
@@ -295,10 +302,10 @@ impl Lists {
         if self.words().any(|(p, a)| p & a != 0) {
             return 13;
         }
-        if self.allowance > S {
+        if self.limits.allowance > S {
             return 14;
         }
-        if self.budget > 255 {
+        if self.limits.budget > 255 {
             return 15;
         }
         0
@@ -313,9 +320,9 @@ impl Lists {
         let mut bytes = Text { space, len: 0 };
         bytes.put(&(self.faults as u16).to_le_bytes());
         bytes.put(&(self.cues as u16).to_le_bytes());
-        bytes.put(&(self.allowance as u32).to_le_bytes());
-        bytes.put(&(self.budget as u16).to_le_bytes());
-        bytes.put(&[0, 0]);
+        bytes.put(&(self.limits.allowance as u32).to_le_bytes());
+        bytes.put(&(self.limits.budget as u16).to_le_bytes());
+        bytes.put(&(self.limits.mode as u16).to_le_bytes());
         let mut place = self.bodies();
         for (number, &count) in self.numbers.iter().zip(&self.counts).take(self.cues) {
             bytes.put(&number.to_le_bytes());
@@ -371,7 +378,8 @@ fn way_length(present: u64, absent: u64) -> usize {
 }
 
 fn length(sheet: &Sheet) -> usize {
-    let run = 7 + digits(sheet.allowance()) + digits(sheet.budget());
+    let limits = sheet.limits();
+    let run = 7 + digits(limits.allowance) + digits(limits.budget) + 2 * limits.mode as usize;
     let weight = |fault| 1 + digits(u64::from(sheet.weight(fault)));
     let weights = 9 + (0..sheet.faults).map(weight).sum::<usize>();
     let cue = |i| {
@@ -435,10 +443,14 @@ pub fn export(bytes: &[u8], space: &mut [u8]) -> Answer {
         return refused(22);
     }
     let mut text = Text { space, len: 0 };
+    let limits = sheet.limits();
     text.put(b"run,");
-    text.number(sheet.allowance());
+    text.number(limits.allowance);
     text.put(b",");
-    text.number(sheet.budget());
+    text.number(limits.budget);
+    if limits.mode == 1 {
+        text.put(b",1");
+    }
     text.put(b"\r\nweights");
     for fault in 0..sheet.faults {
         text.put(b",");
@@ -518,6 +530,23 @@ mod tests {
     }
 
     #[test]
+    fn a_sheet_by_share() {
+        let share = TEXT.replace(",40|", ",40,1|");
+        let (sheet, back) = there_and_back(&share);
+        assert_eq!(
+            (sheet.len(), &sheet[8..12], back),
+            (72, &[40, 0, 1, 0][..], share)
+        );
+        let mut space = [9; 76];
+        assert_eq!(export(&sheet, &mut space[..74]).number, 22);
+        assert_eq!(export(&sheet, &mut space).count, 75);
+        for (low, high) in [(2, 0), (0, 1), (255, 255)] {
+            let other = [&sheet[..10], &[low, high], &sheet[12..]].concat();
+            assert_eq!(export(&other, &mut space).number, 3);
+        }
+    }
+
+    #[test]
     fn records() {
         let figures = [
             ("", (2, 0)),
@@ -591,6 +620,17 @@ mod tests {
             ("run, 1,2|weights,5|7", (23, 1)),
             ("Run,1,2|weights,5|7", (23, 1)),
             ("run,1,2,0|weights,5|7", (23, 1)),
+            ("run,1,2,1|weights,5|7", (0, 24)),
+            ("run,1,2,\"1\"|weights,5|7", (0, 24)),
+            ("run,1,2,2|weights,5|7", (23, 1)),
+            ("run,1,2,01|weights,5|7", (23, 1)),
+            ("run,1,2,11|weights,5|7", (23, 1)),
+            ("run,1,2,-1|weights,5|7", (23, 1)),
+            ("run,1,2,\"1|weights,5|7", (23, 1)),
+            ("run,1,2,1,|weights,5|7", (23, 1)),
+            ("run,1,2,1,1|weights,5|7", (23, 1)),
+            ("run,1,2,|weights,5|7", (23, 1)),
+            ("run,1000000001,2,1|weights,5|7", (14, 0)),
             ("run,1|weights,5|7", (23, 1)),
             ("run,1,2\nweights,5\n7", (23, 1)),
             ("\u{feff}run,1,2|weights,5|7", (23, 1)),

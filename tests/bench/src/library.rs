@@ -1,10 +1,10 @@
 //! The library through its C interface (include/cue_risk.h).
 
-/// The functions of a build, by its symbols for `cue_sheet_report`, `cue_open` and `cue_run`.
+/// The functions of a build but for its runs, by its symbols for `cue_sheet_report` and `cue_open`.
 macro_rules! build {
-    ($report:literal, $open:literal, $run:literal) => {
+    ($report:literal, $open:literal) => {
         use crate::formula::Table;
-        use crate::run::Answer;
+        use crate::run::{Answer, Limits};
         use crate::tree::Tree;
 
         extern "C" {
@@ -24,18 +24,6 @@ macro_rules! build {
                 presents: usize,
                 absent: *const u64,
                 absents: usize,
-            ) -> Answer;
-            #[link_name = $run]
-            fn cue_run(
-                tree: *mut Tree,
-                weights: *const u32,
-                faults: usize,
-                present: *const u64,
-                presents: usize,
-                absent: *const u64,
-                absents: usize,
-                allowance: u64,
-                budget: u64,
             ) -> Answer;
         }
 
@@ -63,9 +51,29 @@ macro_rules! build {
                 )
             }
         }
+    };
+}
 
-        pub fn run(tree: &mut Tree, table: &Table, allowance: u64, budget: u64) -> Answer {
-            // Sound: as above.
+/// A run of a build, by its symbol for `cue_run`: with the mode behind the budget, or without.
+macro_rules! run {
+    ($symbol:literal, $name:ident $(, $mode:ident)?) => {
+        pub fn $name(tree: &mut Tree, table: &Table, limits: Limits) -> Answer {
+            extern "C" {
+                #[link_name = $symbol]
+                fn cue_run(
+                    tree: *mut Tree,
+                    weights: *const u32,
+                    faults: usize,
+                    present: *const u64,
+                    presents: usize,
+                    absent: *const u64,
+                    absents: usize,
+                    allowance: u64,
+                    budget: u64,
+                    $($mode: u64,)?
+                ) -> Answer;
+            }
+            // Sound: the tree has the header's layout, and all is lent for the call, with its lengths.
             unsafe {
                 cue_run(
                     tree,
@@ -75,15 +83,17 @@ macro_rules! build {
                     table.present.len(),
                     table.absent.as_ptr(),
                     table.absent.len(),
-                    allowance,
-                    budget,
+                    limits.allowance,
+                    limits.budget,
+                    $(limits.$mode,)?
                 )
             }
         }
     };
 }
 
-build!("cue_sheet_report", "cue_open", "cue_run");
+build!("cue_sheet_report", "cue_open");
+run!("cue_run", run, mode);
 
 // Not of every build: another one may be older than these.
 extern "C" {
@@ -101,10 +111,30 @@ pub fn export(sheet: &[u8], space: &mut [u8]) -> Answer {
     unsafe { cue_csv_export(sheet.as_ptr(), sheet.len(), space.as_mut_ptr(), space.len()) }
 }
 
-/// Another build, linked by `tests/bench.sh beside` alone.
+/// Another build, linked by `tests/bench.sh beside` alone. Its symbol for runs has one of two types, as its version tells.
 #[cfg(beside)]
+#[allow(clashing_extern_declarations)]
 pub mod other {
-    build!("other_cue_sheet_report", "other_cue_open", "other_cue_run");
+    build!("other_cue_sheet_report", "other_cue_open");
+    run!("other_cue_run", run_in_a_mode, mode);
+    run!("other_cue_run", run_by_distance);
+
+    extern "C" {
+        #[link_name = "other_cue_version"]
+        fn cue_version() -> u64;
+    }
+
+    /// The first version whose runs take a mode.
+    const WITH_MODES: u64 = 6;
+
+    /// Its runs. Where they take no mode, none by share may be asked for.
+    pub fn run() -> fn(&mut Tree, &Table, Limits) -> Answer {
+        // Sound: it takes nothing.
+        match unsafe { cue_version() } {
+            WITH_MODES.. => run_in_a_mode,
+            _ => run_by_distance,
+        }
+    }
 }
 
 // Logs

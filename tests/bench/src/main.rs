@@ -12,7 +12,7 @@ use std::io::{self, Write};
 use std::time::Duration;
 
 use bench::formula::Table;
-use bench::run::{self, Answer};
+use bench::run::{self, Answer, Limits};
 use bench::sheets::Shape;
 use bench::tree::Tree;
 use bench::{clock, csv, library, logs, sheet, sheets, texts};
@@ -23,7 +23,7 @@ mod beside;
 /// More than the longest report: 27 bytes and 24 lines of 38.
 const ROOM: usize = 1024;
 /// The longest text of a sheet.
-const TEXT_ROOM: usize = 781_021;
+const TEXT_ROOM: usize = 781_023;
 const ROUNDS: usize = 15;
 const LEAST: Duration = Duration::from_millis(10);
 const SEEDS: u64 = 4;
@@ -139,12 +139,21 @@ fn heading(first: &str) {
 // Runs in pieces: each call builds the tree again for 16
 
 type Open = fn(&mut Tree, &Table) -> Answer;
-type Run = fn(&mut Tree, &Table, u64, u64) -> Answer;
+type Run = fn(&mut Tree, &Table, Limits) -> Answer;
 type Calls = (Open, Run);
 type Rows = (Vec<u32>, Vec<u64>, Vec<u64>);
 
-/// A table opened and run in eight pieces of the budget; the tree and the answers of the calls.
-fn pieces((open, run): Calls, rows: &Rows, budget: u64, tree: &mut Tree) -> [Answer; 8] {
+/// What each of eight runs is asked for: equal ends, in the shape's mode, with an eighth of its budget.
+fn eighth(shape: &Shape) -> Limits {
+    Limits {
+        allowance: 0,
+        budget: shape.budget / 8,
+        mode: shape.mode,
+    }
+}
+
+/// A table opened and run in eight pieces; the tree and the answers of the calls.
+fn pieces((open, run): Calls, rows: &Rows, piece: Limits, tree: &mut Tree) -> [Answer; 8] {
     let (weights, present, absent) = rows;
     let table = Table {
         weights,
@@ -152,16 +161,16 @@ fn pieces((open, run): Calls, rows: &Rows, budget: u64, tree: &mut Tree) -> [Ans
         absent,
     };
     open(tree, &table);
-    [(); 8].map(|()| run(tree, &table, 0, budget / 8))
+    [(); 8].map(|()| run(tree, &table, piece))
 }
 
 /// Microseconds of the eight calls.
-fn measure_pieces(sides: [Calls; 2], rows: &Rows, budget: u64) -> Medians<2> {
+fn measure_pieces(sides: [Calls; 2], rows: &Rows, piece: Limits) -> Medians<2> {
     let mut tree = Tree::new();
     in_turn(sides, |calls| {
         let start = clock::now();
         for _ in 0..4 {
-            black_box(pieces(calls, black_box(rows), budget, &mut tree));
+            black_box(pieces(calls, black_box(rows), piece, &mut tree));
         }
         (clock::now() - start).as_secs_f64() * 1e6 / 4.0
     })
@@ -173,11 +182,12 @@ fn pieces_line(name: &str, shape: &Shape) {
     let sides: [Calls; 2] = [(library::open, library::run), (run::open, run::run)];
     let mut trees = [Tree::new(), Tree::new()];
     let [a, b] = &mut trees;
-    let ours = pieces(sides[0], &rows, shape.budget, a);
-    let theirs = pieces(sides[1], &rows, shape.budget, b);
+    let piece = eighth(shape);
+    let ours = pieces(sides[0], &rows, piece, a);
+    let theirs = pieces(sides[1], &rows, piece, b);
     assert!(ours == theirs, "the answers differ");
     assert!(a == b, "the trees differ");
-    let Medians { times, ratios } = measure_pieces(sides, &rows, shape.budget);
+    let Medians { times, ratios } = measure_pieces(sides, &rows, piece);
     let ([library, rust], [_, ratio]) = (times, ratios);
     println!("| {name} | {library:.0} | {rust:.0} | {ratio:.2} |");
 }

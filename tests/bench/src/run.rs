@@ -15,6 +15,15 @@ pub struct Answer {
     pub figure: u64,
 }
 
+/// What a run is asked for.
+#[derive(Clone, Copy, Default)]
+pub struct Limits {
+    pub allowance: u64,
+    pub budget: u64,
+    /// 0, the allowance is a distance; 1, it is a share.
+    pub mode: u64,
+}
+
 pub const MET: u64 = 1;
 pub const DONE: u64 = 2;
 pub const FULL: u64 = 3;
@@ -86,16 +95,19 @@ fn choose(table: &Table, ways: &Clauses) -> Kind {
     Kind::Shannon(most_named(table, ways))
 }
 
-/// 9 to 15, or 0.
-fn run_number(table: &Table, allowance: u64, budget: u64) -> u64 {
+/// 3, 9 to 15, or 0.
+fn run_number(table: &Table, limits: Limits) -> u64 {
+    if limits.mode > 1 {
+        return 3;
+    }
     let number = table_number(table);
     if number != 0 {
         return number;
     }
-    if allowance > S {
+    if limits.allowance > S {
         return 14;
     }
-    if budget > 255 {
+    if limits.budget > 255 {
         return 15;
     }
     0
@@ -106,11 +118,27 @@ fn width(node: &Node) -> u64 {
     node.high.saturating_sub(node.low)
 }
 
-/// The run itself, on a good tree where none of 9 to 15 applies.
-fn run_good(tree: &mut Tree, table: &Table, allowance: u64, budget: u64) -> Answer {
+/// The root is as narrow as the allowance asks. No product is above 2 * S * S.
+fn is_met(root: &Node, limits: Limits) -> bool {
+    if limits.mode == 1 {
+        return (S - limits.allowance) * root.high <= (S + limits.allowance) * root.low;
+    }
+    width(root) <= 2 * limits.allowance
+}
+
+/// The figure of a run; by share it has none.
+fn figure(root: &Node, limits: Limits) -> u64 {
+    if limits.mode == 1 {
+        return 0;
+    }
+    root.low + width(root) / 2
+}
+
+/// The run itself, on a good tree where none of 3 and 9 to 15 applies.
+fn run_good(tree: &mut Tree, table: &Table, limits: Limits) -> Answer {
     let mut count = 0;
     let verdict = loop {
-        if width(&tree.nodes[0]) <= 2 * allowance {
+        if is_met(&tree.nodes[0], limits) {
             break MET;
         }
         let Some(at) = tree.widest() else {
@@ -119,7 +147,7 @@ fn run_good(tree: &mut Tree, table: &Table, allowance: u64, budget: u64) -> Answ
         if tree.used == MOST_NODES {
             break FULL;
         }
-        if count == budget {
+        if count == limits.budget {
             break SPENT;
         }
         let ways = tree.ways(table, at);
@@ -134,28 +162,28 @@ fn run_good(tree: &mut Tree, table: &Table, allowance: u64, budget: u64) -> Answ
         high: root.high,
         count,
         verdict,
-        figure: root.low + width(root) / 2,
+        figure: figure(root, limits),
     }
 }
 
-pub fn run(tree: &mut Tree, table: &Table, allowance: u64, budget: u64) -> Answer {
-    let number = run_number(table, allowance, budget);
+pub fn run(tree: &mut Tree, table: &Table, limits: Limits) -> Answer {
+    let number = run_number(table, limits);
     if number != 0 {
         return refused(number);
     }
     if !tree.is_good(table) {
         return refused(16);
     }
-    run_good(tree, table, allowance, budget)
+    run_good(tree, table, limits)
 }
 
 /// What one run answers on the root leaf of a table, on a tree of its own.
-pub fn run_afresh(table: &Table, allowance: u64, budget: u64) -> Answer {
-    let number = run_number(table, allowance, budget);
+pub fn run_afresh(table: &Table, limits: Limits) -> Answer {
+    let number = run_number(table, limits);
     if number != 0 {
         return refused(number);
     }
     let mut tree = Tree::new();
     tree.put_root(table);
-    run_good(&mut tree, table, allowance, budget)
+    run_good(&mut tree, table, limits)
 }

@@ -1,7 +1,7 @@
 //! A sheet's bytes read, and the text of its report written into lent space. No heap.
 
 use crate::formula::*;
-use crate::run::{run_afresh, Answer, DONE, FULL, MET};
+use crate::run::{run_afresh, Answer, Limits, DONE, FULL, MET};
 
 pub const HEAD: usize = 12;
 pub const MOST_CUES: usize = 24;
@@ -51,12 +51,12 @@ impl Sheet<'_> {
         self.weights() + 4 * self.faults
     }
 
-    pub fn allowance(&self) -> u64 {
-        u64::from(u32_at(self.bytes, 4))
-    }
-
-    pub fn budget(&self) -> u64 {
-        u64::from(u16_at(self.bytes, 8))
+    pub fn limits(&self) -> Limits {
+        Limits {
+            allowance: u64::from(u32_at(self.bytes, 4)),
+            budget: u64::from(u16_at(self.bytes, 8)),
+            mode: u64::from(u16_at(self.bytes, 10)),
+        }
     }
 
     pub fn weight(&self, fault: usize) -> u32 {
@@ -105,10 +105,10 @@ impl Sheet<'_> {
         if ways().any(|(p, a)| p & a != 0) {
             return 13;
         }
-        if self.allowance() > S {
+        if self.limits().allowance > S {
             return 14;
         }
-        if self.budget() > 255 {
+        if self.limits().budget > 255 {
             return 15;
         }
         0
@@ -128,7 +128,7 @@ pub fn read(bytes: &[u8]) -> Result<Sheet<'_>, u64> {
     if outside(sheet.faults, MOST_FAULTS) || outside(sheet.cues, MOST_CUES) {
         return Err(2);
     }
-    if u16_at(bytes, 10) != 0 {
+    if sheet.limits().mode > 1 {
         return Err(3);
     }
     if bytes.len() < sheet.bodies() {
@@ -214,7 +214,7 @@ pub fn report(bytes: &[u8], space: &mut [u8]) -> usize {
             present: &present[..ways],
             absent: &absent[..ways],
         };
-        let answer = run_afresh(&table, sheet.allowance(), sheet.budget());
+        let answer = run_afresh(&table, sheet.limits());
         text.line(sheet.cue(i), &answer);
     }
     text.len

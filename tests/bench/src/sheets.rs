@@ -15,6 +15,8 @@ pub struct Shape {
     pub heaviest: u32,
     pub allowance: u64,
     pub budget: u64,
+    /// 0, the allowance is a distance; 1, it is a share.
+    pub mode: u64,
 }
 
 /// Splitmix64.
@@ -58,7 +60,7 @@ pub fn sheet(shape: &Shape, seed: u64) -> Vec<u8> {
     bytes.extend((shape.cues as u16).to_le_bytes());
     bytes.extend((shape.allowance as u32).to_le_bytes());
     bytes.extend((shape.budget as u16).to_le_bytes());
-    bytes.extend([0, 0]);
+    bytes.extend((shape.mode as u16).to_le_bytes());
     let mut place = 12 + 8 * shape.cues + 4 * shape.faults;
     for cue in 0..shape.cues {
         bytes.extend((cue as u16 + 1).to_le_bytes());
@@ -104,6 +106,7 @@ pub fn families() -> Vec<(&'static str, Shape)> {
         heaviest: 100_000_000,
         allowance: 0,
         budget: 255,
+        mode: 0,
     };
     let small = Shape {
         cues: 2,
@@ -177,6 +180,7 @@ pub fn families() -> Vec<(&'static str, Shape)> {
                 ..largest
             },
         ),
+        ("typical, by share", Shape { mode: 1, ..typical }),
     ]
 }
 
@@ -199,13 +203,13 @@ pub fn growth() -> Vec<(&'static str, usize, Shape)> {
     ways.into_iter().chain(faults).chain(budgets).collect()
 }
 
-/// The sheet with the longest text: every way names all faults absent, and no number could have more digits.
+/// The sheet with the longest text: every way names all faults absent, no number could have more digits, and the mode is written.
 pub fn longest() -> Vec<u8> {
     let (cues, ways) = (24u32, 128u32);
     let mut bytes = Vec::new();
     bytes.extend([64, 0, cues as u8, 0]);
     bytes.extend(1_000_000_000u32.to_le_bytes());
-    bytes.extend([255, 0, 0, 0]);
+    bytes.extend([255, 0, 1, 0]);
     for cue in 0..cues {
         bytes.extend((10_000 + cue as u16).to_le_bytes());
         bytes.extend((ways as u16).to_le_bytes());
@@ -249,10 +253,11 @@ pub fn text(sheet: &[u8], quote: &str) -> Vec<u8> {
     let bodies = 12 + 8 * cues + 4 * faults;
     let mut weights = vec!["weights".to_string()];
     weights.extend((0..faults).map(|fault| decimal(12 + 8 * cues + 4 * fault, 4)));
-    let mut records = vec![
-        vec!["run".to_string(), decimal(4, 4), decimal(8, 2)],
-        weights,
-    ];
+    let mut run = vec!["run".to_string(), decimal(4, 4), decimal(8, 2)];
+    if number(&sheet[10..12]) == 1 {
+        run.push("1".to_string());
+    }
+    let mut records = vec![run, weights];
     let mut ways = sheet[bodies..].chunks(16);
     for entry in sheet[12..].chunks(8).take(cues) {
         let cue = vec![number(&entry[..2]).to_string()];

@@ -9,10 +9,3 @@ mod writer;
 
 pub use export::export;
 pub use import::import;
-
-/// The limits of a sheet's runs.
-#[derive(Clone, Copy)]
-struct Limits {
-    allowance: u64,
-    budget: u64,
-}

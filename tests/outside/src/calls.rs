@@ -3,7 +3,7 @@
 
 use reference::captures;
 use reference::sheet::Sheet;
-use reference::{Table, MOST_FAULTS, MOST_WAYS};
+use reference::{Limits, Table, MOST_FAULTS, MOST_WAYS};
 use std::ptr;
 
 pub const RECORDS: usize = 511;
@@ -12,7 +12,7 @@ pub const RECORDS: usize = 511;
 pub const STACK: usize = 262_144;
 
 /// The version of the header.
-pub const VERSION: u64 = 5;
+pub const VERSION: u64 = 6;
 
 /// A record of a tree; its fields have one width, so that they can be told by number too.
 #[repr(C)]
@@ -97,6 +97,7 @@ pub struct Head {
     pub cues: u64,
     pub allowance: u64,
     pub budget: u64,
+    pub mode: u64,
 }
 
 #[repr(C)]
@@ -154,7 +155,7 @@ impl Figure {
 const _: () = {
     assert!(size_of::<Node>() == 112 && size_of::<Tree>() == 57_240);
     assert!(size_of::<Answer>() == 48 && size_of::<Spot>() == 16);
-    assert!(size_of::<Head>() == 40 && size_of::<Entry>() == 40 && size_of::<Inside>() == 2_336);
+    assert!(size_of::<Head>() == 48 && size_of::<Entry>() == 40 && size_of::<Inside>() == 2_336);
     assert!(size_of::<Fraction>() == 24 && size_of::<Figure>() == 16);
 };
 
@@ -166,14 +167,14 @@ extern "C" {
     fn cue_refine(tree: *mut Tree, weights: *const u32, faults: usize, present: *const u64, presents: usize,
         absent: *const u64, absents: usize, place: *const u8, steps: usize, what: u64, fault: u64) -> Answer;
     fn cue_run(tree: *mut Tree, weights: *const u32, faults: usize, present: *const u64, presents: usize,
-        absent: *const u64, absents: usize, allowance: u64, budget: u64) -> Answer;
+        absent: *const u64, absents: usize, allowance: u64, budget: u64, mode: u64) -> Answer;
     fn cue_widest(records: *const Node, count: usize) -> Spot;
     fn cue_sheet_check(sheet: *const u8, length: usize) -> Head;
     fn cue_sheet_cue(sheet: *const u8, length: usize, position: usize) -> Entry;
     fn cue_sheet_table(sheet: *const u8, length: usize, position: usize) -> Inside;
     fn cue_sheet_write(weights: *const u32, faults: usize, numbers: *const u16, cues: usize, counts: *const u16,
         counted: usize, present: *const u64, presents: usize, absent: *const u64, absents: usize, allowance: u64,
-        budget: u64, space: *mut u8, length: usize) -> Answer;
+        budget: u64, mode: u64, space: *mut u8, length: usize) -> Answer;
     fn cue_sheet_report(sheet: *const u8, length: usize, space: *mut u8, room: usize) -> Answer;
     fn cue_csv_import(text: *const u8, length: usize, space: *mut u8, room: usize) -> Answer;
     fn cue_csv_export(sheet: *const u8, length: usize, space: *mut u8, room: usize) -> Answer;
@@ -220,9 +221,10 @@ pub fn refine(tree: &mut Tree, table: &Table, place: &[u8], what: u64, fault: u6
     }
 }
 
-pub fn run(tree: &mut Tree, table: &Table, allowance: u64, budget: u64) -> Answer {
+pub fn run(tree: &mut Tree, table: &Table, limits: Limits) -> Answer {
     let Table { weights: w, present: p, absent: a } = table;
-    unsafe { cue_run(tree, at(w), w.len(), at(p), p.len(), at(a), a.len(), allowance, budget) }
+    let Limits { allowance, budget, mode } = limits;
+    unsafe { cue_run(tree, at(w), w.len(), at(p), p.len(), at(a), a.len(), allowance, budget, mode) }
 }
 
 pub fn widest(records: &[Node]) -> Spot {
@@ -243,11 +245,11 @@ pub fn table(sheet: &[u8], position: usize) -> Inside {
 
 #[rustfmt::skip]
 pub fn write(lists: &Sheet, space: &mut [u8]) -> Answer {
-    let Sheet { weights: w, cues: n, counts: c, present: p, absent: a, allowance, budget } = lists;
+    let Sheet { weights: w, cues: n, counts: c, present: p, absent: a, allowance, budget, mode } = lists;
     let room = space.len();
     unsafe {
         cue_sheet_write(at(w), w.len(), at(n), n.len(), at(c), c.len(), at(p), p.len(), at(a), a.len(),
-            *allowance, *budget, at_mut(space), room)
+            *allowance, *budget, *mode, at_mut(space), room)
     }
 }
 

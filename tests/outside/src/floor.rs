@@ -1,5 +1,5 @@
-//! The least that all families together must have met: every number of every call that it concerns, every verdict, and
-//! every kind of refinement.
+//! The least that all families together must have met: every number of every call that it concerns, every verdict, by
+//! share too, and every kind of refinement.
 //! The least comparisons of a family stand beside its name (`families`).
 
 use crate::tally::{Call, Tally};
@@ -9,11 +9,11 @@ use reference::{DONE, FULL, MET, SPENT};
 const NUMBERS: [(Call, u64, &[u64]); 17] = [
     (Call::Open, 30, &[0, 9, 10, 11, 12, 13]),
     (Call::Refine, 30, &[0, 9, 10, 11, 12, 13, 16, 17, 18, 19, 20]),
-    (Call::Run, 30, &[0, 9, 10, 11, 12, 13, 14, 15, 16]),
+    (Call::Run, 30, &[0, 3, 9, 10, 11, 12, 13, 14, 15, 16]),
     (Call::Check, 100, &[0, 1, 2, 3, 4, 5, 6, 7, 8, 10, 12, 13, 14, 15]),
     (Call::Cue, 100, &[0, 1, 2, 3, 4, 5, 6, 7, 8, 10, 12, 13, 14, 15]),
     (Call::Table, 100, &[0, 1, 2, 3, 4, 5, 6, 7, 8, 10, 12, 13, 14, 15]),
-    (Call::Write, 100, &[0, 2, 5, 6, 10, 12, 13, 14, 15, 21, 22]),
+    (Call::Write, 100, &[0, 2, 3, 5, 6, 10, 12, 13, 14, 15, 21, 22]),
     (Call::Report, 100, &[0, 22]),
     (Call::Import, 100, &[0, 2, 5, 6, 10, 12, 13, 14, 15, 22, 23]),
     (Call::Export, 30, &[0, 1, 2, 3, 4, 5, 6, 7, 8, 10, 12, 13, 14, 15, 22]),
@@ -29,6 +29,9 @@ const NUMBERS: [(Call, u64, &[u64]); 17] = [
 
 /// The verdicts of runs, and how often each must have been given.
 const VERDICTS: [(u64, u64); 4] = [(MET, 1000), (DONE, 1000), (FULL, 50), (SPENT, 1000)];
+
+/// The same of runs by share.
+const SHARES: [(u64, u64); 4] = [(MET, 1000), (DONE, 300), (FULL, 5), (SPENT, 1000)];
 
 /// The kinds of refinement, and at how many places each must have been compared.
 const REFINED: [(&str, u64); 3] = [("independence", 40_000), ("common part", 10_000), ("fault", 40_000)];
@@ -52,6 +55,9 @@ pub fn is_met(tally: &Tally) -> bool {
     }
     for (verdict, least) in VERDICTS {
         judge(format!("verdict {verdict}"), tally.met_verdict(verdict), least);
+    }
+    for (verdict, least) in SHARES {
+        judge(format!("verdict {verdict} by share"), tally.met_share(verdict), least);
     }
     for (number, least) in COMMON {
         judge(format!("a common part by hand with {number}"), tally.met_common(number), least);

@@ -3,7 +3,7 @@
 use crate::calls::{Node, Tree, FIELDS};
 use reference::captures::Fraction;
 use reference::sheet::Sheet;
-use reference::Table;
+use reference::{Limits, Table};
 use std::fmt::{self, Display, Formatter};
 use std::str::{FromStr, SplitWhitespace};
 
@@ -38,8 +38,8 @@ pub enum Step {
     Open,
     /// Place, what to do and the fault.
     Refine(Vec<u8>, u64, u64),
-    /// Allowance and budget.
-    Run(u64, u64),
+    /// Allowance, budget and mode.
+    Run(Limits),
     /// The search of the first so many records of the tree.
     Widest(usize),
     /// The search of so many blank records, and these behind them.
@@ -116,7 +116,7 @@ impl Display for Step {
             Step::Version => write!(f, "version"),
             Step::Open => write!(f, "open"),
             Step::Refine(place, what, fault) => write!(f, "refine {} {what} {fault}", list(place)),
-            Step::Run(allowance, budget) => write!(f, "run {allowance} {budget}"),
+            Step::Run(Limits { allowance, budget, mode }) => write!(f, "run {allowance} {budget} {mode}"),
             Step::Widest(count) => write!(f, "widest {count}"),
             Step::Records(blank, records) => write!(f, "records {blank} {}", fields(records)),
             Step::Check => write!(f, "check"),
@@ -125,9 +125,9 @@ impl Display for Step {
             Step::Inside(position) => write!(f, "inside {position}"),
             Step::Report(space) => write!(f, "report {space}"),
             Step::Write(lists, space) => {
-                let Sheet { weights, cues, counts, present, absent, allowance, budget } = lists;
+                let Sheet { weights, cues, counts, present, absent, allowance, budget, mode } = lists;
                 write!(f, "write {} {} {}", list(weights), list(cues), list(counts))?;
-                write!(f, " {} {} {allowance} {budget} {space}", list(present), list(absent))
+                write!(f, " {} {} {allowance} {budget} {mode} {space}", list(present), list(absent))
             }
             Step::Import(space) => write!(f, "import {space}"),
             Step::Export(space) => write!(f, "export {space}"),
@@ -207,7 +207,7 @@ fn step(line: &str) -> Option<Step> {
         "version" => Step::Version,
         "open" => Step::Open,
         "refine" => Step::Refine(words.list()?, words.number()?, words.number()?),
-        "run" => Step::Run(words.number()?, words.number()?),
+        "run" => Step::Run(Limits { allowance: words.number()?, budget: words.number()?, mode: words.number()? }),
         "widest" => Step::Widest(words.number()?),
         "records" => Step::Records(words.number()?, words.records()?),
         "check" => Step::Check,
@@ -224,6 +224,7 @@ fn step(line: &str) -> Option<Step> {
                 absent: words.list()?,
                 allowance: words.number()?,
                 budget: words.number()?,
+                mode: words.number()?,
             };
             Step::Write(lists, words.number()?)
         }

@@ -1,7 +1,7 @@
 //! How many comparisons were made, and how often each call of the library gave each number and each verdict.
 
 use reference::tree::State;
-use reference::{Act, NONE};
+use reference::{Act, Answer, Limits, NONE, SHARE};
 use std::collections::BTreeMap;
 
 /// The functions of the library.
@@ -57,6 +57,7 @@ pub struct Tally {
     verdicts: BTreeMap<u64, u64>,
     refined: BTreeMap<&'static str, u64>,
     common: BTreeMap<u64, u64>,
+    shares: BTreeMap<u64, u64>,
 }
 
 impl Tally {
@@ -70,6 +71,13 @@ impl Tally {
     /// A common part that was asked for by hand.
     pub fn asked_common(&mut self, number: u64) {
         *self.common.entry(number).or_default() += 1;
+    }
+
+    /// A run, counted by its verdict if it was accepted and by share.
+    pub fn aimed(&mut self, limits: Limits, answer: Answer) {
+        if limits.mode == SHARE && answer.number == 0 {
+            *self.shares.entry(answer.verdict).or_default() += 1;
+        }
     }
 
     /// A place that was compared.
@@ -89,6 +97,7 @@ impl Tally {
         other.verdicts.iter().for_each(|(&met, times)| *self.verdicts.entry(met).or_default() += times);
         other.refined.iter().for_each(|(&met, times)| *self.refined.entry(met).or_default() += times);
         other.common.iter().for_each(|(&met, times)| *self.common.entry(met).or_default() += times);
+        other.shares.iter().for_each(|(&met, times)| *self.shares.entry(met).or_default() += times);
     }
 
     /// How often a call gave a number.
@@ -101,6 +110,11 @@ impl Tally {
         self.verdicts.get(&verdict).copied().unwrap_or(0)
     }
 
+    /// How often a verdict was given by share.
+    pub fn met_share(&self, verdict: u64) -> u64 {
+        self.shares.get(&verdict).copied().unwrap_or(0)
+    }
+
     /// How often a place refined so was compared.
     pub fn met_refined(&self, kind: &str) -> u64 {
         self.refined.get(kind).copied().unwrap_or(0)
@@ -111,7 +125,8 @@ impl Tally {
         self.common.get(&number).copied().unwrap_or(0)
     }
 
-    /// The answers by call and number, for the common part by hand too, and by verdict, and the places that were refined.
+    /// The answers by call and number, for the common part by hand too, and by verdict, by share too, and the places that were
+    /// refined.
     pub fn answers(&self) -> String {
         let mut text = String::from("answers");
         let mut last = None;
@@ -123,6 +138,8 @@ impl Tally {
         }
         text += "\n  verdicts";
         self.verdicts.iter().for_each(|(verdict, times)| text += &format!("  {verdict}: {times}"));
+        text += "\n  verdicts by share";
+        self.shares.iter().for_each(|(verdict, times)| text += &format!("  {verdict}: {times}"));
         text += "\n  a common part by hand";
         self.common.iter().for_each(|(number, times)| text += &format!("  {number}: {times}"));
         text += "\n  refined by";

@@ -10,7 +10,7 @@ use crate::scripts::{drawn_and_shown, hand, handed, lined, told, Call, Damage, L
 use crate::sheet::{of_tables, Sheet};
 use crate::tree::open;
 use crate::vectors::make;
-use crate::{Act, Table, DONE, MET, MOST_FAULTS, NONE, S};
+use crate::{by_distance, Act, Table, DONE, MET, MOST_FAULTS, NONE, S};
 
 const SEED: u64 = 2005;
 const RANDOM: usize = 60;
@@ -45,7 +45,8 @@ pub struct Case {
 /// E1 to E8.
 pub fn cases() -> Vec<Case> {
     let (half, quarter) = (u64::from(H), u64::from(Q));
-    let end = |figure, count| vec![(Call::Run(0, 255), [0, figure, figure, count, MET, figure])];
+    let run = Call::Run(by_distance(0, 255));
+    let end = |figure, count| vec![(run.clone(), [0, figure, figure, count, MET, figure])];
     let by_hand = |place: &[u8], act, answer| (hand(place, act), answer);
     let root = |low, high| by_hand(&[], Act::Common, [0, low, high, 1, NONE, 0]);
     let refused = |place: &[u8], act, number| by_hand(place, act, [number, 0, S, 0, NONE, 0]);
@@ -113,7 +114,7 @@ pub fn cases() -> Vec<Case> {
             "E6: the high end is rounded up",
             Table::of(&[THIRD, FIFTH, H], &[&[!1, 2], &[0, !1]]),
             (400_000_000, 666_666_667),
-            vec![(Call::Run(0, 255), nearly)],
+            vec![(run.clone(), nearly)],
             &[
                 (&[0], &[(0, &[!1])], &[2]),
                 (&[1], &[(0, &[2]), (1, &[0])], &[1]),
@@ -228,7 +229,7 @@ pub fn only_out_differs() -> [(Table, Table); 2] {
 /// A tree grown by one of them is refused 16 with the other, and goes on with its own; so is one whose common part was
 /// taken out with a table where nothing is common.
 pub fn handed_on() -> Vec<Script> {
-    let run = Call::Run(0, 1);
+    let run = Call::Run(by_distance(0, 1));
     let by_hand = hand(&[1], Act::Independence);
     let refused = [(run.clone(), 16), (by_hand.clone(), 16)];
     let apart = Table::of(&[H, H, FIFTH], &[&[0, 1], &[2]]);
@@ -277,7 +278,7 @@ pub fn stored() -> Vec<Script> {
         };
         let mut lines = vec![Line::Call(hand(&[], Act::Common))];
         for by in [wrong - own, 0] {
-            lines.push(Line::Damaged(damage(by), Call::Run(0, 0)));
+            lines.push(Line::Damaged(damage(by), Call::Run(by_distance(0, 0))));
             lines.push(Line::Damaged(damage(by), hand(&[1], Act::Fault(0))));
         }
         lines.push(Line::Show);

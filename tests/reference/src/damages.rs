@@ -20,7 +20,7 @@ use crate::run::pick;
 use crate::scripts::{lined, Call, Damage, Line, Script};
 use crate::tree::{open, State};
 use crate::vectors::make;
-use crate::{Act, Table, Tree, S};
+use crate::{by_distance, by_share, Act, Limits, Table, Tree, S};
 
 const SEED: u64 = 2016;
 /// So many refinements has the small tree.
@@ -50,7 +50,7 @@ fn with_every_state(random: &mut Random) -> Table {
     loop {
         let table = random.table_within(8, 10);
         let mut tree = open(&table).1;
-        let made = make(&table, &mut tree, &Call::Run(0, REFINED)).count;
+        let made = make(&table, &mut tree, &Call::Run(by_distance(0, REFINED))).count;
         let entries = tree.places(&table);
         let stands = |state: fn(&State) -> bool| entries.iter().any(|entry| state(&entry.state));
         if made == REFINED
@@ -68,27 +68,32 @@ fn with_every_state(random: &mut Random) -> Table {
 /// The tree after a run, and all fields of these records and the count damaged, for a hand refinement
 /// and for a run. Where nothing is added, nothing is refused by 16.
 fn damaged_everywhere(random: &mut Random, table: Table, refined: u64, records: &[u64]) -> Script {
-    let grow = Call::Run(0, refined);
+    let grow = Call::Run(by_distance(0, refined));
     let mut tree = open(&table).1;
     make(&table, &mut tree, &grow);
-    let calls = [next_by_hand(&table, &tree), Call::Run(0, 1)];
+    let calls = [next_by_hand(&table, &tree), Call::Run(by_distance(0, 1))];
     let mut lines = vec![Line::Call(grow), Line::Show];
     for damage in all_fields(random, records) {
         if damage.by == 0 {
-            lines.push(Line::Damaged(damage, Call::Run(0, 0)));
+            lines.push(Line::Damaged(damage, Call::Run(by_distance(0, 0))));
         } else {
             lines.extend(calls.iter().map(|call| Line::Damaged(damage, call.clone())));
         }
     }
-    // The order of refusals: 14 and 15 before 16, and 16 before 17 to 20.
+    // The order of refusals: 3, 14 and 15 before 16, and 16 before 17 to 20.
     let low_end = Damage {
         record: 0,
         field: LOW,
         by: 1,
     };
     let order = [
-        Call::Run(S + 1, 256),
-        Call::Run(0, 256),
+        Call::Run(Limits {
+            mode: 2,
+            ..by_distance(S + 1, 256)
+        }),
+        Call::Run(by_distance(S + 1, 256)),
+        Call::Run(by_distance(0, 256)),
+        Call::Run(by_share(S, 0)),
         Call::Hand(vec![0; 65], Act::Fault(0)),
         Call::Hand(vec![], Act::Fault(64)),
     ];

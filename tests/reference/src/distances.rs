@@ -3,40 +3,30 @@
 
 use crate::figures::Figures;
 use crate::paper::{p3, p4, p8};
-use crate::run::verdict_word;
+use crate::report::told_of_one_cue;
 use crate::scripts::Call;
 use crate::sheet::{of_one_cue, Sheet};
-use crate::{Table, DONE, MET, NONE, S, SPENT};
+use crate::{by_distance, Limits, Table, DONE, MET, NONE, S, SPENT};
 
-/// A run on an opened table: allowance and budget, then number, low, high, count, verdict and figure.
+/// A run on an opened table: what it is asked for, then number, low, high, count, verdict and figure.
 pub struct Case {
     name: &'static str,
     table: Table,
     root: (u64, u64),
-    allowance: u64,
-    budget: u64,
+    limits: Limits,
     answer: [u64; 6],
 }
 
 impl Case {
     pub fn figures(self) -> Figures {
-        let run = Call::Run(self.allowance, self.budget);
-        (self.name, self.table, self.root, vec![(run, self.answer)])
+        let run = (Call::Run(self.limits), self.answer);
+        (self.name, self.table, self.root, vec![run])
     }
 
     /// Its name, its sheet and the text of that.
     pub fn printed(self) -> (&'static str, Sheet, String) {
-        let [number, low, high, count, verdict, _] = self.answer;
-        let word = verdict_word(verdict);
-        let text = match number {
-            0 => format!("cue low high steps verdict\n1 {low} {high} {count} {word}\n"),
-            _ => format!("refused {number}\n"),
-        };
-        let sheet = Sheet {
-            allowance: self.allowance,
-            ..of_one_cue(self.table, self.budget)
-        };
-        (self.name, sheet, text)
+        let sheet = of_one_cue(self.table, self.limits);
+        (self.name, sheet, told_of_one_cue(self.answer))
     }
 }
 
@@ -46,8 +36,7 @@ pub fn cases() -> Vec<Case> {
         name,
         table,
         root,
-        allowance,
-        budget,
+        limits: by_distance(allowance, budget),
         answer,
     };
     let of_p3 = |name, limits, answer| case(name, p3(), (111_111_110, 111_111_111), limits, answer);

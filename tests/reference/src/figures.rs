@@ -2,17 +2,18 @@
 //! root leaf's interval, then for each call number, low, high, count, verdict and figure.
 
 use crate::common;
-use crate::distances::{self, Case};
+use crate::distances;
 use crate::kept;
 use crate::paper::{
     chain, done_and_full, equal_ways, most_named, one_division, one_pass, own_high, own_interval,
     p3, p4, p6, p7, p8, skipped, widest, with_empty_way, H,
 };
 use crate::redundant;
-use crate::scripts::{lined, Call, Line, Script};
+use crate::scripts::{self, lined, Call, Line, Script};
+use crate::shares;
 use crate::tree::{open, State};
 use crate::vectors::make;
-use crate::{Act, Answer, Table, DONE, MET, NONE, S, SPENT};
+use crate::{by_distance, Act, Answer, Table, DONE, MET, NONE, S, SPENT};
 
 /// A name, a table, its root leaf's interval, and calls with all that they must answer.
 pub type Figures = (&'static str, Table, (u64, u64), Vec<(Call, [u64; 6])>);
@@ -20,10 +21,18 @@ pub type Figures = (&'static str, Table, (u64, u64), Vec<(Call, [u64; 6])>);
 /// All of them.
 pub fn typed() -> Vec<Figures> {
     let redundant = redundant::cases().into_iter().map(|case| case.figures);
-    let distances = distances::cases().into_iter().map(Case::figures);
+    let distances = distances::cases().into_iter().map(distances::Case::figures);
     let common = common::cases().into_iter().map(|case| case.figures);
     let kept = kept::cases().into_iter().map(|case| case.figures);
-    let more = redundant.chain(distances).chain(common).chain(kept);
+    let shares = shares::cases()
+        .into_iter()
+        .filter_map(shares::Case::figures);
+    let more = redundant
+        .chain(distances)
+        .chain(common)
+        .chain(kept)
+        .chain(shares)
+        .chain(shares::mixed());
     [roots_and_widths(), stops(), more.collect()].concat()
 }
 
@@ -31,11 +40,15 @@ pub fn typed() -> Vec<Figures> {
 pub fn figures() -> Vec<Script> {
     let mut scripts: Vec<Script> = typed().into_iter().map(held).collect();
     scripts.push(counted_once());
+    let unopened = shares::cases()
+        .into_iter()
+        .filter(|case| case.root.is_none());
+    scripts.extend(unopened.map(on_no_nodes));
     scripts
 }
 
 fn run(allowance: u64, budget: u64, answer: [u64; 6]) -> (Call, [u64; 6]) {
-    (Call::Run(allowance, budget), answer)
+    (Call::Run(by_distance(allowance, budget)), answer)
 }
 
 fn by_hand(place: &[u8], act: Act, answer: [u64; 6]) -> (Call, [u64; 6]) {
@@ -211,7 +224,8 @@ fn held((name, table, root, calls): Figures) -> Script {
     lined(table, lines)
 }
 
-fn told(answer: &Answer) -> [u64; 6] {
+/// An answer as its figures stand here.
+pub fn told(answer: &Answer) -> [u64; 6] {
     let Answer {
         number,
         low,
@@ -223,12 +237,19 @@ fn told(answer: &Answer) -> [u64; 6] {
     [number, low, high, count, verdict, figure]
 }
 
+/// A run on the tree of a refused opening.
+fn on_no_nodes(case: shares::Case) -> Script {
+    let [number, .., verdict, _] = case.answer;
+    scripts::told(case.table, &[(Call::Run(case.limits), number, verdict)])
+}
+
 /// The fault named in most ways counts only ways that stay: a run takes fault 0.
 fn counted_once() -> Script {
     let table = most_named();
     let (_, mut tree) = open(&table);
-    make(&table, &mut tree, &Call::Run(0, 1));
+    make(&table, &mut tree, &Call::Run(by_distance(0, 1)));
     let root = &tree.places(&table)[0];
     assert_eq!(root.state, State::Refined(Act::Fault(0)));
-    lined(table, vec![Line::Call(Call::Run(0, 1)), Line::Show])
+    let run = Line::Call(Call::Run(by_distance(0, 1)));
+    lined(table, vec![run, Line::Show])
 }

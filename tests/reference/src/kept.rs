@@ -6,7 +6,7 @@ use crate::leaf::Way;
 use crate::paper::{skipped, H, Q};
 use crate::scripts::Call;
 use crate::sheet::{of_tables, Sheet};
-use crate::{Table, MET, S};
+use crate::{by_distance, Table, MET, S};
 use std::collections::BTreeSet;
 
 /// What the program prints for `sheet`.
@@ -37,7 +37,8 @@ pub struct Case {
 /// F1 to F4.
 pub fn cases() -> Vec<Case> {
     let (half, quarter) = (u64::from(H), u64::from(Q));
-    let end = |figure, count| vec![(Call::Run(0, 255), [0, figure, figure, count, MET, figure])];
+    let run = Call::Run(by_distance(0, 255));
+    let end = |figure, count| vec![(run.clone(), [0, figure, figure, count, MET, figure])];
     let case = |name, table, root, calls, misread| Case {
         figures: (name, table, root, calls),
         misread,

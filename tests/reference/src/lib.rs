@@ -20,6 +20,7 @@ pub mod redundant;
 pub mod report;
 pub mod run;
 pub mod scripts;
+pub mod shares;
 pub mod sheet;
 pub mod sheets;
 pub mod table;
@@ -47,7 +48,38 @@ pub const DONE: u64 = 2;
 pub const FULL: u64 = 3;
 pub const SPENT: u64 = 4;
 
-/// What every call hands back. An accepted run has a verdict and a figure; in every other answer both are 0.
+/// What a run's allowance is: a distance from the chance, or a share of it. Every other mode is refused 3.
+pub const DISTANCE: u64 = 0;
+pub const SHARE: u64 = 1;
+
+/// What a run is asked for. All three are judged as they are given, in all their bits.
+#[derive(Clone, Copy, Debug, Default, PartialEq, Eq)]
+pub struct Limits {
+    pub allowance: u64,
+    pub budget: u64,
+    pub mode: u64,
+}
+
+/// A run that aims at a figure no further from the chance than the allowance.
+pub const fn by_distance(allowance: u64, budget: u64) -> Limits {
+    Limits {
+        allowance,
+        budget,
+        mode: DISTANCE,
+    }
+}
+
+/// A run that aims at a number no further from the chance than this share of it.
+pub const fn by_share(share: u64, budget: u64) -> Limits {
+    Limits {
+        allowance: share,
+        budget,
+        mode: SHARE,
+    }
+}
+
+/// What every call hands back. An accepted run has a verdict and a figure, which by share is 0; in every other answer both
+/// are 0.
 #[derive(Clone, Copy, Debug, PartialEq, Eq)]
 pub struct Answer {
     pub number: u64,

@@ -4,9 +4,10 @@
 use crate::paper::{most_named, own_interval, p4, ring, widest};
 use crate::random::Random;
 use crate::scripts::{any_call, lined, Call, Line, Script};
+use crate::shares::least_share;
 use crate::tree::{open, Entry, State};
 use crate::vectors::make;
-use crate::{Act, Table, Tree, S};
+use crate::{by_distance, by_share, Act, Limits, Table, Tree, S};
 use std::collections::HashSet;
 use std::mem::discriminant;
 
@@ -16,7 +17,7 @@ const SMALL: usize = 8;
 /// For each table a first list of calls and two others to the same places: by hand alone, and with runs.
 pub fn orders_of_refinement() -> Vec<Script> {
     let mut random = Random::new(SEED);
-    let run = |budget| vec![Call::Run(0, budget)];
+    let run = |budget| vec![Call::Run(by_distance(0, budget))];
     let mut lists = vec![
         (p4(), run(2)),
         (own_interval(), run(3)),
@@ -41,7 +42,10 @@ fn drawn(random: &mut Random, table: fn(&mut Random) -> Table, kinds: usize) -> 
         let mut calls = Vec::new();
         for _ in 0..random.between(4, 9) {
             let call = match any_call(random, &table, &tree) {
-                Call::Run(allowance, budget) => Call::Run(allowance, budget % 5),
+                Call::Run(limits) => Call::Run(Limits {
+                    budget: limits.budget % 5,
+                    ..limits
+                }),
                 hand => hand,
             };
             make(&table, &mut tree, &call);
@@ -71,7 +75,11 @@ fn several_orders(random: &mut Random, table: Table, first: Vec<Call>) -> Vec<Sc
     let by_hand = toward(random, &table, &tree, false);
     let with_runs = toward(random, &table, &tree, true);
     let further = further_runs(&table, &tree);
-    let refused = [Call::Run(S + 1, 1), Call::Run(0, 256)];
+    let other = Limits {
+        mode: 2,
+        ..by_distance(0, 1)
+    };
+    let refused = [by_distance(S + 1, 1), by_distance(0, 256), other].map(Call::Run);
     [first, by_hand, with_runs]
         .into_iter()
         .map(|calls| {
@@ -95,17 +103,22 @@ fn made(table: &Table, tree: &mut Tree, calls: &[Call]) -> u64 {
     sum
 }
 
-/// Runs of several allowances and budgets.
+/// Runs of several allowances and budgets, in both modes.
 fn further_runs(table: &Table, tree: &Tree) -> Vec<Call> {
     let root = tree.interval(table);
     let width = root.high - root.low;
-    vec![
-        Call::Run(0, 0),
-        Call::Run(0, 1),
-        Call::Run(width / 2, 4),
-        Call::Run(width, 255),
-        Call::Run(0, 9),
-    ]
+    let share = least_share(root);
+    let limits = [
+        by_distance(0, 0),
+        by_distance(0, 1),
+        by_distance(width / 2, 4),
+        by_distance(width, 255),
+        by_distance(0, 9),
+        by_share(0, 1),
+        by_share(share, 4),
+        by_share(share / 2, 9),
+    ];
+    limits.map(Call::Run).to_vec()
 }
 
 /// Calls in an order of their own that lead from the opening to the same places refined: hand
@@ -118,7 +131,7 @@ pub fn toward(random: &mut Random, table: &Table, target: &Tree, runs: bool) -> 
         let call = if random.one_in(4) {
             any_call(random, table, &tree)
         } else if runs && random.one_in(2) {
-            Call::Run(0, random.between(1, 3) as u64)
+            Call::Run(random.narrowest(1, 3))
         } else {
             missing(random, table, &tree, &wanted)
         };
@@ -167,7 +180,7 @@ fn missing(random: &mut Random, table: &Table, tree: &Tree, wanted: &[(Vec<u8>, 
 fn full_in_two_orders(random: &mut Random) -> Vec<Script> {
     let table = ring();
     let mut tree = open(&table).1;
-    let once = vec![Call::Run(0, 255)];
+    let once = vec![Call::Run(by_distance(0, 255))];
     assert_eq!(made(&table, &mut tree, &once), 255);
     let wanted = refined(&table, &tree);
     let mut other = open(&table).1;
@@ -184,7 +197,7 @@ fn full_in_two_orders(random: &mut Random) -> Vec<Script> {
         .map(|calls| {
             let mut lines: Vec<Line> = calls.into_iter().map(Line::Call).collect();
             lines.push(Line::Show);
-            lines.push(Line::Call(Call::Run(0, 255)));
+            lines.push(Line::Call(Call::Run(by_distance(0, 255))));
             lined(table.clone(), lines)
         })
         .collect()

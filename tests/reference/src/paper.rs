@@ -2,7 +2,7 @@
 //! that are easy to get wrong, the largest ones, and those at a limit with their numbers.
 
 use crate::sheet::Sheet;
-use crate::{Act, Table, MOST_FAULTS, MOST_WAYS, S};
+use crate::{Act, Table, DISTANCE, MOST_FAULTS, MOST_WAYS, S};
 
 pub const H: u32 = 500_000_000;
 pub const Q: u32 = 250_000_000;
@@ -318,5 +318,6 @@ pub fn whole_sheet(budget: u64) -> Sheet {
         absent: vec![0, 0],
         allowance: 10_000_000,
         budget,
+        mode: DISTANCE,
     }
 }

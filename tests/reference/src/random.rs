@@ -4,7 +4,10 @@
 use crate::run::pick;
 use crate::sheet::{encode, length, Sheet};
 use crate::tree::{common, split, Act, Entry, State};
-use crate::{Table, Tree, LONGEST_PLACE, LONGEST_SHEET, MOST_CUES, MOST_FAULTS, MOST_WAYS, S};
+use crate::{
+    Limits, Table, Tree, DISTANCE, LONGEST_PLACE, LONGEST_SHEET, MOST_CUES, MOST_FAULTS, MOST_WAYS,
+    S, SHARE,
+};
 use std::mem::swap;
 
 /// Splitmix64: the same seed gives the same inputs everywhere.
@@ -337,6 +340,42 @@ impl Random {
         }
     }
 
+    /// A mode: mostly one of the two, one in ten above. Some of those above are 0 or 1 once cut to a byte.
+    pub fn mode(&mut self) -> u64 {
+        match self.below(10) {
+            0 => self.one_of(&[2, 3, 256, 257, u64::from(u16::MAX)]),
+            1..=5 => SHARE,
+            _ => DISTANCE,
+        }
+    }
+
+    /// What a run is asked for: mostly such as the rules accept.
+    pub fn limits(&mut self) -> Limits {
+        Limits {
+            allowance: self.allowance(),
+            budget: self.budget(),
+            mode: self.mode(),
+        }
+    }
+
+    /// An allowance that is accepted, in either mode, and no budget.
+    pub fn aim(&mut self) -> Limits {
+        Limits {
+            allowance: self.allowance().min(S),
+            budget: 0,
+            mode: self.one_of(&[DISTANCE, SHARE]),
+        }
+    }
+
+    /// Equal ends asked for, by distance or by share, with a budget from `least` to `most`.
+    pub fn narrowest(&mut self, least: usize, most: usize) -> Limits {
+        Limits {
+            allowance: 0,
+            budget: self.between(least, most) as u64,
+            mode: self.one_of(&[DISTANCE, SHARE]),
+        }
+    }
+
     /// A refinement by hand, about half of them such as the rules accept.
     pub fn hand_refinement(&mut self, table: &Table, tree: &Tree) -> (Vec<u8>, Act) {
         if self.one_in(2) {
@@ -464,6 +503,7 @@ impl Random {
             weights: self.weights(faults),
             allowance: self.allowance().min(S),
             budget: self.budget().min(255),
+            mode: self.mode().min(SHARE),
             ..Sheet::default()
         };
         // Room for all cue numbers to rise, and now and then up to the highest.
@@ -507,6 +547,7 @@ impl Random {
             absent,
             allowance: self.allowance().min(S),
             budget: self.budget().min(255),
+            mode: self.mode().min(SHARE),
         }
     }
 
@@ -555,7 +596,7 @@ impl Random {
             ),
             2 => put(bytes, 4, self.one_of(&[S + 1, u64::from(u32::MAX)]), 4),
             3 => put(bytes, 8, self.one_of(&[256, 511, 65_535]), 2),
-            4 => put(bytes, 10, self.one_of(&[1, 256, 65_535]), 2),
+            4 => put(bytes, 10, self.one_of(&[0, 1, 2, 256, 257, 65_535]), 2),
             5 => put(bytes, line, self.one_of(&[0, 1, 2, 65_535]), 2),
             6 => {
                 let count = get(bytes, line + 2) as u64;
@@ -625,7 +666,7 @@ impl Random {
     }
 
     fn damage_lists(&mut self, sheet: &mut Sheet) {
-        match self.below(14) {
+        match self.below(15) {
             0 => match self.below(6) {
                 0 => sheet.weights.clear(),
                 1 => sheet.weights = self.weights(MOST_FAULTS + 1),
@@ -650,9 +691,10 @@ impl Random {
             5 | 6 => self.damage_words(sheet.weights.len(), &mut sheet.present, &mut sheet.absent),
             7 => sheet.allowance = self.one_of(&[S + 1, u64::from(u32::MAX)]),
             8 => sheet.budget = self.one_of(&[256, u64::from(u16::MAX)]),
-            9 => drop(sheet.present.pop()),
-            10 => drop(sheet.absent.pop()),
-            11 => {
+            9 => sheet.mode = self.one_of(&[2, 256, 257, u64::from(u16::MAX)]),
+            10 => drop(sheet.present.pop()),
+            11 => drop(sheet.absent.pop()),
+            12 => {
                 // A row beyond what the cues count, now and then a bad one.
                 let row = self.one_of(&[0, 1, 1 << 63]);
                 let list = if self.one_in(2) {
@@ -662,7 +704,7 @@ impl Random {
                 };
                 list.push(row);
             }
-            12 => {
+            13 => {
                 let row = self.one_of(&[0, 1]);
                 sheet.present.push(row);
                 sheet.absent.push(row);

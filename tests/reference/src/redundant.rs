@@ -6,7 +6,7 @@ use crate::paper::{H, Q};
 use crate::random::Random;
 use crate::scripts::{drawn_and_shown, lined, Call, Damage, Line, Script};
 use crate::sheet::{of_tables, Sheet};
-use crate::{Act, Table, MET, NONE, S};
+use crate::{by_distance, Act, Table, MET, NONE, S};
 
 const SEED: u64 = 2002;
 const RANDOM: usize = 40;
@@ -36,7 +36,8 @@ pub struct Case {
 /// A1 to A10.
 pub fn cases() -> Vec<Case> {
     let (half, q3) = (u64::from(H), u64::from(Q3));
-    let end = |figure, count| vec![(Call::Run(0, 255), [0, figure, figure, count, MET, figure])];
+    let run = Call::Run(by_distance(0, 255));
+    let end = |figure, count| vec![(run.clone(), [0, figure, figure, count, MET, figure])];
     let by_hand = |act, answer| vec![(Call::Hand(vec![], act), answer)];
     let apart = by_hand(Act::Independence, [0, q3, q3, 1, NONE, 0]);
     let refused = by_hand(Act::Fault(2), [20, 0, S, 0, NONE, 0]);
@@ -167,7 +168,7 @@ pub fn left_out_stored() -> Vec<Script> {
             vec![]
         };
         for by in [wrong - own, 0] {
-            lines.push(Line::Damaged(damage(by), Call::Run(0, 0)));
+            lines.push(Line::Damaged(damage(by), Call::Run(by_distance(0, 0))));
             lines.push(Line::Damaged(damage(by), Call::Hand(vec![], Act::Fault(0))));
         }
         lines.push(Line::Show);

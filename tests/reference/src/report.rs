@@ -6,7 +6,7 @@ use crate::run::{run, verdict_word};
 use crate::sheet::{cue_table, decode, encode, lay, of_one_cue, Sheet};
 use crate::table::{Count, MOST_COUNTED};
 use crate::tree::open;
-use crate::{Answer, Table};
+use crate::{by_distance, Answer, Table};
 
 pub fn report(bytes: &[u8]) -> String {
     let sheet = match decode(bytes) {
@@ -19,7 +19,7 @@ pub fn report(bytes: &[u8]) -> String {
             continue; // no accepted sheet lacks the ways its cues count
         };
         let (_, mut tree) = open(&table);
-        let answer = run(&table, &mut tree, sheet.allowance, sheet.budget);
+        let answer = run(&table, &mut tree, sheet.limits());
         let verdict = verdict_word(answer.verdict);
         text += &format!(
             "{cue} {} {} {} {verdict}\n",
@@ -27,6 +27,15 @@ pub fn report(bytes: &[u8]) -> String {
         );
     }
     text
+}
+
+/// The text of a sheet with cue 1 alone whose run answers this: number, low, high, count, verdict and figure.
+pub fn told_of_one_cue([number, low, high, count, verdict, _]: [u64; 6]) -> String {
+    let word = verdict_word(verdict);
+    match number {
+        0 => format!("cue low high steps verdict\n1 {low} {high} {count} {word}\n"),
+        _ => format!("refused {number}\n"),
+    }
 }
 
 /// How many lines of a printed text have an interval that encloses the chance of their cue's ways, counted over all
@@ -50,12 +59,12 @@ pub fn enclosing_lines(bytes: &[u8], text: &str) -> Result<usize, String> {
     Ok(sheet.cues.len())
 }
 
-/// A cue's line of a sheet with budget 255: its figures are printed for a sheet that has the cue's table alone too, and enclose
-/// the chance that is counted over all assignments of the table's own faults.
+/// A cue's line of a sheet with allowance 0 and budget 255: its figures are printed for a sheet that has the cue's table alone
+/// too, and enclose the chance that is counted over all assignments of the table's own faults.
 pub fn encloses_alone(table: Table, line: &str) -> Result<(), String> {
     let (_, figures) = line.split_once(' ').unwrap_or_default();
     let text = format!("cue low high steps verdict\n1 {figures}\n");
-    let bytes = encode(&of_one_cue(table, 255));
+    let bytes = encode(&of_one_cue(table, by_distance(0, 255)));
     if report(&bytes) != text || enclosing_lines(&bytes, &text)? != 1 {
         return Err(format!("{text:?} is not printed, or not counted"));
     }

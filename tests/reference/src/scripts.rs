@@ -15,7 +15,10 @@ use crate::redundant;
 use crate::table::MOST_COUNTED;
 use crate::tree::{open, State};
 use crate::vectors::make;
-use crate::{Act, Table, Tree, DONE, FULL, MET, MOST_FAULTS, MOST_WAYS, NONE, S, SPENT};
+use crate::{
+    by_distance, by_share, Act, Limits, Table, Tree, DONE, FULL, MET, MOST_FAULTS, MOST_WAYS, NONE,
+    S, SPENT,
+};
 
 const SEED: u64 = 2003;
 const SMALL: usize = 200;
@@ -24,11 +27,11 @@ const DAMAGED: usize = 100;
 const RANDOM: usize = 60;
 const RANDOM_ANY_SIZE: usize = 12;
 
-/// A call after the opening: a place and an act, or an allowance and a budget.
+/// A call after the opening: a place and an act, or what a run is asked for.
 #[derive(Clone, Debug)]
 pub enum Call {
     Hand(Vec<u8>, Act),
-    Run(u64, u64),
+    Run(Limits),
 }
 
 /// One number of a tree's records, or of those in use, and what is added to it.
@@ -151,13 +154,22 @@ fn paper() -> Vec<Script> {
         .collect()
 }
 
-/// Tables at the limits and beyond: a refused table's number comes before any other.
+/// Tables at the limits and beyond: a refused table's number comes before any other but 3.
 fn refused_by_table() -> Vec<Script> {
-    let calls = [hand(&[2], Act::Fault(64)), Call::Run(S + 1, 256)];
+    let beyond = by_distance(S + 1, 256);
+    let other = Limits { mode: 2, ..beyond };
+    let calls = [
+        hand(&[2], Act::Fault(64)),
+        Call::Run(beyond),
+        Call::Run(other),
+    ];
     let tables = limits().into_iter().chain(orders());
     tables
         .map(|(number, table)| {
-            let numbers = if number == 0 { [17, 14] } else { [number; 2] };
+            let numbers = match number {
+                0 => [17, 14, 3],
+                _ => [number, number, 3],
+            };
             let calls = calls.clone().into_iter().zip(numbers);
             let calls: Vec<_> = calls.map(|(call, number)| (call, number, NONE)).collect();
             told(table, &calls)
@@ -165,9 +177,32 @@ fn refused_by_table() -> Vec<Script> {
         .collect()
 }
 
-/// Runs at the limits of allowance and budget, each with its number and verdict.
+/// Runs at the limits of allowance, budget and mode, each with its number and verdict.
 fn paper_runs() -> Vec<Script> {
-    let run = |allowance, budget, number, verdict| (Call::Run(allowance, budget), number, verdict);
+    let asked = |limits, number, verdict| (Call::Run(limits), number, verdict);
+    let run =
+        |allowance, budget, number, verdict| asked(by_distance(allowance, budget), number, verdict);
+    let share = |share, budget, number, verdict| asked(by_share(share, budget), number, verdict);
+    let other = |mode| {
+        let limits = Limits {
+            mode,
+            ..by_distance(S + 1, 256)
+        };
+        asked(limits, 3, NONE)
+    };
+    let others = [
+        2,
+        3,
+        255,
+        256,
+        257,
+        65_535,
+        65_536,
+        65_537,
+        1 << 32,
+        u64::MAX,
+    ]
+    .map(other);
     vec![
         told(p3(), &[run(0, 255, 0, DONE), run(1, 255, 0, MET)]),
         told(p4(), &[run(0, 256, 15, NONE), run(0, 255, 0, MET)]),
@@ -183,6 +218,11 @@ fn paper_runs() -> Vec<Script> {
                 run(0, 65_576, 15, NONE),
             ],
         ),
+        told(p4(), &[share(0, 256, 15, NONE), share(0, 255, 0, MET)]),
+        told(p4(), &[share(S + 1, 256, 14, NONE), share(S, 0, 0, MET)]),
+        told(p4(), &[share(0, 1, 0, SPENT), run(0, 1, 0, MET)]),
+        told(p4(), &[run(0, 1, 0, SPENT), share(0, 1, 0, MET)]),
+        told(p4(), &others),
     ]
 }
 
@@ -256,7 +296,7 @@ pub fn deep() -> Script {
     calls.push((hand(&[1; 64], last), 18, NONE));
     calls.push((hand(&[1; 65], last), 17, NONE));
     calls.push((hand(&[1; 70], last), 17, NONE));
-    calls.push((Call::Run(0, 3), 0, MET));
+    calls.push((Call::Run(by_distance(0, 3)), 0, MET));
     told(table, &calls)
 }
 
@@ -264,7 +304,7 @@ pub fn deep() -> Script {
 pub fn full() -> Script {
     let table = ring();
     let mut tree = open(&table).1;
-    make(&table, &mut tree, &Call::Run(0, 255));
+    make(&table, &mut tree, &Call::Run(by_distance(0, 255)));
     let leaf = |state| {
         let entries = tree.places(&table);
         let entry = entries.into_iter().find(|entry| entry.state == state);
@@ -274,46 +314,56 @@ pub fn full() -> Script {
     told(
         table.clone(),
         &[
-            (Call::Run(0, 254), 0, SPENT),
-            (Call::Run(0, 255), 0, FULL),
+            (Call::Run(by_distance(0, 254)), 0, SPENT),
+            (Call::Run(by_distance(0, 255)), 0, FULL),
             by_hand(leaf(State::Open), Act::Fault(64), 19),
             by_hand(leaf(State::Open), Act::Independence, 19),
             by_hand(leaf(State::Open), Act::Common, 19),
             by_hand(leaf(State::Closed), Act::Fault(64), 18),
             by_hand(leaf(State::Closed), Act::Common, 18),
             by_hand(vec![2], Act::Fault(64), 17),
-            (Call::Run(0, 256), 15, NONE),
-            (Call::Run(0, 255), 0, FULL),
-            (Call::Run(0, 0), 0, FULL),
-            (Call::Run(S, 0), 0, MET),
+            (Call::Run(by_distance(0, 256)), 15, NONE),
+            (Call::Run(by_distance(0, 255)), 0, FULL),
+            (Call::Run(by_distance(0, 0)), 0, FULL),
+            (Call::Run(by_distance(S, 0)), 0, MET),
         ],
     )
 }
 
-/// Runs of a and then b against a run of a + b: the same places, verdict and further runs, and the counts add up.
+/// Runs of a and then b against a run of a + b, all by distance or all by the same share: the same places, verdict and further
+/// runs, and the counts add up.
 fn cut_in_two(random: &mut Random) -> Vec<Script> {
     let mut tables = vec![widest(), most_named(), p4(), ring()];
     tables.extend((0..6).map(|_| random.table_within(8, 10)));
     tables.extend((0..4).map(|_| mostly_open(random, |random| random.common_table(8, 10))));
-    tables
+    let mut aimed = Vec::new();
+    for table in tables {
+        let share = random.between(0, S as usize / 10) as u64;
+        aimed.push((table.clone(), by_distance(0, 0)));
+        aimed.push((table, by_share(share, 0)));
+    }
+    aimed
         .into_iter()
-        .flat_map(|table| {
+        .flat_map(|(table, aim)| {
             let (a, b) = (random.between(1, 4) as u64, random.between(1, 8) as u64);
             let (mut cut, mut whole) = (open(&table).1, open(&table).1);
-            let calls = [Call::Run(0, a), Call::Run(0, b)];
+            let run = |budget| Call::Run(Limits { budget, ..aim });
+            let calls = [run(a), run(b)];
             let first = make(&table, &mut cut, &calls[0]);
             let second = make(&table, &mut cut, &calls[1]);
-            let once = make(&table, &mut whole, &Call::Run(0, a + b));
+            let once = make(&table, &mut whole, &run(a + b));
             assert_eq!(cut, whole);
             assert_eq!((second.low, second.high), (once.low, once.high));
             assert_eq!(first.count + second.count, once.count);
             assert_eq!(second.verdict, once.verdict);
             let and_then = |calls: &[Call]| {
-                let then = [Line::Show, Line::Try(Call::Run(0, 2))];
+                let further = [by_distance(0, 2), by_share(0, 2)];
+                let further = further.map(|limits| Line::Try(Call::Run(limits)));
+                let then = [Line::Show].into_iter().chain(further);
                 let calls = calls.iter().cloned().map(Line::Call);
                 lined(table.clone(), calls.chain(then).collect())
             };
-            [and_then(&calls), and_then(&[Call::Run(0, a + b)])]
+            [and_then(&calls), and_then(&[run(a + b)])]
         })
         .collect()
 }
@@ -338,7 +388,11 @@ pub(crate) fn handed(tree: &mut Tree, table: Table, calls: &[(Call, u64)]) -> Sc
 fn handed_on() -> Vec<Script> {
     let refused = Table::of(&[H], &[&[1]]);
     let by_hand = hand(&[], Act::Fault(0));
-    let run = |allowance, budget| Call::Run(allowance, budget);
+    let run = |allowance, budget| Call::Run(by_distance(allowance, budget));
+    let other = Call::Run(Limits {
+        mode: 2,
+        ..by_distance(S + 1, 256)
+    });
     let all = |number| [(by_hand.clone(), number), (run(0, 9), number)];
     let mut tree = open(&refused).1;
     let mut scripts = vec![opened(
@@ -347,7 +401,13 @@ fn handed_on() -> Vec<Script> {
     )];
     scripts.push(handed(&mut tree, refused, &all(12)));
     scripts.push(handed(&mut tree, p4(), &all(16)));
-    let limits = [(run(S + 1, 256), 14), (run(S, 256), 15), (run(S, 255), 16)];
+    let limits = [
+        (other, 3),
+        (run(S + 1, 256), 14),
+        (run(S, 256), 15),
+        (run(S, 255), 16),
+        (Call::Run(by_share(S, 255)), 16),
+    ];
     scripts.push(handed(&mut tree, p4(), &limits));
     scripts.push(handed(&mut tree, p3(), &all(16)));
 
@@ -410,8 +470,8 @@ pub fn mostly_open(random: &mut Random, table: fn(&mut Random) -> Table) -> Tabl
 /// Any call, about half of them such as the rules accept.
 pub fn any_call(random: &mut Random, table: &Table, tree: &Tree) -> Call {
     match random.below(6) {
-        0 => Call::Run(random.allowance(), random.budget()),
-        1 => Call::Run(0, random.between(0, 3) as u64),
+        0 => Call::Run(random.limits()),
+        1 => Call::Run(random.narrowest(0, 3)),
         2 => by(random.bad_refinement(table, tree)),
         3 => by(random.hand_refinement(table, tree)),
         _ => match random.sound_refinement(table, tree) {
@@ -426,5 +486,6 @@ fn by((place, act): (Vec<u8>, Act)) -> Call {
 }
 
 fn largest() -> [Script; 2] {
-    [largest_ring(), common::repeater()].map(|table| told(table, &[(Call::Run(0, 255), 0, FULL)]))
+    [largest_ring(), common::repeater()]
+        .map(|table| told(table, &[(Call::Run(by_distance(0, 255)), 0, FULL)]))
 }

@@ -3,7 +3,7 @@
 
 use crate::leaf::Interval;
 use crate::table::{any_weight_above_s, words_number};
-use crate::{Answer, Table, MOST_CUES, MOST_FAULTS, MOST_REFINEMENTS, MOST_WAYS, S};
+use crate::{Answer, Limits, Table, MOST_CUES, MOST_FAULTS, MOST_REFINEMENTS, MOST_WAYS, S, SHARE};
 
 const HEAD: usize = 12;
 const CONTENTS_LINE: usize = 8;
@@ -22,6 +22,18 @@ pub struct Sheet {
     pub absent: Vec<u64>,
     pub allowance: u64,
     pub budget: u64,
+    pub mode: u64,
+}
+
+impl Sheet {
+    /// What the run of each cue is asked for.
+    pub fn limits(&self) -> Limits {
+        Limits {
+            allowance: self.allowance,
+            budget: self.budget,
+            mode: self.mode,
+        }
+    }
 }
 
 /// What one call of a reader hands over, and its place in the contents afterwards.
@@ -67,7 +79,7 @@ impl Layout<'_> {
         field(self.bytes, 8, 2)
     }
 
-    fn zero(&self) -> u64 {
+    fn mode(&self) -> u64 {
         field(self.bytes, 10, 2)
     }
 
@@ -119,7 +131,7 @@ pub fn sheet_number(bytes: &[u8]) -> u64 {
     if wrong_numbers(sheet.faults, MOST_FAULTS) || wrong_numbers(sheet.cues, MOST_CUES) {
         return 2;
     }
-    if sheet.zero() != 0 {
+    if sheet.mode() > SHARE {
         return 3;
     }
     if bytes.len() < sheet.bodies() {
@@ -153,12 +165,15 @@ pub fn sheet_number(bytes: &[u8]) -> u64 {
     )
 }
 
-/// The first of refusals 2, 5, 6, 10, 12 to 15, 21, 22 that applies to writing, or 0.
+/// The first of refusals 2, 3, 5, 6, 10, 12 to 15, 21, 22 that applies to writing, or 0.
 pub fn writing_number(sheet: &Sheet, space: usize) -> u64 {
     let wrong_cues =
         wrong_numbers(sheet.cues.len(), MOST_CUES) || wrong_numbers(sheet.counts.len(), MOST_CUES);
     if wrong_numbers(sheet.weights.len(), MOST_FAULTS) || wrong_cues {
         return 2;
+    }
+    if sheet.mode > SHARE {
+        return 3;
     }
     if !rising(sheet.cues.iter().copied().map(u64::from)) {
         return 5;
@@ -255,6 +270,7 @@ pub fn decode(bytes: &[u8]) -> Result<Sheet, u64> {
         absent: sheet.words(8),
         allowance: sheet.allowance(),
         budget: sheet.budget(),
+        mode: sheet.mode(),
     })
 }
 
@@ -299,16 +315,17 @@ pub fn cue_table(sheet: &Sheet, position: usize) -> Option<Table> {
     })
 }
 
-/// A sheet with cue 1 alone, of this table, with allowance 0.
-pub fn of_one_cue(table: Table, budget: u64) -> Sheet {
+/// A sheet with cue 1 alone, of this table, whose run is asked for this.
+pub fn of_one_cue(table: Table, limits: Limits) -> Sheet {
     Sheet {
         cues: vec![1],
         counts: vec![table.present.len() as u16],
         weights: table.weights,
         present: table.present,
         absent: table.absent,
-        allowance: 0,
-        budget,
+        allowance: limits.allowance,
+        budget: limits.budget,
+        mode: limits.mode,
     }
 }
 
@@ -344,7 +361,7 @@ pub fn encode(sheet: &Sheet) -> Vec<u8> {
     bytes.extend((sheet.cues.len() as u16).to_le_bytes());
     bytes.extend((sheet.allowance as u32).to_le_bytes());
     bytes.extend((sheet.budget as u16).to_le_bytes());
-    bytes.extend([0, 0]);
+    bytes.extend((sheet.mode as u16).to_le_bytes());
     let mut body = HEAD + CONTENTS_LINE * sheet.cues.len() + WEIGHT * sheet.weights.len();
     for (cue, count) in sheet.cues.iter().zip(&sheet.counts) {
         bytes.extend(cue.to_le_bytes());

@@ -13,7 +13,7 @@ const FAULTS: Field = (0, 2);
 const CUES: Field = (2, 2);
 const ALLOWANCE: Field = (4, 4);
 const BUDGET: Field = (8, 2);
-const ZERO: Field = (10, 2);
+const MODE: Field = (10, 2);
 const FIRST_NUMBER: Field = (12, 2);
 const FIRST_WAYS: Field = (14, 2);
 const FIRST_PLACE: Field = (16, 4);
@@ -33,7 +33,7 @@ const WHOLE: usize = 72;
 type Case = (&'static str, usize, &'static [(Field, u64)]);
 
 /// Accepted, at the ends of what is allowed.
-const ACCEPTED: [Case; 14] = [
+const ACCEPTED: [Case; 22] = [
     ("paper", WHOLE, &[]),
     ("budget 1", WHOLE, &[(BUDGET, 1)]),
     ("budget 0", WHOLE, &[(BUDGET, 0)]),
@@ -43,6 +43,30 @@ const ACCEPTED: [Case; 14] = [
     ("twice is less", WHOLE, &[(ALLOWANCE, 24_999_999)]),
     ("twice after 1", WHOLE, &[(ALLOWANCE, 25_000_000)]),
     ("twice at once", WHOLE, &[(ALLOWANCE, 50_000_000)]),
+    ("mode 1", WHOLE, &[(MODE, 1)]),
+    ("share 0", WHOLE, &[(ALLOWANCE, 0), (MODE, 1)]),
+    ("share S", WHOLE, &[(ALLOWANCE, S), (MODE, 1)]),
+    (
+        "share after 2",
+        WHOLE,
+        &[(ALLOWANCE, 76_923_076), (MODE, 1)],
+    ),
+    (
+        "share after 1",
+        WHOLE,
+        &[(ALLOWANCE, 76_923_077), (MODE, 1)],
+    ),
+    (
+        "share not doubled",
+        WHOLE,
+        &[(ALLOWANCE, 166_666_666), (MODE, 1)],
+    ),
+    (
+        "share at once",
+        WHOLE,
+        &[(ALLOWANCE, 166_666_667), (MODE, 1)],
+    ),
+    ("share spent", WHOLE, &[(BUDGET, 1), (MODE, 1)]),
     ("weight 0", WHOLE, &[(FIRST_WEIGHT, 0)]),
     ("weight S", WHOLE, &[(FIRST_WEIGHT, S)]),
     ("an empty way", WHOLE, &[(FIRST_PRESENT, 0)]),
@@ -51,7 +75,7 @@ const ACCEPTED: [Case; 14] = [
 ];
 
 /// Every refusal that reading knows, each with its number.
-const REFUSED: [(u64, Case); 32] = [
+const REFUSED: [(u64, Case); 36] = [
     (1, ("no bytes", 0, &[])),
     (1, ("11 bytes", 11, &[])),
     (2, ("no faults", WHOLE, &[(FAULTS, 0)])),
@@ -59,7 +83,10 @@ const REFUSED: [(u64, Case); 32] = [
     (2, ("256 faults", WHOLE, &[(FAULTS, 256)])),
     (2, ("no cues", WHOLE, &[(CUES, 0)])),
     (2, ("25 cues", WHOLE, &[(CUES, 25)])),
-    (3, ("a last byte of the head", WHOLE, &[(ZERO, 256)])),
+    (3, ("mode 2", WHOLE, &[(MODE, 2)])),
+    (3, ("mode 256", WHOLE, &[(MODE, 256)])),
+    (3, ("mode 257", WHOLE, &[(MODE, 257)])),
+    (3, ("mode 65535", WHOLE, &[(MODE, 65_535)])),
     (4, ("12 bytes", 12, &[])),
     (4, ("39 bytes", 39, &[])),
     (4, ("64 faults", WHOLE, &[(FAULTS, 64)])),
@@ -92,14 +119,15 @@ const REFUSED: [(u64, Case); 32] = [
         ("fault 0 present and absent", WHOLE, &[(FIRST_ABSENT, 1)]),
     ),
     (14, ("allowance S + 1", WHOLE, &[(ALLOWANCE, S + 1)])),
+    (14, ("share S + 1", WHOLE, &[(ALLOWANCE, S + 1), (MODE, 1)])),
     (15, ("budget 256", WHOLE, &[(BUDGET, 256)])),
 ];
 
 /// Two at once, neighbours in the order: the first of them counts.
 const ORDERS: [(u64, Case); 12] = [
     (1, ("1 before 2", 11, &[(FAULTS, 0)])),
-    (2, ("2 before 3", WHOLE, &[(CUES, 25), (ZERO, 1)])),
-    (3, ("3 before 4", WHOLE, &[(ZERO, 1), (FAULTS, 64)])),
+    (2, ("2 before 3", WHOLE, &[(CUES, 25), (MODE, 2)])),
+    (3, ("3 before 4", WHOLE, &[(MODE, 2), (FAULTS, 64)])),
     (4, ("4 before 5", 39, &[(FIRST_NUMBER, 0)])),
     (
         5,

@@ -156,4 +156,14 @@ impl Count {
         let at_most = exact <= Natural::new(high).times_s_to(self.faults);
         at_least && at_most
     }
+
+    /// Whether X / D billionths are within the share of the chance that has this sum: with e for the share,
+    /// (S − e) × E × D ≤ X × S^n ≤ (S + e) × E × D. Nothing is rounded.
+    pub fn within_share(&self, (number, parts): (u64, u32), share: u64, sum: &Natural) -> bool {
+        let exact = sum.times(parts);
+        let number = Natural::new(number).times_s_to(self.faults);
+        let at_least = exact.times((S - share) as u32) <= number;
+        let at_most = number <= exact.times((S + share) as u32);
+        at_least && at_most
+    }
 }

@@ -5,9 +5,10 @@
 use crate::paper::{cases, limits, orders};
 use crate::run::run;
 use crate::scripts::{scripts, Call, Damage, Line, Script};
+use crate::shares::is_near;
 use crate::table::{Count, MOST_COUNTED};
 use crate::tree::{open, refine_by_hand, Entry, State};
-use crate::{Act, Answer, Table, Tree, LONGEST_PLACE, MET};
+use crate::{Act, Answer, Limits, Table, Tree, LONGEST_PLACE, MET};
 
 /// The test program has room for a place of so many steps.
 const MOST_STEPS: usize = LONGEST_PLACE + 6;
@@ -22,7 +23,7 @@ pub struct Vectors {
 /// the tree of the script before is handed on, the lengths of the three lists, the
 /// weights, the present and the absent words and how many lines follow. A line is a call: 0,
 /// the length of the place, its steps, 0 for independence, 1 for a fault or 2 for the common part, and
-/// the fault, 0 where there is none; or 1, allowance and budget. Or it is 2, the record, the field and
+/// the fault, 0 where there is none; or 1, allowance, budget and mode. Or it is 2, the record, the field and
 /// what is added there, and a call; or 3, all places; or 4 and a call, with all places then and the
 /// tree kept as it was. The expected lines: number, low, high and count, and a run's verdict and figure;
 /// of a place 1 for a leaf, 2 for independence, 3 for a fault, 4 for the common part, the fault, 1 for an
@@ -88,8 +89,8 @@ impl Vectors {
     fn tell(&mut self, counted: &Counted, call: &Call, answer: Answer) {
         counted.check(&answer);
         let mut told = figures(&answer).to_vec();
-        if let Call::Run(allowance, _) = call {
-            counted.check_near(&answer, *allowance);
+        if let Call::Run(limits) = call {
+            counted.check_near(&answer, *limits);
             told.extend([answer.verdict, answer.figure]);
         }
         self.expected.push_str(&text(&told));
@@ -116,7 +117,7 @@ impl Vectors {
 pub fn make(table: &Table, tree: &mut Tree, call: &Call) -> Answer {
     match call {
         Call::Hand(place, act) => refine_by_hand(table, tree, place, *act),
-        Call::Run(allowance, budget) => run(table, tree, *allowance, *budget),
+        Call::Run(limits) => run(table, tree, *limits),
     }
 }
 
@@ -165,7 +166,7 @@ fn call_numbers(call: &Call) -> Vec<u64> {
             }
             numbers
         }
-        Call::Run(allowance, budget) => vec![1, *allowance, *budget],
+        Call::Run(limits) => vec![1, limits.allowance, limits.budget, limits.mode],
     }
 }
 
@@ -200,15 +201,12 @@ impl Counted<'_> {
         }
     }
 
-    /// At met the chance is within the allowance of the figure.
-    fn check_near(&self, answer: &Answer, allowance: u64) {
+    /// At met the chance is within the allowance of the figure, or by share both ends of the range within the share of it.
+    fn check_near(&self, answer: &Answer, limits: Limits) {
         let Some(count) = &self.count else { return };
         if answer.verdict == MET {
-            let ends = (
-                answer.figure.saturating_sub(allowance),
-                answer.figure + allowance,
-            );
-            let near = count.encloses(ends.0, ends.1, &self.table.ways());
+            let sum = count.exact_sum(&self.table.ways());
+            let near = is_near(count, &sum, answer, limits);
             assert!(near, "{answer:?} is not near: {:?}", self.table);
         }
     }

@@ -4,7 +4,7 @@
 use crate::paper::whole_sheet;
 use crate::random::Random;
 use crate::sheet::{decode, write, Sheet};
-use crate::{MOST_CUES, MOST_FAULTS, MOST_WAYS, S};
+use crate::{Limits, MOST_CUES, MOST_FAULTS, MOST_WAYS, S, SHARE};
 
 /// The test program's space, and what it holds before.
 const SPACE: usize = 49_620;
@@ -23,7 +23,7 @@ struct Case {
 }
 
 /// The test program's input and expected output. The input: how many cases, then for each its name and a colon, the
-/// lengths of the five lists, the lists, allowance, budget and how many bytes are lent.
+/// lengths of the five lists, the lists, allowance, budget, mode and how many bytes are lent.
 pub struct Writes {
     pub input: String,
     pub expected: String,
@@ -105,7 +105,12 @@ fn numbers(lists: &Sheet, lent: usize) -> Vec<u64> {
     numbers.extend(lists.cues.iter().map(|&cue| u64::from(cue)));
     numbers.extend(lists.counts.iter().map(|&count| u64::from(count)));
     numbers.extend(lists.present.iter().chain(&lists.absent));
-    numbers.extend([lists.allowance, lists.budget, lent as u64]);
+    let Limits {
+        allowance,
+        budget,
+        mode,
+    } = lists.limits();
+    numbers.extend([allowance, budget, mode, lent as u64]);
     numbers
 }
 
@@ -137,11 +142,12 @@ fn read_back(lists: &Sheet) -> String {
         .map(|&weight| u64::from(weight))
         .collect();
     let mut text = format!(
-        "head {} {} {} {} {}\n",
+        "head {} {} {} {} {} {}\n",
         weights.len(),
         lists.cues.len(),
         lists.allowance,
         lists.budget,
+        lists.mode,
         filled(&weights, MOST_FAULTS)
     );
     let mut way = 0;
@@ -193,6 +199,7 @@ fn longest() -> Sheet {
             .collect(),
         allowance: S,
         budget: 255,
+        mode: SHARE,
     }
 }
 
@@ -211,6 +218,13 @@ fn named() -> Vec<Case> {
         }),
         changed("allowance S, budget 255", |l| {
             (l.allowance, l.budget) = (S, 255)
+        }),
+        changed("mode 1", |l| l.mode = 1),
+        changed("mode 1, share 0, budget 0", |l| {
+            (l.allowance, l.budget, l.mode) = (0, 0, 1)
+        }),
+        changed("mode 1, share S, budget 255", |l| {
+            (l.allowance, l.budget, l.mode) = (S, 255, 1)
         }),
         changed("weights 0, 1 and S", |l| l.weights = vec![0, 1, S as u32]),
         changed("64 weights", |l| l.weights = (0..64).collect()),
@@ -239,6 +253,12 @@ fn named() -> Vec<Case> {
         changed("2, no count", |l| l.counts.clear()),
         changed("2, 25 cue numbers", |l| l.cues = (1..26).collect()),
         changed("2, 25 counts", |l| l.counts = vec![0; 25]),
+        changed("3, mode 2", |l| l.mode = 2),
+        changed("3, mode 256", |l| l.mode = 256),
+        changed("3, mode 65535", |l| l.mode = 65_535),
+        changed("3, mode 65536", |l| l.mode = 65_536),
+        changed("3, mode 2^32 + 1", |l| l.mode = (1 << 32) + 1),
+        changed("3, largest mode", |l| l.mode = u64::MAX),
         changed("5, cue number 0", |l| l.cues = vec![0, 9]),
         changed("5, equal cue numbers", |l| l.cues = vec![7, 7]),
         changed("5, falling cue numbers", |l| l.cues = vec![9, 7]),
@@ -277,7 +297,9 @@ fn named() -> Vec<Case> {
 /// Lists that two numbers concern, neighbours in the order: each looked for everywhere before the next.
 fn orders() -> Vec<Case> {
     vec![
+        changed("2 before 3", |l| (l.weights, l.mode) = (vec![], 2)),
         changed("2 before 5", |l| (l.weights, l.cues) = (vec![], vec![0, 9])),
+        changed("3 before 5", |l| (l.mode, l.cues) = (2, vec![0, 9])),
         changed("5 before 6", |l| {
             (l.cues, l.counts) = (vec![7, 7], vec![129, 0])
         }),

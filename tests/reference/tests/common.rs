@@ -13,7 +13,7 @@ use reference::sheet::encode;
 use reference::table::{Count, MOST_COUNTED};
 use reference::tree::{common, open, refine_by_hand, split, Entry, State};
 use reference::vectors::make;
-use reference::{Act, Answer, Table, Tree, FULL, S};
+use reference::{by_distance, Act, Answer, Table, Tree, FULL, S};
 use std::collections::{BTreeMap, BTreeSet};
 
 /// What a way names: a fault, and whether it is present.
@@ -252,7 +252,7 @@ fn a_run_tries_independence_then_the_common_part_then_a_fault() {
     for _ in 0..4_000 {
         let table = mostly_open(&mut random, |random| random.common_table(10, 12));
         let mut tree = open(&table).1;
-        run(&table, &mut tree, 0, 12);
+        run(&table, &mut tree, by_distance(0, 12));
         for entry in tree.places(&table) {
             let State::Refined(act) = entry.state else {
                 continue;
@@ -316,7 +316,7 @@ fn the_largest_table_with_a_common_part_takes_all_refinements() {
     let table = repeater();
     assert_eq!((table.faults(), table.present.len()), (64, 128));
     let mut tree = open(&table).1;
-    let answer = run(&table, &mut tree, 0, 255);
+    let answer = run(&table, &mut tree, by_distance(0, 255));
     assert_eq!(
         (answer.number, answer.count, answer.verdict),
         (0, 255, FULL)
@@ -348,9 +348,12 @@ fn a_tree_tells_which_faults_were_taken_out() {
             .map(|entry| &entry.out)
             .ne(two.iter().map(|entry| &entry.out)));
         let before = tree.clone();
-        assert_eq!(run(&other, &mut tree, 0, 1), Answer::refused(16));
+        assert_eq!(
+            run(&other, &mut tree, by_distance(0, 1)),
+            Answer::refused(16)
+        );
         assert_eq!(tree, before);
-        assert_eq!(run(&own, &mut tree, 0, 1).number, 0);
+        assert_eq!(run(&own, &mut tree, by_distance(0, 1)).number, 0);
     }
 }
 
@@ -365,7 +368,7 @@ fn an_empty_common_part_is_refused_20() {
             _ => random.common_table(8, 10),
         });
         let mut tree = open(&table).1;
-        run(&table, &mut tree, 0, random.below(4) as u64);
+        run(&table, &mut tree, by_distance(0, random.below(4) as u64));
         for entry in tree.places(&table) {
             let due = match entry.state {
                 State::Refined(_) => 17,
@@ -392,7 +395,7 @@ fn an_empty_common_part_is_refused_20() {
 fn the_rules_own_sheet_takes_the_common_part() {
     let table = p4();
     let mut tree = open(&table).1;
-    make(&table, &mut tree, &Call::Run(10_000_000, 40));
+    make(&table, &mut tree, &Call::Run(by_distance(10_000_000, 40)));
     let states: Vec<State> = tree
         .places(&table)
         .iter()

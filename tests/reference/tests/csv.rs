@@ -8,8 +8,8 @@ use reference::csv::{
 };
 use reference::paper::whole_sheet;
 use reference::random::Random;
-use reference::sheet::{encode, length};
-use reference::{Answer, LONGEST_SHEET, S};
+use reference::sheet::{encode, length, Sheet};
+use reference::{Answer, LONGEST_SHEET, S, SHARE};
 
 const GUARD: u8 = 0xA5;
 
@@ -54,7 +54,7 @@ fn every_figure() {
 #[test]
 fn refused_texts_made_elsewhere() {
     let refused = refused();
-    assert_eq!(refused.len(), 29);
+    assert_eq!(refused.len(), 35);
     for (name, figure) in refused {
         assert_eq!(imported(&figure.text).0, figure.answer(), "{name}");
     }
@@ -65,7 +65,7 @@ fn accepted_texts_and_their_sheets() {
     let typed = taken().into_iter();
     let typed = typed.map(|taken| (taken.text.escape_ascii().to_string(), taken));
     let stored = accepted();
-    assert_eq!(stored.len(), 36);
+    assert_eq!(stored.len(), 44);
     for (name, taken) in typed.chain(stored) {
         assert_eq!(imported(&taken.text).1, taken.sheet, "{name}");
         assert_eq!(exported(&taken.sheet).1, taken.plain, "{name}");
@@ -81,6 +81,23 @@ fn the_worked_sheet_both_ways() {
     assert_eq!(made(import, &text, 71).0, Answer::refused(22));
     assert_eq!(made(export, &sheet, 73).1, text);
     assert_eq!(made(export, &sheet, 72).0, Answer::refused(22));
+}
+
+/// Two bytes more, for a sheet by share alone; imported, it is that sheet again.
+#[test]
+fn the_mode_is_a_third_number() {
+    let text = typed(&PAPER.replace("run,10000000,40", "run,10000000,40,1"));
+    let sheet = encode(&Sheet {
+        mode: SHARE,
+        ..whole_sheet(40)
+    });
+    assert_eq!((text.len(), sheet.len()), (75, 72));
+    assert_eq!(made(import, &text, 72).1, sheet);
+    assert_eq!(made(import, &text, 71).0, Answer::refused(22));
+    assert_eq!(made(export, &sheet, 75).1, text);
+    assert_eq!(made(export, &sheet, 74).0, Answer::refused(22));
+    let other = [&sheet[..10], &[2], &sheet[11..]].concat();
+    assert_eq!(made(export, &other, 0).0, Answer::refused(3));
 }
 
 #[test]
@@ -100,6 +117,8 @@ fn twenty_three_comes_first_and_22_last() {
         Answer::refused(14)
     );
     assert_eq!(refused("run,1,2⏎weights,5⏎7⏎"), Answer::refused(22));
+    // No third number but 1 has the shape, so that no text is refused 3.
+    assert_eq!(refused("run,1000000001,256,2⏎weights⏎"), misread(1));
     assert_eq!(made(export, &[], 0).0, Answer::refused(1));
 }
 
@@ -109,14 +128,14 @@ fn the_longest_texts() {
     assert_eq!(length(&sheet), LONGEST_SHEET);
     let bytes = encode(&sheet);
     let (answer, text) = exported(&bytes);
-    assert_eq!((answer.number, answer.count), (0, 781_021));
+    assert_eq!((answer.number, answer.count), (0, 781_023));
     assert_eq!(imported(&text).1, bytes);
     assert_eq!(
         made(export, &bytes, LONGEST_TEXT - 1).0,
         Answer::refused(22)
     );
     let quoted = joined(&quoted(&table(&sheet)));
-    assert_eq!((quoted.len(), LONGEST_QUOTED), (1_180_517, 1_180_517));
+    assert_eq!((quoted.len(), LONGEST_QUOTED), (1_180_521, 1_180_521));
     assert_eq!(imported(&quoted).1, bytes);
 }
 
@@ -144,13 +163,16 @@ fn random_sheets_both_ways() {
 #[test]
 fn damaged_texts_meet_every_number() {
     let mut random = Random::new(24);
-    let mut met = [0; 24];
+    let (mut met, mut modes) = ([0; 24], [0; 2]);
     for _ in 0..6000 {
         let text = random.damaged_text();
         let (answer, sheet) = imported(&text);
         met[answer.number as usize] += 1;
         match answer.number {
-            0 => assert_eq!(imported(&exported(&sheet).1).1, sheet),
+            0 => {
+                modes[usize::from(sheet[10])] += 1;
+                assert_eq!(imported(&exported(&sheet).1).1, sheet);
+            }
             MISREAD => assert!(answer.count > 0),
             number => assert_eq!(answer, Answer::refused(number)),
         }
@@ -158,4 +180,5 @@ fn damaged_texts_meet_every_number() {
     for number in [0, 2, 5, 6, 10, 12, 13, 14, 15, 23] {
         assert!(met[number] >= 60, "{number}: {met:?}");
     }
+    assert!(met[3] == 0 && modes.iter().all(|&met| met >= 60));
 }

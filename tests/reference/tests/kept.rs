@@ -12,7 +12,7 @@ use reference::sheet::encode;
 use reference::table::Count;
 use reference::tree::{open, State};
 use reference::vectors::make;
-use reference::{Answer, S};
+use reference::{by_distance, Answer, S};
 
 /// What a wrong reading keeps.
 fn misread(ways: &[Way], reading: Misread) -> Vec<Way> {
@@ -113,7 +113,7 @@ fn kept_is_the_first_of_all_sets_of_ways_apart() {
     for _ in 0..10_000 {
         let table = mostly_open(&mut random, |random| random.opposed_table(9, 10));
         let mut tree = open(&table).1;
-        run(&table, &mut tree, 0, 3);
+        run(&table, &mut tree, by_distance(0, 3));
         for entry in tree.places(&table) {
             let due = first_apart(&entry.ways);
             assert_eq!(kept(&entry.ways), due, "{entry:?} of {table:?}");

@@ -12,7 +12,7 @@ use reference::run::run;
 use reference::sheet::{cue_at, decode, encode, read, write};
 use reference::table::Count;
 use reference::tree::{first_widest, open, refine_by_hand, State};
-use reference::{Act, Answer, Table, DONE, FULL, MET, S, SPENT};
+use reference::{by_distance, Act, Answer, Table, DONE, FULL, MET, S, SPENT};
 
 /// What an opening or a hand refinement answers.
 fn answer(interval: (u64, u64), count: u64) -> Answer {
@@ -37,7 +37,7 @@ fn ended(interval: (u64, u64), count: u64, verdict: u64, figure: u64) -> Answer 
 /// Opens the table and makes one run.
 fn one_run(table: &Table, allowance: u64, budget: u64) -> Answer {
     let (_, mut tree) = open(table);
-    run(table, &mut tree, allowance, budget)
+    run(table, &mut tree, by_distance(allowance, budget))
 }
 
 #[test]
@@ -161,7 +161,7 @@ fn of_equal_ways_one_counts_everywhere() {
     assert_eq!(open(&equal_ways()).0, answer(half, 0));
     let most = most_named();
     let (_, mut tree) = open(&most);
-    run(&most, &mut tree, 0, 1);
+    run(&most, &mut tree, by_distance(0, 1));
     assert_eq!(tree.places(&most)[0].state, State::Refined(Act::Fault(0)));
 }
 
@@ -187,11 +187,11 @@ fn stops_are_looked_for_after_the_last_budgeted_refinement() {
 fn full_counts_the_whole_tree_and_spent_this_run() {
     let table = ring();
     let (_, mut tree) = open(&table);
-    let first = run(&table, &mut tree, 0, 254);
+    let first = run(&table, &mut tree, by_distance(0, 254));
     assert_eq!((first.count, first.verdict), (254, SPENT));
-    let second = run(&table, &mut tree, 0, 255);
+    let second = run(&table, &mut tree, by_distance(0, 255));
     assert_eq!((second.count, second.verdict), (1, FULL));
-    let third = run(&table, &mut tree, 0, 0);
+    let third = run(&table, &mut tree, by_distance(0, 0));
     assert_eq!((third.count, third.verdict), (0, FULL));
     assert_eq!(tree.refinements(), 255);
     assert_eq!(tree.places(&table).len(), 511);
@@ -201,20 +201,20 @@ fn full_counts_the_whole_tree_and_spent_this_run() {
 fn done_comes_before_full() {
     let table = done_and_full();
     let (_, mut tree) = open(&table);
-    let first = run(&table, &mut tree, 0, 254);
+    let first = run(&table, &mut tree, by_distance(0, 254));
     assert_eq!(
         first,
         ended((931_355_327, 931_371_430), 254, SPENT, 931_363_378)
     );
     let after = (931_355_327, 931_355_348);
     assert_eq!(
-        run(&table, &mut tree, 0, 1),
+        run(&table, &mut tree, by_distance(0, 1)),
         ended(after, 1, DONE, 931_355_337)
     );
     assert_eq!(tree.refinements(), 255);
     for budget in [0, 1, 255] {
         assert_eq!(
-            run(&table, &mut tree, 0, budget),
+            run(&table, &mut tree, by_distance(0, budget)),
             ended(after, 0, DONE, 931_355_337)
         );
     }

@@ -8,7 +8,10 @@ use reference::run::run;
 use reference::sheet::{cue_at, decode, encode, length, sheet_number, write, writing_number};
 use reference::table::Count;
 use reference::tree::{open, refine_by_hand, split, Entry, State};
-use reference::{Answer, Table, Tree, DONE, FULL, LONGEST_SHEET, MET, MOST_REFINEMENTS, S, SPENT};
+use reference::{
+    by_distance, by_share, Answer, Limits, Table, Tree, DISTANCE, DONE, FULL, LONGEST_SHEET, MET,
+    MOST_REFINEMENTS, NONE, S, SHARE, SPENT,
+};
 use std::collections::BTreeMap;
 
 fn assert_encloses_everywhere(table: &Table, tree: &Tree, count: &Count) {
@@ -33,8 +36,7 @@ fn every_place_encloses_after_every_call() {
         assert_encloses_everywhere(&table, &tree, &count);
         for _ in 0..6 {
             if random.one_in(3) {
-                let (allowance, budget) = (random.allowance(), random.budget());
-                run(&table, &mut tree, allowance, budget);
+                run(&table, &mut tree, random.limits());
             } else {
                 let (place, act) = random.hand_refinement(&table, &tree);
                 refine_by_hand(&table, &mut tree, &place, act);
@@ -52,7 +54,7 @@ fn larger_tables_enclose_after_a_run() {
         let count = Count::new(&table.weights);
         let (_, mut tree) = open(&table);
         let budget = random.between(0, 60) as u64;
-        run(&table, &mut tree, 0, budget);
+        run(&table, &mut tree, by_distance(0, budget));
         assert_encloses_everywhere(&table, &tree, &count);
     }
     let table = random.table_within(16, 20);
@@ -86,7 +88,7 @@ fn two_runs_are_one() {
     let mut random = Random::new(3);
     for _ in 0..1200 {
         let table = random.table_within(14, 20);
-        let allowance = random.allowance().min(S);
+        let aim = random.aim();
         let a = random.budget().min(40);
         let b = random.budget().min(40);
         let (_, mut once) = open(&table);
@@ -96,9 +98,10 @@ fn two_runs_are_one() {
             }
         }
         let mut twice = once.clone();
-        let single = run(&table, &mut once, allowance, a + b);
-        let first = run(&table, &mut twice, allowance, a);
-        let second = run(&table, &mut twice, allowance, b);
+        let with = |budget| Limits { budget, ..aim };
+        let single = run(&table, &mut once, with(a + b));
+        let first = run(&table, &mut twice, with(a));
+        let second = run(&table, &mut twice, with(b));
         assert_eq!(once, twice);
         assert_eq!(first.count + second.count, single.count);
         assert_eq!(
@@ -112,9 +115,13 @@ fn two_runs_are_one() {
 }
 
 /// What a verdict says, looked up in the tree that the run left.
-fn assert_verdict(table: &Table, tree: &Tree, answer: Answer, allowance: u64, budget: u64) {
+fn assert_verdict(table: &Table, tree: &Tree, answer: Answer, limits: Limits) {
     let entries = tree.places(table);
-    let met = answer.high - answer.low <= 2 * allowance;
+    let (low, high, e) = (answer.low, answer.high, limits.allowance);
+    let met = match limits.mode {
+        SHARE => (S - e) * high <= (S + e) * low,
+        _ => high - low <= 2 * e,
+    };
     let done = entries.iter().all(|entry| entry.state != State::Open);
     let full = tree.refinements() == MOST_REFINEMENTS;
     let expected = if met {
@@ -127,9 +134,14 @@ fn assert_verdict(table: &Table, tree: &Tree, answer: Answer, allowance: u64, bu
         SPENT
     };
     assert_eq!(answer.verdict, expected);
-    assert!(expected != SPENT || answer.count == budget);
+    assert!(expected != SPENT || answer.count == limits.budget);
+    let figure = match limits.mode {
+        SHARE => 0,
+        _ => low + (high - low) / 2,
+    };
+    assert_eq!(answer.figure, figure);
     assert_eq!(
-        (answer.low, answer.high),
+        (low, high),
         (entries[0].interval.low, entries[0].interval.high)
     );
 }
@@ -143,22 +155,31 @@ fn runs_count_what_they_add_and_say_why_they_stop() {
         let (_, mut tree) = open(&table);
         for _ in 0..3 {
             let before = tree.clone();
-            let (allowance, budget) = (random.allowance(), random.budget().min(60));
-            let answer = run(&table, &mut tree, allowance, budget);
-            *verdicts.entry((answer.number, answer.verdict)).or_insert(0) += 1;
+            let limits = random.limits();
+            let limits = Limits {
+                budget: limits.budget.min(60),
+                ..limits
+            };
+            let answer = run(&table, &mut tree, limits);
+            let met = (limits.mode.min(2), answer.number, answer.verdict);
+            *verdicts.entry(met).or_insert(0) += 1;
             if answer.number != 0 {
-                assert_eq!((answer, &tree), (Answer::refused(14), &before));
+                let due = if limits.mode > SHARE { 3 } else { 14 };
+                assert_eq!((answer, &tree), (Answer::refused(due), &before));
                 continue;
             }
             assert_eq!(tree.refinements() - before.refinements(), answer.count);
-            assert!(answer.count <= budget);
-            assert_verdict(&table, &tree, answer, allowance, budget);
+            assert!(answer.count <= limits.budget);
+            assert_verdict(&table, &tree, answer, limits);
         }
     }
-    println!("runs by (number, verdict): {verdicts:?}");
-    assert!([MET, DONE, SPENT]
-        .iter()
-        .all(|&verdict| verdicts.contains_key(&(0, verdict))));
+    println!("runs by (mode, number, verdict): {verdicts:?}");
+    for mode in [DISTANCE, SHARE] {
+        assert!(verdicts.contains_key(&(mode, 14, NONE)));
+        let mut ended = [MET, DONE, SPENT].iter();
+        assert!(ended.all(|&verdict| verdicts.contains_key(&(mode, 0, verdict))));
+    }
+    assert!(verdicts.contains_key(&(2, 3, NONE)));
 }
 
 /// All but the intervals, which may narrow on the path to a new refinement.
@@ -251,7 +272,9 @@ fn damaged_tables_are_refused_alike_everywhere() {
         assert_eq!(answer.number, number);
         if number != 0 {
             assert_eq!(answer, Answer::refused(number));
-            assert_eq!(run(&table, &mut tree, 0, 0), answer);
+            for limits in [by_distance(0, 0), by_share(0, 0)] {
+                assert_eq!(run(&table, &mut tree, limits), answer);
+            }
             assert_eq!(tree, Tree::default());
         }
     }
@@ -334,7 +357,7 @@ fn damaged_lists_get_a_number_or_are_written() {
         }
     }
     println!("damaged lists by number: {numbers:?}");
-    let due = [2, 5, 6, 10, 12, 13, 14, 15, 21, 22];
+    let due = [2, 3, 5, 6, 10, 12, 13, 14, 15, 21, 22];
     assert!(due.iter().all(|number| numbers.contains_key(number)));
 }
 

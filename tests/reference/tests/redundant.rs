@@ -9,7 +9,7 @@ use reference::run::run;
 use reference::sheet::encode;
 use reference::table::Count;
 use reference::tree::{open, State};
-use reference::Table;
+use reference::{by_distance, Table};
 
 fn numbers(ways: &[Way]) -> Vec<usize> {
     ways.iter().map(|way| way.number).collect()
@@ -77,7 +77,7 @@ fn the_same_assignments_satisfy_what_stays() {
         let table = drawn(&mut random);
         let count = Count::new(&table.weights);
         let mut tree = open(&table).1;
-        run(&table, &mut tree, 0, 4);
+        run(&table, &mut tree, by_distance(0, 4));
         for entry in tree.places(&table) {
             assert_eq!(pairwise(&entry.ways), entry.ways, "{table:?}");
             let sum = count.exact_sum(&entry.ways);

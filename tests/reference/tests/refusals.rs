@@ -6,7 +6,7 @@ use reference::report::report;
 use reference::run::run;
 use reference::sheet::{encode, read, sheet_number, write, writing_number, Sheet};
 use reference::tree::{open, refine_by_hand};
-use reference::{Act, Answer, Table, Tree, S};
+use reference::{by_distance, by_share, Act, Answer, Limits, Table, Tree, S};
 
 const ABOVE: u32 = S as u32 + 1;
 
@@ -42,8 +42,11 @@ fn sheets_1_to_8() {
     assert_eq!(with_bytes(&[(2, 0)]), 2);
     assert_eq!(with_bytes(&[(2, 25)]), 2);
     assert_eq!(with_bytes(&[(3, 1)]), 2);
-    assert_eq!(with_bytes(&[(10, 1)]), 3);
-    assert_eq!(with_bytes(&[(11, 1)]), 3);
+    assert_eq!(with_bytes(&[(10, 1)]), 0);
+    // Both bytes together are one number.
+    for bytes in [[2, 0], [255, 0], [0, 1], [1, 1], [0, 255], [255, 255]] {
+        assert_eq!(with_bytes(&[(10, bytes[0]), (11, bytes[1])]), 3);
+    }
     for length in 12..40 {
         assert_eq!(sheet_number(&bytes[..length]), 4);
     }
@@ -81,7 +84,9 @@ fn sheets_try_each_over_the_whole_before_the_next() {
     // 6 and 7 in the first cue, 5 in the second.
     assert_eq!(with_bytes(&[(14, 200), (16, 0), (20, 0)]), 5);
     assert_eq!(with_bytes(&[(16, 0), (22, 200)]), 6);
-    assert_eq!(with_bytes(&[(10, 1), (0, 64)]), 3);
+    assert_eq!(with_bytes(&[(10, 2), (0, 64)]), 3);
+    assert_eq!(with_bytes(&[(10, 2), (0, 65)]), 2);
+    assert_eq!(with_bytes(&[(10, 1), (0, 64)]), 4);
     assert_eq!(with_bytes(&[(31, 0x40), (40, 8)]), 10);
     assert_eq!(report(&[]), "refused 1\n");
     assert_eq!(read(&[0; 11]), Answer::refused(1));
@@ -119,17 +124,79 @@ fn runs_14_15_before_16() {
     let table = p4();
     let (_, mut tree) = open(&table);
     let before = tree.clone();
-    assert_eq!(run(&table, &mut tree, S + 1, 256), Answer::refused(14));
-    assert_eq!(run(&table, &mut tree, S, 256), Answer::refused(15));
     assert_eq!(
-        run(&Table::default(), &mut tree, S + 1, 256),
+        run(&table, &mut tree, by_distance(S + 1, 256)),
+        Answer::refused(14)
+    );
+    assert_eq!(
+        run(&table, &mut tree, by_distance(S, 256)),
+        Answer::refused(15)
+    );
+    assert_eq!(
+        run(&Table::default(), &mut tree, by_distance(S + 1, 256)),
         Answer::refused(9)
     );
     assert_eq!(tree, before);
     let mut none = Tree::default();
-    assert_eq!(run(&table, &mut none, S + 1, 0), Answer::refused(14));
-    assert_eq!(run(&table, &mut none, S, 255), Answer::refused(16));
-    assert_eq!(run(&table, &mut tree, S, 255).number, 0);
+    assert_eq!(
+        run(&table, &mut none, by_distance(S + 1, 0)),
+        Answer::refused(14)
+    );
+    assert_eq!(
+        run(&table, &mut none, by_distance(S, 255)),
+        Answer::refused(16)
+    );
+    assert_eq!(run(&table, &mut tree, by_distance(S, 255)).number, 0);
+}
+
+/// 3 is tried first, whatever the table, the tree and the other limits are; in all 64 bits.
+#[test]
+fn runs_3_before_9() {
+    let table = p4();
+    let (_, mut tree) = open(&table);
+    let before = tree.clone();
+    let modes = [2, 3, 255, 256, 257, 65_535, 65_536, 65_537, 1 << 32];
+    for mode in modes.into_iter().chain([(1 << 32) + 1, 1 << 63, u64::MAX]) {
+        let asked = |allowance, budget| Limits {
+            allowance,
+            budget,
+            mode,
+        };
+        for (allowance, budget) in [(0, 0), (S, 255), (S + 1, 0), (0, 256), (S + 1, 300)] {
+            let limits = asked(allowance, budget);
+            assert_eq!(run(&table, &mut tree, limits), Answer::refused(3));
+            let none = run(&table, &mut Tree::default(), limits);
+            assert_eq!(none, Answer::refused(3));
+            for (_, table) in self::limits().into_iter().chain(orders()) {
+                assert_eq!(run(&table, &mut tree, limits), Answer::refused(3));
+            }
+        }
+    }
+    assert_eq!(tree, before);
+}
+
+/// By share the other numbers come as they do by distance.
+#[test]
+fn runs_by_share_9_to_16() {
+    let share = |share, budget| [by_distance(share, budget), by_share(share, budget)];
+    for (number, table) in limits().into_iter().chain(orders()) {
+        let (_, mut tree) = open(&table);
+        let due = if number == 0 { 14 } else { number };
+        for limits in share(S + 1, 256) {
+            assert_eq!(run(&table, &mut tree, limits), Answer::refused(due));
+        }
+    }
+    let (table, mut none) = (p4(), Tree::default());
+    for limits in share(S + 1, 256) {
+        assert_eq!(run(&table, &mut none, limits), Answer::refused(14));
+    }
+    for limits in share(S, 256) {
+        assert_eq!(run(&table, &mut none, limits), Answer::refused(15));
+    }
+    for limits in share(S, 255) {
+        assert_eq!(run(&table, &mut none, limits), Answer::refused(16));
+        assert_eq!(run(&table, &mut open(&table).1, limits).number, 0);
+    }
 }
 
 #[test]
@@ -148,10 +215,13 @@ fn a_tree_of_another_table_is_16() {
     let (_, mut tree) = open(&p4());
     refine_by_hand(&p4(), &mut tree, &[], Act::Fault(0));
     let other = Table::of(&[H, H, H], &[&[0, 1], &[0, 2]]);
-    assert_eq!(run(&other, &mut tree, 0, 1), Answer::refused(16));
+    assert_eq!(
+        run(&other, &mut tree, by_distance(0, 1)),
+        Answer::refused(16)
+    );
     // Fault 3 occurs nowhere, so this table gives the very same tree.
     let wider = Table::of(&[H, H, 200_000_000, 1], &[&[0, 1], &[0, 2]]);
-    assert_eq!(run(&wider, &mut tree, 0, 1).number, 0);
+    assert_eq!(run(&wider, &mut tree, by_distance(0, 1)).number, 0);
 }
 
 #[test]
@@ -203,7 +273,7 @@ fn full_tree() -> (Table, Tree) {
     let ways: Vec<&[i64]> = pairs.iter().map(|pair| &pair[..]).collect();
     let table = Table::of(&[H; 24], &ways);
     let (_, mut tree) = open(&table);
-    assert_eq!(run(&table, &mut tree, 0, 255).count, 255);
+    assert_eq!(run(&table, &mut tree, by_distance(0, 255)).count, 255);
     (table, tree)
 }
 
@@ -274,6 +344,10 @@ fn writing() {
     assert_eq!(with_lists(|lists| lists.counts.clear()), 2);
     assert_eq!(with_lists(|lists| lists.cues = (1..26).collect()), 2);
     assert_eq!(with_lists(|lists| lists.counts = vec![0; 25]), 2);
+    assert_eq!(with_lists(|lists| lists.mode = 1), 0);
+    assert_eq!(with_lists(|lists| lists.mode = 2), 3);
+    assert_eq!(with_lists(|lists| lists.mode = 256), 3);
+    assert_eq!(with_lists(|lists| lists.mode = 65_535), 3);
     assert_eq!(with_lists(|lists| lists.cues = vec![0, 1]), 5);
     assert_eq!(with_lists(|lists| lists.cues = vec![7, 7]), 5);
     assert_eq!(with_lists(|lists| lists.counts = vec![2, 129]), 6);
@@ -286,6 +360,8 @@ fn writing() {
     // Within the limits if they were cut to the widths of their fields.
     assert_eq!(with_lists(|lists| lists.allowance = 1 << 32), 14);
     assert_eq!(with_lists(|lists| lists.budget = 65_576), 15);
+    assert_eq!(with_lists(|lists| lists.mode = 65_536), 3);
+    assert_eq!(with_lists(|lists| lists.mode = (1 << 32) + 1), 3);
     assert_eq!(with_lists(|lists| lists.cues.push(10)), 21);
     assert_eq!(with_lists(|lists| lists.counts.push(0)), 21);
     assert_eq!(with_lists(|lists| lists.present.push(0)), 21);
@@ -293,6 +369,31 @@ fn writing() {
     assert_eq!(with_lists(|lists| lists.counts = vec![1, 0]), 21);
     assert_eq!(writing_number(&sheet(), 71), 22);
     assert_eq!(writing_number(&sheet(), 72), 0);
+}
+
+/// 3 directly after 2: before all that is judged of cues, weights, ways and limits.
+#[test]
+fn writing_tries_3_after_2() {
+    let with = |change: fn(&mut Sheet)| {
+        with_lists(|lists| {
+            lists.mode = 2;
+            change(lists);
+        })
+    };
+    assert_eq!(with(|lists| lists.weights.clear()), 2);
+    assert_eq!(with(|lists| lists.cues.clear()), 2);
+    assert_eq!(with(|lists| lists.counts.clear()), 2);
+    assert_eq!(with(|lists| lists.cues = vec![0, 9]), 3);
+    assert_eq!(with(|lists| lists.counts = vec![2, 129]), 3);
+    assert_eq!(with(|lists| lists.weights[1] = ABOVE), 3);
+    assert_eq!(with(|lists| lists.present[1] = 8), 3);
+    assert_eq!(with(|lists| lists.absent[1] = 4), 3);
+    assert_eq!(with(|lists| lists.allowance = S + 1), 3);
+    assert_eq!(with(|lists| lists.budget = 256), 3);
+    assert_eq!(with(|lists| lists.counts.push(0)), 3);
+    let mut lists = sheet();
+    lists.mode = 2;
+    assert_eq!(writing_number(&lists, 0), 3);
 }
 
 #[test]

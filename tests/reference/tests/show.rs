@@ -7,7 +7,7 @@ use reference::report::{enclosing_lines, report};
 use reference::run::run;
 use reference::sheet::{encode, Sheet};
 use reference::tree::open;
-use reference::Table;
+use reference::{by_distance, Limits, Table};
 
 // The faults by number; in a way, !f names fault f absent.
 const DROPPED: i64 = 0;
@@ -63,16 +63,20 @@ const CUES: [(u16, &[&[i64]]); 6] = [
     (12, FINALE),
 ];
 
+/// The limits of samples/show.sheet: equal ends.
+const SHOW: Limits = by_distance(0, 8);
+
 /// The limits of samples/near.sheet: within a thousandth, above or below.
-const NEAR: (u64, u64) = (1_000_000, 20);
+const NEAR: Limits = by_distance(1_000_000, 20);
 
 /// The show's sheet with these limits.
-fn show(allowance: u64, budget: u64) -> Sheet {
+fn show(limits: Limits) -> Sheet {
     let weights = CHANCES.map(|chance| (chance * 1e9).round() as u32);
     let mut sheet = Sheet {
         weights: weights.to_vec(),
-        allowance,
-        budget,
+        allowance: limits.allowance,
+        budget: limits.budget,
+        mode: limits.mode,
         ..Sheet::default()
     };
     for (cue, ways) in CUES {
@@ -87,17 +91,17 @@ fn show(allowance: u64, budget: u64) -> Sheet {
 
 #[test]
 fn the_stored_sheet_is_the_show() {
-    let bytes = encode(&show(0, 8));
+    let bytes = encode(&show(SHOW));
     assert_eq!(stored("samples/show.sheet"), bytes);
     assert_eq!(stored("crates/show_sheet/stdout"), bytes);
     assert_eq!(stored("crates/cue_import/stdout"), bytes);
     assert_eq!(stored("crates/cue_export/stdin"), bytes);
-    assert_eq!(stored("samples/near.sheet"), encode(&show(NEAR.0, NEAR.1)));
+    assert_eq!(stored("samples/near.sheet"), encode(&show(NEAR)));
 }
 
 #[test]
 fn the_stored_text_is_the_shows() {
-    let text = joined(&table(&show(0, 8)));
+    let text = joined(&table(&show(SHOW)));
     assert_eq!(stored("samples/show.csv"), text);
     assert_eq!(stored("crates/cue_import/stdin"), text);
     assert_eq!(stored("crates/cue_export/stdout"), text);
@@ -107,13 +111,13 @@ fn the_stored_text_is_the_shows() {
 #[test]
 fn the_page_tells_the_shows_figures() {
     let page = stored_text("samples/README.md");
-    assert!(page.contains(&report(&encode(&show(0, 8)))));
-    let near = show(NEAR.0, NEAR.1);
+    assert!(page.contains(&report(&encode(&show(SHOW)))));
+    let near = show(NEAR);
     assert!(page.contains(&report(&encode(&near))));
     // The middle of 75598492 and 77573737, rounded down.
     let finale = Table::of(&near.weights, FINALE);
     let (_, mut tree) = open(&finale);
-    let figure = run(&finale, &mut tree, NEAR.0, NEAR.1).figure;
+    let figure = run(&finale, &mut tree, NEAR).figure;
     assert_eq!(figure, 76_586_114);
     assert!(page.contains(&format!("about {figure} billionths")));
     for (fault, chance) in CHANCES.iter().enumerate() {
@@ -126,7 +130,7 @@ fn the_page_tells_the_shows_figures() {
 
 #[test]
 fn every_interval_encloses_the_count_over_all_assignments() {
-    for sheet in [show(0, 8), show(NEAR.0, NEAR.1)] {
+    for sheet in [show(SHOW), show(NEAR)] {
         let bytes = encode(&sheet);
         assert_eq!(enclosing_lines(&bytes, &report(&bytes)), Ok(CUES.len()));
     }

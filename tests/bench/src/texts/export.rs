@@ -2,10 +2,9 @@
 //! The sheet is read by the reader of `sheet`, as for its report.
 
 use super::decimal::digits_of;
-use super::Limits;
 use crate::csv::accepted;
 use crate::formula::MOST_FAULTS;
-use crate::run::{refused, Answer};
+use crate::run::{refused, Answer, Limits};
 use crate::sheet::{self, u64_at, Sheet};
 
 /// A cue as the contents state it.
@@ -20,13 +19,6 @@ fn stated_entry(sheet: &Sheet, i: usize) -> Entry {
         cue: sheet.cue(i),
         ways: sheet.ways(i),
         start: sheet.place(i),
-    }
-}
-
-fn limits_in(sheet: &Sheet) -> Limits {
-    Limits {
-        allowance: sheet.allowance(),
-        budget: sheet.budget(),
     }
 }
 
@@ -90,14 +82,23 @@ fn weights_length(weights: &[u32]) -> usize {
     sum
 }
 
+/// The third number of the first record, which is there by share alone.
+fn mode_length(mode: u64) -> usize {
+    if mode == 1 {
+        2
+    } else {
+        0
+    }
+}
+
 /// The two records in front of the cues.
 fn front_length(limits: Limits, weights: &[u32]) -> usize {
     let limits_length = field_length(limits.allowance) + field_length(limits.budget);
-    14 + limits_length + weights_length(weights)
+    14 + limits_length + mode_length(limits.mode) + weights_length(weights)
 }
 
 fn text_length(sheet: &Sheet) -> usize {
-    let front = front_length(limits_in(sheet), &weights(sheet)[..sheet.faults]);
+    let front = front_length(sheet.limits(), &weights(sheet)[..sheet.faults]);
     front + cues_length(sheet)
 }
 
@@ -217,11 +218,20 @@ fn put_weights(space: &mut [u8], at: usize, weights: &[u32]) -> usize {
     next
 }
 
+/// The third number of the first record, by share alone.
+fn put_mode(space: &mut [u8], at: usize, mode: u64) -> usize {
+    if mode == 1 {
+        return put_bytes(space, at, b",1");
+    }
+    at
+}
+
 /// The two records in front of the cues.
 fn put_front(space: &mut [u8], at: usize, limits: Limits, weights: &[u32]) -> usize {
     let next = put_bytes(space, at, b"run");
     let next = put_field(space, next, limits.allowance);
     let next = put_field(space, next, limits.budget);
+    let next = put_mode(space, next, limits.mode);
     let next = put_bytes(space, next, b"\r\nweights");
     let next = put_weights(space, next, weights);
     put_end(space, next)
@@ -238,7 +248,7 @@ fn put_cues(space: &mut [u8], at: usize, sheet: &Sheet) -> usize {
 
 fn put_text(space: &mut [u8], sheet: &Sheet) -> usize {
     let weights = weights(sheet);
-    let next = put_front(space, 0, limits_in(sheet), &weights[..sheet.faults]);
+    let next = put_front(space, 0, sheet.limits(), &weights[..sheet.faults]);
     put_cues(space, next, sheet)
 }
 

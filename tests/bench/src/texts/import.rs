@@ -2,9 +2,8 @@
 
 use super::rows::{row, run, weights as weights_in, RowSaid};
 use super::writer::{front_number, write};
-use super::Limits;
 use crate::formula::{MOST_FAULTS, MOST_WAYS};
-use crate::run::{refused, Answer};
+use crate::run::{refused, Answer, Limits};
 use crate::sheet::MOST_CUES;
 
 /// The cues and the ways so far, the ways of the last cue, and whether some way names a fault beyond the 64th;
@@ -168,10 +167,7 @@ fn misread_row(k: u64) -> RowsRead {
 fn misread_at(k: u64) -> TextRead {
     TextRead {
         misread: k,
-        limits: Limits {
-            allowance: 0,
-            budget: 0,
-        },
+        limits: Limits::default(),
         faults: 0,
         cues: 0,
         ways: 0,
@@ -214,15 +210,18 @@ fn read_text(
     }
 }
 
-/// 2, 5, 6, 10 or 0 of lists of which so many weights and cues were said. More than a sheet may have were not all kept, and are 2 at once.
-fn front(faults: usize, cues: usize, weights: &[u32], numbers: &[u16], counts: &[u16]) -> u64 {
+/// 2, 5, 6, 10 or 0 of lists of which so many weights and cues were said; the mode is known. More than a sheet may have were not all kept,
+/// and are 2 at once.
+fn front(said: &TextRead, weights: &[u32], numbers: &[u16], counts: &[u16]) -> u64 {
+    let (faults, cues) = (said.faults, said.cues);
     if faults > MOST_FAULTS {
         return 2;
     }
     if cues > MOST_CUES {
         return 2;
     }
-    front_number(&weights[..faults], &numbers[..cues], &counts[..cues])
+    let mode = said.limits.mode;
+    front_number(&weights[..faults], &numbers[..cues], &counts[..cues], mode)
 }
 
 /// The sheet that a text says, at the front of the space.
@@ -246,7 +245,7 @@ pub fn import(text: &[u8], space: &mut [u8]) -> Answer {
             ..refused(23)
         };
     }
-    let number = front(said.faults, said.cues, &weights, &numbers, &counts);
+    let number = front(&said, &weights, &numbers, &counts);
     if number != 0 {
         return refused(number);
     }

@@ -1,7 +1,7 @@
 //! One line of a text read by one cursor, each byte once: its fields, and what it says as the record of the limits, of the weights or of a way.
 //! The library's crate `csv_rows`.
 
-use super::Limits;
+use crate::run::Limits;
 
 // The cursor
 
@@ -203,21 +203,18 @@ fn word_at(text: &[u8], at: usize, word: &[u8]) -> FieldAt {
 
 // The first two records
 
-/// What a line says as the record of the limits, and where the next line starts; not good, both limits are 0.
+/// What a line says as the record of the limits, and where the next line starts; not good, all limits are 0.
 pub struct RunSaid {
     pub good: bool,
     pub limits: Limits,
     pub next: usize,
 }
 
-/// The record of the limits in the line at a position: `run`, allowance, budget.
+/// The record of the limits in the line at a position: `run`, allowance, budget, and `1` by share.
 pub fn run(text: &[u8], at: usize) -> RunSaid {
     let none = RunSaid {
         good: false,
-        limits: Limits {
-            allowance: 0,
-            budget: 0,
-        },
+        limits: Limits::default(),
         next: at,
     };
     let w = word_at(text, at, b"run");
@@ -229,17 +226,26 @@ pub fn run(text: &[u8], at: usize) -> RunSaid {
         return none;
     }
     let b = numeral_at(text, a.next);
-    if !b.good || b.more {
+    if !b.good {
         return none;
     }
-    RunSaid {
+    let said = |mode, next| RunSaid {
         good: true,
         limits: Limits {
             allowance: a.value,
             budget: b.value,
+            mode,
         },
-        next: b.next + 1,
+        next,
+    };
+    if !b.more {
+        return said(0, b.next + 1);
     }
+    let m = numeral_at(text, b.next);
+    if !m.good || m.more || m.value != 1 {
+        return none;
+    }
+    said(1, m.next + 1)
 }
 
 /// What a line says as the record of the weights: how many there are; not good, the count is 0. Then where the next line starts.

@@ -1,9 +1,8 @@
 //! The writer of sheets: lists in, the bytes of the sheet that they give out into lent space, or a refusal. The library's crate `writer`.
 
-use super::Limits;
 use crate::csv::accepted;
 use crate::formula::{MOST_FAULTS, MOST_WAYS, S};
-use crate::run::{refused, Answer};
+use crate::run::{refused, Answer, Limits};
 use crate::sheet::{HEAD, MOST_CUES};
 
 // The refusals
@@ -43,10 +42,13 @@ fn overweight(weights: &[u32]) -> bool {
     weights.iter().any(|&weight| u64::from(weight) > S)
 }
 
-/// 2, 5, 6, 10 or 0.
-pub fn front_number(weights: &[u32], numbers: &[u16], counts: &[u16]) -> u64 {
+/// 2, 3, 5, 6, 10 or 0.
+pub fn front_number(weights: &[u32], numbers: &[u16], counts: &[u16], mode: u64) -> u64 {
     if outside(weights.len(), numbers.len(), counts.len()) {
         return 2;
+    }
+    if mode > 1 {
+        return 3;
     }
     if not_rising(numbers) {
         return 5;
@@ -123,7 +125,7 @@ fn disagree(cues: usize, counts: &[u16], present: usize, absent: usize) -> bool 
     cues != counts.len() || present != absent || present != sum(counts)
 }
 
-/// 2, 5, 6, 10, 12 to 15, 21 or 0.
+/// 2, 3, 5, 6, 10, 12 to 15, 21 or 0.
 fn list_number(
     weights: &[u32],
     numbers: &[u16],
@@ -132,7 +134,7 @@ fn list_number(
     absent: &[u64],
     limits: Limits,
 ) -> u64 {
-    let front = front_number(weights, numbers, counts);
+    let front = front_number(weights, numbers, counts, limits.mode);
     if front != 0 {
         return front;
     }
@@ -194,11 +196,11 @@ fn put_row(space: &mut [u8], at: usize, a: u64, b: u64, c: u64) -> usize {
     put(space, next, 4, c)
 }
 
-/// The head: faults, cues, allowance, budget, zero.
+/// The head: faults, cues, allowance, budget, mode.
 fn put_head(space: &mut [u8], at: usize, faults: usize, cues: usize, limits: Limits) -> usize {
     let next = put_row(space, at, faults as u64, cues as u64, limits.allowance);
     let next = put(space, next, 2, limits.budget);
-    put(space, next, 2, 0)
+    put(space, next, 2, limits.mode)
 }
 
 /// The contents: an entry for each cue, whose bodies start at `start`.

@@ -15,7 +15,7 @@ use reference::random::Random;
 use reference::redundant::WAYS_BELOW_64;
 use reference::scripts::mostly_open;
 use reference::sheet::{encode, of_one_cue};
-use reference::{Act, DONE, FULL, MOST_FAULTS, MOST_WAYS};
+use reference::{by_distance, Act, DONE, FULL, MOST_FAULTS, MOST_WAYS};
 
 /// The faults fixed present stand two fields behind the first word of ways.
 const WAYSA: usize = WAYS_BELOW_64 as usize;
@@ -39,7 +39,7 @@ pub fn common(bench: &mut Bench) -> Outcome {
     bench.case("64 levels, half of them common parts", |session, _| {
         play(session, deep())?;
         session.opened(nested())?;
-        run_told(session, (0, 255), 0, DONE)
+        run_told(session, by_distance(0, 255), 0, DONE)
     })?;
     bench.case("the largest table", |session, _| largest(session))?;
     bench.cases("any tables", 500, |session, random| {
@@ -49,22 +49,23 @@ pub fn common(bench: &mut Bench) -> Outcome {
     bench.cases("runs alone", 300, |session, random| {
         session.opened(drawn(random))?;
         for _ in 0..3 {
-            session.run(0, random.between(1, 6) as u64)?;
+            session.run(random.narrowest(1, 6))?;
         }
         Ok(())
     })?;
     bench.cases("a common part asked for everywhere", 200, |session, random| {
         session.opened(drawn(random))?;
-        session.run(0, random.below(3) as u64)?;
+        session.run(by_distance(0, random.below(3) as u64))?;
         everywhere(session)
     })?;
     bench.cases("tables of any size", 40, |session, random| {
         session.opened(random.common_table(MOST_FAULTS, MOST_WAYS))?;
         session.refine(vec![], Act::Common)?;
-        session.run(0, 3)
+        session.run(by_distance(0, 3))
     })?;
     bench.cases("any sheets of one cue", 300, |session, random| {
-        let sheet = of_one_cue(random.common_table(8, 10), 30);
+        let limits = random.narrowest(30, 30);
+        let sheet = of_one_cue(random.common_table(8, 10), limits);
         session.make(Step::Sheet(encode(&sheet)))?;
         session.make(Step::Report(100))
     })?;
@@ -96,9 +97,9 @@ fn largest(session: &mut Session) -> Outcome {
     session.opened(repeater())?;
     session.make(Step::Copy)?;
     session.refine(vec![], Act::Common)?;
-    run_told(session, (0, 255), 0, FULL)?;
+    run_told(session, by_distance(0, 255), 0, FULL)?;
     session.make(Step::Tree(1))?;
-    run_told(session, (0, 255), 0, FULL)?;
+    run_told(session, by_distance(0, 255), 0, FULL)?;
     session.make(Step::Equal)
 }
 
@@ -149,7 +150,7 @@ fn told_otherwise(session: &mut Session) -> Outcome {
 
 /// The tree at hand is refused by both calls.
 fn sixteen(session: &mut Session) -> Outcome {
-    session.run(0, 0)?;
+    session.run(by_distance(0, 0))?;
     told_number(session, 16)?;
     session.refine(vec![1], Act::Independence)?;
     told_number(session, 16)
@@ -163,7 +164,7 @@ fn apart_by_out(session: &mut Session) -> Outcome {
         session.make(Step::Table(other))?;
         sixteen(session)?;
         session.make(Step::Table(own))?;
-        session.run(0, 1)?;
+        session.run(by_distance(0, 1))?;
         told_number(session, 0)?;
     }
     Ok(())

@@ -1,4 +1,5 @@
-//! Runs cut in two or more against one run: the same tree byte for byte, the same verdict, and reports that add up.
+//! Runs cut in two or more against one run, all by the same distance or all by the same share: the same tree byte for byte, the
+//! same verdict, and reports that add up.
 
 use crate::bench::Bench;
 use crate::session::{Outcome, Session};
@@ -6,7 +7,7 @@ use crate::step::Step;
 use reference::paper::ring;
 use reference::random::Random;
 use reference::scripts::mostly_open;
-use reference::{Table, S};
+use reference::{Limits, Table};
 
 pub fn cuts(bench: &mut Bench) -> Outcome {
     bench.cases("up to 10 faults", 500, |session, random| {
@@ -45,10 +46,10 @@ fn cut(session: &mut Session, random: &mut Random, table: Table, parts: &[u64]) 
             session.refine(place, act)?;
         }
     }
-    let allowance = if random.one_in(2) { 0 } else { random.allowance().min(S) };
+    let aim = if random.one_in(2) { random.narrowest(0, 0) } else { random.aim() };
     session.make(Step::Copy)?;
-    parts.iter().try_for_each(|&budget| session.run(allowance, budget))?;
+    parts.iter().try_for_each(|&budget| session.run(Limits { budget, ..aim }))?;
     session.make(Step::Tree(1))?;
-    session.run(allowance, parts.iter().sum())?;
+    session.run(Limits { budget: parts.iter().sum(), ..aim })?;
     session.make(Step::Equal)
 }

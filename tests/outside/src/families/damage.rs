@@ -10,12 +10,12 @@ use crate::step::{Field, Step};
 use reference::paper::{cases, p3, p4, p6};
 use reference::random::Random;
 use reference::scripts::{any_call, mostly_open};
-use reference::{Act, Table, S};
+use reference::{by_distance, Act, Limits, Table, S};
 
 pub fn sixteen(bench: &mut Bench) -> Outcome {
     bench.case("every field of P4's tree, a common part and independence", |session, random| {
         session.opened(p4())?;
-        session.run(0, 255)?;
+        session.run(by_distance(0, 255))?;
         let records = [0, 1, 2, 3, 4, 5, RECORDS - 1];
         records.iter().try_for_each(|&record| every_field(session, random, record))?;
         every_use(session, random)
@@ -33,7 +33,7 @@ pub fn sixteen(bench: &mut Bench) -> Outcome {
     bench.cases("any field of a large tree", 3, |session, random| {
         let table = mostly_open(random, |random| random.table_within(64, 128));
         session.opened(table)?;
-        session.run(0, 4)?;
+        session.run(by_distance(0, 4))?;
         let record = random.below(session.records().used);
         every_field(session, random, record)
     })?;
@@ -64,7 +64,7 @@ pub(super) fn grown(session: &mut Session, random: &mut Random) -> Outcome {
 /// Any call: 16 comes before all that could be wrong with its place.
 pub(super) fn judged(session: &mut Session, random: &mut Random) -> Outcome {
     if random.one_in(2) {
-        return session.run(random.between(0, S as usize) as u64, random.between(0, 3) as u64);
+        return session.run(Limits { budget: random.between(0, 3) as u64, ..random.aim() });
     }
     let place = vec![0; random.below(3)];
     let act = if random.one_in(4) { Act::Common } else { Act::Fault(random.below(8) as u64) };
@@ -83,7 +83,7 @@ fn every_field(session: &mut Session, random: &mut Random, record: usize) -> Out
         }
         session.make(Step::Poke(field, own))?;
     }
-    session.run(0, 0)?;
+    session.run(by_distance(0, 0))?;
     told_number(session, 0)
 }
 
@@ -98,7 +98,7 @@ fn every_use(session: &mut Session, random: &mut Random) -> Outcome {
         }
     }
     session.make(Step::Poke(Field::Used, own))?;
-    session.run(0, 0)?;
+    session.run(by_distance(0, 0))?;
     told_number(session, 0)
 }
 
@@ -154,9 +154,9 @@ fn reordered(session: &mut Session, random: &mut Random) -> Outcome {
     let entries = session.tree().places(session.table());
     let tree = layout(session.table(), &entries, &series);
     session.make(Step::Lend(tree))?;
-    session.run(0, 0)?;
+    session.run(by_distance(0, 0))?;
     told_number(session, 0)?;
-    session.run(0, 2)?;
+    session.run(by_distance(0, 2))?;
     told_number(session, 0)
 }
 
@@ -198,7 +198,7 @@ fn impossible(session: &mut Session) -> Outcome {
         tree.used = 3;
         session.opened(table)?;
         session.make(Step::Lend(tree))?;
-        session.run(0, 0)?;
+        session.run(by_distance(0, 0))?;
         told_number(session, 16)?;
         session.refine(vec![0], Act::Fault(0))?;
         told_number(session, 16)?;

@@ -8,7 +8,7 @@ use reference::distances::{cases, Case};
 use reference::paper::ring;
 use reference::scripts::mostly_open;
 use reference::sheet::{encode, of_one_cue, Sheet};
-use reference::{Answer, Table, MOST_FAULTS};
+use reference::{by_distance, Answer, Table, MOST_FAULTS};
 
 pub fn distance(bench: &mut Bench) -> Outcome {
     for (name, sheet, text) in cases().into_iter().map(Case::printed) {
@@ -30,8 +30,7 @@ pub fn distance(bench: &mut Bench) -> Outcome {
     bench.cases("sheets of one cue", 200, |session, random| {
         let table = mostly_open(random, |random| random.table_within(8, 10));
         let allowance = half_after(session, &table, random.below(6) as u64)?;
-        let sheet = Sheet { allowance, ..of_one_cue(table, 30) };
-        session.make(Step::Sheet(encode(&sheet)))?;
+        session.make(Step::Sheet(encode(&of_one_cue(table, by_distance(allowance, 30)))))?;
         session.make(Step::Report(100))
     })
 }
@@ -45,7 +44,7 @@ fn printed(session: &mut Session, sheet: &Sheet, text: String) -> Outcome {
 /// Half the width, rounded down, that the root has after so many refinements of a run.
 fn half_after(session: &mut Session, table: &Table, budget: u64) -> Result<u64, Mismatch> {
     session.opened(table.clone())?;
-    session.run(0, budget)?;
+    session.run(by_distance(0, budget))?;
     let Answer { low, high, .. } = session.answer();
     Ok((high - low) / 2)
 }
@@ -55,8 +54,8 @@ fn about_half(session: &mut Session, table: &Table, budget: u64) -> Outcome {
     let half = half_after(session, table, budget)?;
     for allowance in [half.saturating_sub(1), half, half + 1] {
         session.opened(table.clone())?;
-        session.run(allowance, budget)?;
-        session.run(allowance, 10)?;
+        session.run(by_distance(allowance, budget))?;
+        session.run(by_distance(allowance, 10))?;
     }
     Ok(())
 }

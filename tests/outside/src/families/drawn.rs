@@ -11,7 +11,7 @@ use crate::step::Step;
 use reference::random::Random;
 use reference::scripts::mostly_open;
 use reference::tree::{open, refine_by_hand};
-use reference::{Table, S};
+use reference::{by_distance, Table, S};
 use std::array;
 
 pub fn drawn(bench: &mut Bench) -> Outcome {
@@ -100,7 +100,7 @@ fn mixed(session: &mut Session, random: &mut Random) -> Outcome {
     if let Some((place, act)) = random.sound_refinement(session.table(), session.tree()) {
         session.refine(place, act)?;
     }
-    session.run(0, 1)?;
+    session.run(by_distance(0, 1))?;
     let mut tree = Box::new(session.records().clone());
     let some = random.between(2, 6);
     for (node, other) in tree.nodes.iter_mut().zip(&first.nodes) {
@@ -129,7 +129,7 @@ fn given(session: &mut Session, random: &mut Random) -> Outcome {
     let records = layout(&table, &tree.places(&table), &series);
     session.make(Step::Table(table))?;
     session.make(Step::Lend(records))?;
-    session.run(0, 0)?;
+    session.run(by_distance(0, 0))?;
     told_number(session, 0)?;
     both(session, random)
 }

@@ -11,7 +11,7 @@ use reference::random::Random;
 use reference::report::report;
 use reference::scripts::mostly_open;
 use reference::sheet::{encode, length, Sheet};
-use reference::{Act, Table, NONE, S};
+use reference::{by_distance, by_share, Act, Limits, Table, NONE, S};
 
 /// Cut to 8, 16, 24 .. bits each of these is 0, and to more bits it stays.
 const CUTS: [u64; 7] = [1 << 8, 1 << 16, 1 << 24, 1 << 32, 1 << 48, 1 << 56, 1 << 63];
@@ -32,6 +32,7 @@ pub fn far(bench: &mut Bench) -> Outcome {
     bench.case("faults", |session, _| faults(session))?;
     bench.case("the limits of a run", |session, _| limits_of_a_run(session))?;
     bench.case("the limits of a sheet", |session, _| limits_of_a_sheet(session))?;
+    bench.case("modes", |session, _| modes(session))?;
     bench.cases("any of them", 150, any_of_them)
 }
 
@@ -164,7 +165,7 @@ fn what(session: &mut Session) -> Outcome {
         }
     }
     session.opened(ring())?;
-    session.run(0, 255)?;
+    session.run(by_distance(0, 255))?;
     let (place, _) = open_leaf(session);
     for &what in others.iter().step_by(9) {
         session.make(Step::Refine(place.clone(), what, 0))?;
@@ -194,20 +195,40 @@ fn faults(session: &mut Session) -> Outcome {
 /// 14 and 15 on P4, whatever else the lower bits would say.
 fn limits_of_a_run(session: &mut Session) -> Outcome {
     session.opened(p4())?;
-    run_told(session, (5_000_000_000, 65_576), 14, NONE)?;
-    run_told(session, (0, 65_576), 15, NONE)?;
+    run_told(session, by_distance(5_000_000_000, 65_576), 14, NONE)?;
+    run_told(session, by_distance(0, 65_576), 15, NONE)?;
     for cut in CUTS {
         for lower in [0, 1, 40, 255] {
             let above_s = cut + lower > S;
-            run_told(session, (0, cut + lower), 15, NONE)?;
-            run_told(session, (cut + lower, 256), if above_s { 14 } else { 15 }, NONE)?;
+            run_told(session, by_distance(0, cut + lower), 15, NONE)?;
+            run_told(session, by_distance(cut + lower, 256), if above_s { 14 } else { 15 }, NONE)?;
             if above_s {
-                run_told(session, (cut + lower, 40), 14, NONE)?;
+                run_told(session, by_distance(cut + lower, 40), 14, NONE)?;
             }
         }
     }
-    run_told(session, (u64::MAX, u64::MAX), 14, NONE)?;
-    run_told(session, (S, u64::MAX), 15, NONE)
+    run_told(session, by_distance(u64::MAX, u64::MAX), 14, NONE)?;
+    run_told(session, by_distance(S, u64::MAX), 15, NONE)?;
+    run_told(session, by_share(u64::MAX, u64::MAX), 14, NONE)?;
+    run_told(session, by_share(S, u64::MAX), 15, NONE)
+}
+
+/// 3 on P4 and on a table without weights, in a run and in a sheet, though both modes are known that the lower bits give.
+fn modes(session: &mut Session) -> Outcome {
+    let above = CUTS.into_iter().flat_map(|cut| [cut, cut + 1]).chain([2, 3, 255, 65_535, u64::MAX]);
+    for mode in above {
+        for table in [p4(), Table::default()] {
+            session.opened(table)?;
+            for limits in [by_distance(0, 40), by_distance(S + 1, 40), by_distance(0, 256), by_distance(mode, mode)] {
+                run_told(session, Limits { mode, ..limits }, 3, NONE)?;
+            }
+        }
+        session.make(Step::Write(Sheet { mode, ..whole_sheet(40) }, 72))?;
+        told_number(session, 3)?;
+        session.make(Step::Write(Sheet { mode, ..whole_sheet(256) }, 0))?;
+        told_number(session, 3)?;
+    }
+    Ok(())
 }
 
 /// The same for the writer.
@@ -244,8 +265,12 @@ fn any_of_them(session: &mut Session, random: &mut Random) -> Outcome {
         let (place, act) = random.hand_refinement(session.table(), session.tree());
         let (what, fault) = asked(act);
         session.make(Step::Refine(place, with_upper_bits(random, what), with_upper_bits(random, fault)))?;
-        let (allowance, budget) = (random.allowance(), random.budget().min(20));
-        session.run(with_upper_bits(random, allowance), with_upper_bits(random, budget))?;
+        let Limits { allowance, budget, mode } = random.limits();
+        let allowance = with_upper_bits(random, allowance);
+        let budget = with_upper_bits(random, budget.min(20));
+        // Less often, since 3 comes before what the others give.
+        let mode = if random.one_in(4) { with_upper_bits(random, mode) } else { mode };
+        session.run(Limits { allowance, budget, mode })?;
     }
     let mut lists = random.sheet_within(8, 4, 4);
     session.make(Step::Sheet(encode(&lists)))?;
@@ -255,6 +280,9 @@ fn any_of_them(session: &mut Session, random: &mut Random) -> Outcome {
         session.make(Step::Inside(position))?;
     }
     (lists.allowance, lists.budget) = (with_upper_bits(random, lists.allowance), with_upper_bits(random, lists.budget));
+    if random.one_in(4) {
+        lists.mode = with_upper_bits(random, lists.mode);
+    }
     let space = length(&lists);
     session.make(Step::Write(lists, space))
 }

@@ -9,7 +9,7 @@ use reference::kept::{first_apart, sheet, PRINTED};
 use reference::leaf::leaf_low;
 use reference::scripts::mostly_open;
 use reference::sheet::encode;
-use reference::{MOST_FAULTS, MOST_WAYS};
+use reference::{by_distance, MOST_FAULTS, MOST_WAYS};
 
 pub fn kept(bench: &mut Bench) -> Outcome {
     bench.case("the sheet that has F1 to F4 as cues", |session, _| {
@@ -24,7 +24,7 @@ pub fn kept(bench: &mut Bench) -> Outcome {
     })?;
     bench.cases("tables of any size", 40, |session, random| {
         session.opened(random.opposed_table(MOST_FAULTS, MOST_WAYS))?;
-        session.run(0, 3)
+        session.run(by_distance(0, 3))
     })
 }
 

@@ -1,5 +1,5 @@
-//! Demand 3: two lists of calls that end with the same places refined leave the same interval at every place, the
-//! same count, and the same outcome of every further run.
+//! Demand 3: two lists of calls, whose runs may be of both modes, that end with the same places refined leave the same interval at
+//! every place, the same count, and the same outcome of every further run on equal allowance, budget and mode.
 
 use super::{make, run_told};
 use crate::bench::Bench;
@@ -9,7 +9,7 @@ use reference::orders::{kinds_of, toward};
 use reference::paper::fours;
 use reference::random::Random;
 use reference::scripts::{any_call, mostly_open};
-use reference::{Table, FULL, S};
+use reference::{by_distance, Limits, Table, FULL, S};
 
 pub fn pairs(bench: &mut Bench) -> Outcome {
     bench.cases("up to 8 faults", 250, |session, random| {
@@ -74,7 +74,7 @@ fn in_turn(session: &mut Session, random: &mut Random) -> Outcome {
 /// A full tree, twice, and calls that its being full refuses.
 fn full(session: &mut Session, random: &mut Random) -> Outcome {
     session.opened(fours())?;
-    run_told(session, (0, 255), 0, FULL)?;
+    run_told(session, by_distance(0, 255), 0, FULL)?;
     again_and_on(session, random)?;
     for _ in 0..8 {
         let (place, act) = random.hand_refinement(session.table(), session.tree());
@@ -120,11 +120,11 @@ fn again_and_on(session: &mut Session, random: &mut Random) -> Outcome {
     }
     session.make(Step::Alike)?;
     for _ in 0..random.between(1, 3) {
-        let (allowance, budget) = (random.allowance(), random.budget());
-        let budget = if budget > 255 { budget } else { budget.min(20) };
+        let limits = random.limits();
+        let budget = if limits.budget > 255 { limits.budget } else { limits.budget.min(20) };
         for which in [0, 1] {
             session.make(Step::Tree(which))?;
-            session.run(allowance, budget)?;
+            session.run(Limits { budget, ..limits })?;
         }
         session.make(Step::Agree)?;
         session.make(Step::Alike)?;
@@ -134,10 +134,12 @@ fn again_and_on(session: &mut Session, random: &mut Random) -> Outcome {
 
 /// A call that refines nothing: a run that is refused or has no budget, or by hand what is none of the three.
 fn idle(session: &mut Session, random: &mut Random) -> Outcome {
-    match random.below(4) {
-        0 => session.run(S + 1, 255),
-        1 => session.run(0, 256),
-        2 => session.run(random.between(0, S as usize) as u64, 0),
+    let aim = random.aim();
+    match random.below(5) {
+        0 => session.run(Limits { allowance: S + 1, budget: 255, ..aim }),
+        1 => session.run(Limits { budget: 256, ..aim }),
+        2 => session.run(aim),
+        3 => session.run(Limits { mode: random.between(2, 300) as u64, budget: 255, ..aim }),
         _ => {
             let (place, _) = random.hand_refinement(session.table(), session.tree());
             session.make(Step::Refine(place, random.between(3, 255) as u64, 0))

@@ -16,6 +16,7 @@ mod reading;
 mod redundant;
 mod scripts;
 mod search;
+mod shares;
 mod stack;
 mod tables;
 mod writing;
@@ -29,7 +30,7 @@ use reference::run::pick;
 use reference::scripts::Call;
 use reference::sheet::Sheet;
 use reference::tree::State;
-use reference::Act;
+use reference::{Act, Limits};
 
 /// What brings a refusal about, with its number.
 type Damage<T> = (u64, fn(&mut T));
@@ -41,12 +42,12 @@ pub struct Family {
     pub least: u64,
 }
 
-pub const FAMILIES: [Family; 30] = [
+pub const FAMILIES: [Family; 31] = [
     family("paper", paper::cases_on_paper, 113),
-    family("tests", paper::run_in_the_tests, 135),
-    family("wrong", named::easy_to_get_wrong, 11_400),
-    family("orders", named::orders, 165),
-    family("scripts", scripts::scripts, 157_690),
+    family("tests", paper::run_in_the_tests, 149),
+    family("wrong", named::easy_to_get_wrong, 11_800),
+    family("orders", named::orders, 3305),
+    family("scripts", scripts::scripts, 164_348),
     family("edges", tables::edges, 1400),
     family("tables", tables::tables, 47_000),
     family("refused", tables::refused, 17_000),
@@ -60,15 +61,16 @@ pub const FAMILIES: [Family; 30] = [
     family("distance", distance::distance, 30_000),
     family("common", common::common, 34_000),
     family("kept", kept::kept, 11_700),
+    family("shares", shares::shares, 70_000),
     family("sheets", reading::sheets, 53_000),
     family("bytes", reading::bytes, 90_000),
     family("reports", reading::reports, 4300),
     family("inside", reading::inside, 5000),
-    family("writing", writing::writing, 12_000),
+    family("writing", writing::writing, 16_000),
     family("search", search::search, 7200),
-    family("far", far::far, 6500),
+    family("far", far::far, 7500),
     family("stack", stack::stack, 2111),
-    family("csv", csv::csv, 113_000),
+    family("csv", csv::csv, 120_000),
     family("captures", captures::captures, 340_000),
     family("fractions", captures::fractions::fractions, 178_000),
     family("billions", captures::billions::billions, 10),
@@ -82,13 +84,13 @@ const fn family(name: &'static str, play: fn(&mut Bench) -> Outcome, least: u64)
 fn make(session: &mut Session, call: Call) -> Outcome {
     match call {
         Call::Hand(place, act) => session.refine(place, act),
-        Call::Run(allowance, budget) => session.run(allowance, budget),
+        Call::Run(limits) => session.run(limits),
     }
 }
 
 /// A run whose number and verdict are told; the figures are left to the reference.
-fn run_told(session: &mut Session, (allowance, budget): (u64, u64), number: u64, verdict: u64) -> Outcome {
-    session.run(allowance, budget)?;
+fn run_told(session: &mut Session, limits: Limits, number: u64, verdict: u64) -> Outcome {
+    session.run(limits)?;
     session.make(Step::Told([Some(number), None, None, None, Some(verdict), None]))
 }
 

@@ -1,6 +1,6 @@
 //! Figures that are easy to get wrong, each by name, and the order of the refusals of calls on trees.
 
-use super::{make, run_told, scripts::play, told_number};
+use super::{make, run_told, scripts::play, told_number, Damage};
 use crate::bench::Bench;
 use crate::session::{Outcome, Session};
 use crate::step::{Field, Step};
@@ -8,7 +8,7 @@ use reference::figures::typed;
 use reference::paper::{every_fault_named, most_named, orders as refusals, p4, ring, singles, stairs, whole_sheet, H};
 use reference::scripts::{deep, full};
 use reference::sheet::encode;
-use reference::{Act, FULL, MET, NONE, S, SPENT};
+use reference::{by_distance, by_share, Act, Limits, Table, FULL, MET, NONE, S, SPENT};
 
 pub fn easy_to_get_wrong(bench: &mut Bench) -> Outcome {
     for (name, table, root, calls) in typed() {
@@ -36,12 +36,12 @@ pub fn easy_to_get_wrong(bench: &mut Bench) -> Outcome {
     for weight in [H, 999_999_999, 1] {
         bench.case("all 64 faults in every way, grown", |session, _| {
             session.opened(every_fault_named(weight))?;
-            session.run(0, 2)
+            session.run(by_distance(0, 2))
         })?;
     }
     bench.case("of equal ways one counts in what is named most", |session, _| {
         session.opened(most_named())?;
-        session.run(0, 1)?;
+        session.run(by_distance(0, 1))?;
         // The run fixed fault 0 on both sides: present it leaves {1} {2} {3}, of which none names fault 0.
         session.refine(vec![0], Act::Fault(0))?;
         told_number(session, 20)?;
@@ -50,10 +50,10 @@ pub fn easy_to_get_wrong(bench: &mut Bench) -> Outcome {
     })?;
     bench.case("full counts the tree, spent the run", |session, _| {
         session.opened(ring())?;
-        run_told(session, (0, 254), 0, SPENT)?;
-        run_told(session, (0, 255), 0, FULL)?;
-        run_told(session, (0, 0), 0, FULL)?;
-        run_told(session, (S, 0), 0, MET)
+        run_told(session, by_distance(0, 254), 0, SPENT)?;
+        run_told(session, by_distance(0, 255), 0, FULL)?;
+        run_told(session, by_distance(0, 0), 0, FULL)?;
+        run_told(session, by_distance(S, 0), 0, MET)
     })?;
     bench.case("a place of length 64, and of 65", |session, _| play(session, deep()))?;
     bench.case("17 and 18 before 19, 20 after it", |session, _| play(session, full()))?;
@@ -86,19 +86,28 @@ pub fn orders(bench: &mut Bench) -> Outcome {
         bench.case("a table that several numbers concern", |session, _| {
             session.opened(table)?;
             told_number(session, number)?;
-            session.run(S + 1, 256)?;
+            session.run(by_distance(S + 1, 256))?;
             told_number(session, number)?;
+            session.run(by_share(S + 1, 256))?;
+            told_number(session, number)?;
+            session.run(Limits { mode: 2, ..by_distance(S + 1, 256) })?;
+            told_number(session, 3)?;
             session.refine(vec![2], Act::Fault(64))?;
             told_number(session, number)
         })?;
     }
-    bench.case("14 and 15 before 16", |session, _| {
+    bench.case("3, 14 and 15 before 16", |session, _| {
         session.opened(p4())?;
         session.make(Step::Poke(Field::Used, 2))?;
-        run_told(session, (S + 1, 256), 14, NONE)?;
-        run_told(session, (S, 256), 15, NONE)?;
-        run_told(session, (S, 255), 16, NONE)
+        run_told(session, Limits { mode: 2, ..by_distance(S + 1, 256) }, 3, NONE)?;
+        for by in [by_distance, by_share] {
+            run_told(session, by(S + 1, 256), 14, NONE)?;
+            run_told(session, by(S, 256), 15, NONE)?;
+            run_told(session, by(S, 255), 16, NONE)?;
+        }
+        Ok(())
     })?;
+    bench.case("two refusals of a run", |session, _| two_faults(session))?;
     bench.case("16 before 17, 18 and 20", |session, _| {
         session.opened(p4())?;
         let open = Field::Of { record: 0, number: 2 };
@@ -110,6 +119,54 @@ pub fn orders(bench: &mut Bench) -> Outcome {
         Ok(())
     })?;
     bench.case("17, 18 and 20 in turn", |session, _| by_hand(session))
+}
+
+/// What a run is handed: a table, its limits, and a tree, P4's or one that is none.
+struct Handed {
+    table: Table,
+    limits: Limits,
+    overwritten: bool,
+}
+
+/// What makes a run on P4 refused, with the number. None undoes another, but that a table without weights has no weight that is too
+/// large, and one of 65 no fault beyond: the numbers that these keep out come after theirs.
+const FAULTS: [Damage<Handed>; 16] = [
+    (3, |run| run.limits.mode = 2),
+    (3, |run| run.limits.mode = 256),
+    (3, |run| run.limits.mode = (1 << 32) + 1),
+    (9, |run| run.table.weights.clear()),
+    (9, |run| run.table.weights.resize(65, H)),
+    (10, |run| run.table.weights.iter_mut().for_each(|weight| *weight = S as u32 + 1)),
+    (11, |run| run.table.present.resize(129, 1)),
+    (11, |run| run.table.absent.push(0)),
+    (12, |run| run.table.present[1] |= 1 << 63),
+    (12, |run| run.table.absent[0] |= 1 << 40),
+    (13, |run| run.table.absent[0] |= 1),
+    (14, |run| run.limits.allowance = S + 1),
+    (14, |run| run.limits.allowance = u64::MAX),
+    (15, |run| run.limits.budget = 256),
+    (15, |run| run.limits.budget = 1 << 16),
+    (16, |run| run.overwritten = true),
+];
+
+/// Each alone and with each other, by distance and by share.
+fn two_faults(session: &mut Session) -> Outcome {
+    for limits in [by_distance(0, 255), by_share(0, 255)] {
+        for (one, first) in FAULTS {
+            for (other, second) in FAULTS {
+                let mut run = Handed { table: p4(), limits, overwritten: false };
+                first(&mut run);
+                second(&mut run);
+                session.opened(p4())?;
+                session.make(Step::Table(run.table))?;
+                if run.overwritten {
+                    session.make(Step::Poke(Field::Used, 2))?;
+                }
+                run_told(session, run.limits, one.min(other), NONE)?;
+            }
+        }
+    }
+    Ok(())
 }
 
 /// On P4, whose right child is closed once fault 0 is fixed.

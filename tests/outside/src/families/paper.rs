@@ -6,7 +6,7 @@ use crate::session::{Outcome, Session};
 use crate::step::Step;
 use reference::paper::{cases, limits, p3, p4, whole_sheet, H};
 use reference::sheet::{encode, Sheet};
-use reference::{Act, DONE, MET, NONE, S};
+use reference::{by_distance, Act, DISTANCE, DONE, MET, NONE, S, SHARE};
 
 pub fn cases_on_paper(bench: &mut Bench) -> Outcome {
     for case in cases() {
@@ -32,16 +32,16 @@ pub fn run_in_the_tests(bench: &mut Bench) -> Outcome {
     bench.case("P3 with allowance 0 is done, with 1 is met", |session, _| {
         let root = (111_111_110, 111_111_111);
         session.opened(p3())?;
-        session.run(0, 255)?;
+        session.run(by_distance(0, 255))?;
         session.ended(root, 0, DONE, 111_111_110)?;
-        session.run(1, 255)?;
+        session.run(by_distance(1, 255))?;
         session.ended(root, 0, MET, 111_111_110)
     })?;
     bench.case("budget 255 accepted, 256 refused 15", |session, _| {
         session.opened(p4())?;
-        run_told(session, (0, 256), 15, NONE)?;
+        run_told(session, by_distance(0, 256), 15, NONE)?;
         session.told(15, (0, S), 0)?;
-        run_told(session, (0, 255), 0, MET)?;
+        run_told(session, by_distance(0, 255), 0, MET)?;
         session.ended((300_000_000, 300_000_000), 2, MET, 300_000_000)
     })?;
     for (number, table) in limits() {
@@ -64,11 +64,13 @@ fn sized(faults: usize, ways: usize) -> Sheet {
         absent: vec![0; ways],
         allowance: 0,
         budget: 0,
+        mode: DISTANCE,
     }
 }
 
 fn sheet_limits(session: &mut Session) -> Outcome {
     let with_budget = |budget| Sheet { budget, ..sized(1, 1) };
+    let with_mode = |mode| Sheet { mode, ..sized(1, 1) };
     let with_weight = |weight| Sheet { weights: vec![weight], ..sized(1, 1) };
     let top = S as u32;
     let sheets = [
@@ -78,6 +80,10 @@ fn sheet_limits(session: &mut Session) -> Outcome {
         (6, sized(1, 129)),
         (0, with_budget(255)),
         (15, with_budget(256)),
+        (0, with_mode(SHARE)),
+        (3, with_mode(2)),
+        (3, with_mode(256)),
+        (3, with_mode(65_535)),
         (0, with_weight(top)),
         (10, with_weight(top + 1)),
     ];

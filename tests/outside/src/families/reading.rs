@@ -10,7 +10,7 @@ use reference::random::Random;
 use reference::report::report;
 use reference::run::verdict_word;
 use reference::sheet::{cue_table, encode, of_one_cue, Sheet};
-use reference::{Answer, LONGEST_SHEET, MOST_CUES, S};
+use reference::{by_distance, by_share, Answer, LONGEST_SHEET, MOST_CUES, S};
 
 /// The longest text of a report.
 const TEXT: usize = 939;
@@ -85,7 +85,7 @@ fn each_alone(session: &mut Session, sheet: &Sheet) -> Outcome {
     for (position, cue) in sheet.cues.iter().enumerate() {
         session.make(Step::Inside(position))?;
         session.opened(cue_table(sheet, position).unwrap_or_default())?;
-        session.run(sheet.allowance, sheet.budget)?;
+        session.run(sheet.limits())?;
         let Answer { low, high, count, verdict, .. } = session.answer();
         text += &format!("{cue} {low} {high} {count} {}\n", verdict_word(verdict));
     }
@@ -118,11 +118,13 @@ pub fn bytes(bench: &mut Bench) -> Outcome {
 }
 
 /// What makes the rules' sheet refused, with the number. None undoes another, and those that cut it cut enough.
-const FAULTS: [Damage<Vec<u8>>; 15] = [
+const FAULTS: [Damage<Vec<u8>>; 17] = [
     (1, |bytes| bytes.truncate(7)),
     (2, |bytes| put(bytes, 0, &[0, 0])),
     (2, |bytes| put(bytes, 2, &[25, 0])),
+    (3, |bytes| put(bytes, 10, &[2])),
     (3, |bytes| put(bytes, 11, &[1])),
+    (3, |bytes| put(bytes, 10, &[255, 255])),
     (4, |bytes| bytes.truncate(30)),
     (5, |bytes| put(bytes, 12, &[0, 0])),
     (6, |bytes| put(bytes, 22, &[129, 0])),
@@ -184,9 +186,12 @@ pub fn reports(bench: &mut Bench) -> Outcome {
     })?;
     for (name, table) in [("a run that ends full", ring()), ("a run that is done, the tree full", done_and_full())] {
         bench.case(name, |session, _| {
-            let sheet = Sheet { cues: vec![u16::MAX], ..of_one_cue(table, 255) };
-            session.make(Step::Sheet(encode(&sheet)))?;
-            session.make(Step::Report(TEXT))
+            for limits in [by_distance(0, 255), by_share(0, 255)] {
+                let sheet = Sheet { cues: vec![u16::MAX], ..of_one_cue(table.clone(), limits) };
+                session.make(Step::Sheet(encode(&sheet)))?;
+                session.make(Step::Report(TEXT))?;
+            }
+            Ok(())
         })?;
     }
     bench.case("the longest sheet", longest)

@@ -9,7 +9,7 @@ use reference::paper::{every_fault_named, stairs, H};
 use reference::redundant::{cases, sheet, stored, PRINTED, WAYS_BELOW_64};
 use reference::scripts::mostly_open;
 use reference::sheet::{encode, of_one_cue};
-use reference::{Act, Table, MOST_FAULTS, MOST_WAYS};
+use reference::{by_distance, Act, Table, MOST_FAULTS, MOST_WAYS};
 
 /// The two fields of a record that hold the numbers of its ways.
 const WAYSA: usize = WAYS_BELOW_64 as usize;
@@ -36,10 +36,11 @@ pub fn redundant(bench: &mut Bench) -> Outcome {
     })?;
     bench.cases("tables of any size", 40, |session, random| {
         session.opened(random.redundant_table(MOST_FAULTS, MOST_WAYS))?;
-        session.run(0, 3)
+        session.run(by_distance(0, 3))
     })?;
     bench.cases("any sheets of one cue", 300, |session, random| {
-        let sheet = of_one_cue(random.redundant_table(8, 10), 30);
+        let limits = random.narrowest(30, 30);
+        let sheet = of_one_cue(random.redundant_table(8, 10), limits);
         session.make(Step::Sheet(encode(&sheet)))?;
         session.make(Step::Report(100))
     })?;
@@ -62,7 +63,7 @@ fn largest(session: &mut Session) -> Outcome {
     for (table, set) in [(last_stays, &[127][..]), (stairs(), &[63]), (every_fault_named(H), &all)] {
         session.opened(table)?;
         has_set(session, set)?;
-        session.run(0, 1)?;
+        session.run(by_distance(0, 1))?;
     }
     Ok(())
 }
@@ -77,7 +78,7 @@ fn left_out_stored(session: &mut Session) -> Outcome {
         let set = Field::Of { record: record as usize, number: WAYSA };
         must("the record's set of ways", &own, &session.field(set))?;
         session.make(Step::Poke(set, wrong))?;
-        session.run(0, 0)?;
+        session.run(by_distance(0, 0))?;
         told_number(session, 16)?;
         session.refine(vec![], Act::Fault(0))?;
         told_number(session, 16)?;

@@ -12,7 +12,7 @@ use reference::common::repeater;
 use reference::paper::{every_fault_named, largest_ring, stairs, H};
 use reference::random::Random;
 use reference::sheet::{encode, Sheet};
-use reference::{Act, FULL, LONGEST_SHEET, MOST_CUES, MOST_WAYS, S};
+use reference::{by_distance, by_share, Act, FULL, LONGEST_SHEET, MOST_CUES, MOST_WAYS, S, SHARE};
 
 pub fn stack(bench: &mut Bench) -> Outcome {
     bench.case("the largest tables and a full tree", |session, _| trees(session))?;
@@ -32,15 +32,15 @@ fn trees(session: &mut Session) -> Outcome {
     told_number(session, 0)?;
     session.opened(largest_ring())?;
     session.refine(vec![], Act::Fault(63))?;
-    run_told(session, (0, 255), 0, FULL)?;
-    run_told(session, (0, 255), 0, FULL)?;
+    run_told(session, by_distance(0, 255), 0, FULL)?;
+    run_told(session, by_distance(0, 255), 0, FULL)?;
     let (place, act) = open_leaf(session);
     session.refine(place, act)?;
     told_number(session, 19)?;
     session.opened(repeater())?;
     session.refine(vec![], Act::Common)?;
-    run_told(session, (0, 255), 0, FULL)?;
-    run_told(session, (0, 255), 0, FULL)?;
+    run_told(session, by_share(0, 255), 0, FULL)?;
+    run_told(session, by_share(0, 255), 0, FULL)?;
     session.make(Step::Widest(RECORDS))?;
     session.make(Step::Records(1 << 16, vec![Node { kind: 1, live: 1, high: 1, ..Node::default() }]))
 }
@@ -57,6 +57,7 @@ fn longest(session: &mut Session) -> Outcome {
         absent: words(&certain.absent, &ring.absent),
         allowance: 0,
         budget: 255,
+        mode: SHARE,
     };
     session.make(Step::Stack)?;
     session.make(Step::Write(lists.clone(), LONGEST_SHEET))?;

@@ -8,7 +8,7 @@ use crate::step::Step;
 use reference::paper::{largest_ring, limits, p4, ring, stairs};
 use reference::random::Random;
 use reference::scripts::{any_call, mostly_open};
-use reference::{Act, Table, MOST_FAULTS, MOST_WAYS, S};
+use reference::{by_distance, by_share, Act, Table, MOST_FAULTS, MOST_WAYS, S};
 
 const TOP: u32 = S as u32;
 
@@ -32,8 +32,7 @@ pub fn tables(bench: &mut Bench) -> Outcome {
     bench.cases("of any size", 80, |session, random| {
         let table = mostly_open(random, Random::table);
         session.opened(table)?;
-        let budget = random.between(1, 5) as u64;
-        session.run(0, budget)?;
+        session.run(random.narrowest(1, 5))?;
         for _ in 0..4 {
             let (place, act) = random.hand_refinement(session.table(), session.tree());
             session.refine(place, act)?;
@@ -59,7 +58,7 @@ pub fn edges(bench: &mut Bench) -> Outcome {
                 bench.case(&name, |session, random| {
                     let (present, absent) = random.words(faults, ways);
                     session.opened(Table { weights: vec![weight; faults], present, absent })?;
-                    session.run(0, 3)?;
+                    session.run(by_distance(0, 3))?;
                     calls(session, random, if faults < 8 { 5 } else { 0 })
                 })?;
             }
@@ -75,7 +74,7 @@ pub fn refused(bench: &mut Bench) -> Outcome {
         if random.one_in(2) {
             // Over a tree that stands already.
             session.opened(p4())?;
-            session.run(0, 1)?;
+            session.run(by_distance(0, 1))?;
         }
         let number = table.table_number();
         session.opened(table)?;
@@ -84,11 +83,12 @@ pub fn refused(bench: &mut Bench) -> Outcome {
             return Ok(());
         }
         session.refine(vec![], Act::Fault(0))?;
-        session.run(S + 1, 256)?;
+        session.run(by_distance(S + 1, 256))?;
+        session.run(by_share(S + 1, 256))?;
         session.make(Step::Table(p4()))?;
         session.refine(vec![0; 65], Act::Fault(0))?;
         told_number(session, 16)?;
-        session.run(0, 1)?;
+        session.run(by_distance(0, 1))?;
         told_number(session, 16)
     })
 }
@@ -97,7 +97,7 @@ pub fn refused(bench: &mut Bench) -> Outcome {
 pub fn over(bench: &mut Bench) -> Outcome {
     bench.case("over all 511 records", |session, _| {
         session.opened(ring())?;
-        session.run(0, 255)?;
+        session.run(by_distance(0, 255))?;
         let sound = [p4(), stairs(), largest_ring(), ring()].map(|table| (0, table));
         let mut tables = limits().into_iter().chain(sound);
         tables.try_for_each(|(number, table)| over_a_copy(session, table, number))
@@ -124,7 +124,7 @@ fn over_a_copy(session: &mut Session, table: Table, number: u64) -> Outcome {
     session.make(Step::Tree(1))?;
     session.opened(table)?;
     told_number(session, number)?;
-    session.run(0, 2)?;
+    session.run(by_distance(0, 2))?;
     told_number(session, number)?;
     session.make(Step::Tree(0))
 }

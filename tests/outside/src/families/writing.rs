@@ -58,10 +58,13 @@ fn disagree(session: &mut Session, random: &mut Random) -> Outcome {
 }
 
 /// What makes the rules' lists refused, with the number. None undoes another.
-const FAULTS: [Damage<Sheet>; 19] = [
+const FAULTS: [Damage<Sheet>; 22] = [
     (2, |lists| lists.weights.resize(65, 0)),
     (2, |lists| lists.cues = (1..26).collect()),
     (2, |lists| lists.counts.resize(25, 0)),
+    (3, |lists| lists.mode = 2),
+    (3, |lists| lists.mode = 256),
+    (3, |lists| lists.mode = (1 << 32) + 1),
     (5, |lists| replace(&mut lists.cues, 1, 7)),
     (5, |lists| replace(&mut lists.cues, 0, 0)),
     (6, |lists| replace(&mut lists.counts, 0, 129)),

@@ -33,6 +33,7 @@ impl Session {
                 cues: sheet.cues.len() as u64,
                 allowance: sheet.allowance,
                 budget: sheet.budget,
+                mode: sheet.mode,
             },
         };
         let got = self.stack.make(Call::Check, || calls::check(&self.sheet));

@@ -11,7 +11,7 @@ use crate::stack::Stack;
 use crate::step::{parse, Field, Step};
 use crate::tally::{Call, Tally};
 use captures::Lent;
-use reference::{Act, Answer, Table, Tree, NONE};
+use reference::{Act, Answer, Limits, Table, Tree, NONE};
 use std::fmt::Debug;
 use std::fs::File;
 use std::io::Write;
@@ -112,8 +112,8 @@ impl Session {
         self.make(Step::Refine(place, what, fault))
     }
 
-    pub fn run(&mut self, allowance: u64, budget: u64) -> Outcome {
-        self.make(Step::Run(allowance, budget))
+    pub fn run(&mut self, limits: Limits) -> Outcome {
+        self.make(Step::Run(limits))
     }
 
     /// What a call other than a run answered: it has neither verdict nor figure.
@@ -150,7 +150,7 @@ impl Session {
             Step::Version => self.make_version()?,
             Step::Open => self.make_open()?,
             Step::Refine(place, what, fault) => self.make_refine(&place, what, fault)?,
-            Step::Run(allowance, budget) => self.make_run(allowance, budget)?,
+            Step::Run(limits) => self.make_run(limits)?,
             Step::Widest(count) => {
                 let records = self.records().nodes[..count.min(calls::RECORDS)].to_vec();
                 self.make_search(&records)?;

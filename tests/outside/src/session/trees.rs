@@ -8,10 +8,9 @@ use crate::lent::LentTree;
 use crate::records::{self, Refinement, Seen};
 use crate::step::Field;
 use crate::tally::Call;
-use reference::leaf::Interval;
 use reference::run::run;
 use reference::tree::{open, refine_by_hand, Entry};
-use reference::{Act, Answer, Table, Tree, MET};
+use reference::{Act, Answer, Limits, Table, Tree, MET};
 
 /// A tree on both sides.
 #[derive(Clone)]
@@ -92,24 +91,25 @@ impl Session {
         Ok(())
     }
 
-    pub(super) fn make_run(&mut self, allowance: u64, budget: u64) -> Outcome {
+    pub(super) fn make_run(&mut self, limits: Limits) -> Outcome {
         let stack = self.stack;
         self.make_call(
             Call::Run,
-            |tree, table| stack.make(Call::Run, || calls::run(tree, table, allowance, budget)),
-            |tree, table| run(table, tree, allowance, budget),
+            |tree, table| stack.make(Call::Run, || calls::run(tree, table, limits)),
+            |tree, table| run(table, tree, limits),
         )?;
-        self.near(allowance)
+        self.tally.aimed(limits, self.answer());
+        self.near(limits)
     }
 
-    /// At met the exact chance of the table's ways is within the allowance of the library's figure.
-    fn near(&mut self, allowance: u64) -> Outcome {
-        let Answer { verdict, figure, .. } = self.answer();
-        let around = Interval { low: figure.saturating_sub(allowance), high: figure + allowance };
-        let exact = self.exact.as_mut().filter(|_| verdict == MET);
-        match exact.and_then(|exact| exact.encloses(around, &self.table.ways())) {
+    /// What met says of the library's answer, beside the exact chance of the table's ways: it is within the allowance of the figure;
+    /// by share there is a range of numbers, whose first and last are within the share of it.
+    fn near(&mut self, limits: Limits) -> Outcome {
+        let answer = self.answer();
+        let exact = self.exact.as_mut().filter(|_| answer.verdict == MET);
+        match exact.and_then(|exact| exact.is_near(&answer, limits, &self.table.ways())) {
             None => Ok(()),
-            Some(near) => self.same(&format!("{around:?} around the figure"), &true, &near),
+            Some(near) => self.same(&format!("what met says at {answer:?}"), &true, &near),
         }
     }
 

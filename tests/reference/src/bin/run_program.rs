@@ -4,12 +4,15 @@
 
 use reference::child::{written, Written};
 use reference::common::repeater;
-use reference::distances::{self, Case};
+use reference::csv::import;
+use reference::distances;
 use reference::files::stored;
 use reference::paper::{done_and_full, ring, whole_sheet};
 use reference::random::Random;
 use reference::report::{enclosing_lines, report};
-use reference::sheet::{encode, of_one_cue};
+use reference::shares;
+use reference::sheet::{encode, of_one_cue, Sheet};
+use reference::{by_distance, by_share, LONGEST_SHEET, SHARE};
 use std::{env, fs, io};
 
 /// The program under test, where a failing input goes, how many inputs it was run on, and how many of its lines were
@@ -115,12 +118,20 @@ fn main() -> io::Result<()> {
     for i in 0..count {
         program.check(&format!("seeded sheet {i}"), &sheet(&mut random, i))?;
     }
-    program.check("full", &encode(&of_one_cue(ring(), 255)))?;
-    let done = encode(&of_one_cue(done_and_full(), 255));
-    program.check("done before full", &done)?;
-    let paper = encode(&whole_sheet(40));
-    cut(&mut program, "paper", &paper)?;
-    damage(&mut program, "paper", &paper)?;
+    for limits in [by_distance(0, 255), by_share(0, 255)] {
+        let of_one = |table| encode(&of_one_cue(table, limits));
+        program.check("full", &of_one(ring()))?;
+        program.check("done before full", &of_one(done_and_full()))?;
+        program.check("a repeater in 128 ways", &of_one(repeater()))?;
+    }
+    let paper = whole_sheet(40);
+    cut(&mut program, "paper", &encode(&paper))?;
+    damage(&mut program, "paper", &encode(&paper))?;
+    let share = Sheet {
+        mode: SHARE,
+        ..paper
+    };
+    damage(&mut program, "paper by share", &encode(&share))?;
     cut(&mut program, "show", &stored("samples/show.sheet"))?;
     program.check("near", &stored("samples/near.sheet"))?;
     cut(
@@ -130,12 +141,22 @@ fn main() -> io::Result<()> {
     )?;
     cut(&mut program, "common", &stored("samples/common.sheet"))?;
     cut(&mut program, "kept", &stored("samples/kept.sheet"))?;
-    let repeater = encode(&of_one_cue(repeater(), 255));
-    program.check("a repeater in 128 ways", &repeater)?;
-    for (name, sheet, text) in distances::cases().into_iter().map(Case::printed) {
+    cut(&mut program, "share", &stored("samples/share.sheet"))?;
+    program.check("faint", &stored("samples/faint.sheet"))?;
+    let distances = distances::cases().into_iter();
+    let distances = distances.map(distances::Case::printed);
+    let shares = shares::cases().into_iter().map(shares::Case::printed);
+    for (name, sheet, text) in distances.chain(shares) {
         let bytes = encode(&sheet);
         assert_eq!(report(&bytes), text, "{name}");
         program.check(name, &bytes)?;
+    }
+    for (text, printed) in shares::printed() {
+        let mut sheet = vec![0; LONGEST_SHEET];
+        let length = import(&text, &mut sheet).count as usize;
+        sheet.truncate(length);
+        assert_eq!(report(&sheet), printed);
+        program.check("a sheet from a text", &sheet)?;
     }
     let mut longer = encode(&random.longest_sheet());
     longer.resize(60_000, 0);

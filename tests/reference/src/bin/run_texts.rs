@@ -149,7 +149,9 @@ fn listed(programs: &mut Programs) -> io::Result<()> {
 fn samples(programs: &mut Programs) -> io::Result<()> {
     let (text, sheet) = (stored("samples/show.csv"), stored("samples/show.sheet"));
     programs.both_ways("show", &sheet, &text)?;
-    for name in ["paper", "redundant", "near"] {
+    let share = stored("samples/share.csv");
+    programs.both_ways("share", &stored("samples/share.sheet"), &share)?;
+    for name in ["paper", "redundant", "near", "common", "kept", "faint"] {
         let sheet = stored(&format!("samples/{name}.sheet"));
         let text = programs.sheet(name, &sheet)?;
         programs.imports(name, &text, &sheet)?;

@@ -4,7 +4,7 @@
 use super::{joined, MISREAD};
 use crate::leaf::Interval;
 use crate::sheet::Sheet;
-use crate::{Answer, MOST_CUES, MOST_FAULTS, MOST_WAYS, S};
+use crate::{Answer, MOST_CUES, MOST_FAULTS, MOST_WAYS, S, SHARE};
 
 /// A text, with ⏎ for CR LF where it is typed as a string.
 pub struct Figure {
@@ -50,6 +50,9 @@ fn figure(text: &str, number: u64, count: u64) -> Figure {
 /// The rules' worked sheet as text.
 pub const PAPER: &str = "run,10000000,40⏎weights,500000000,500000000,200000000⏎7,1,2⏎7,1,3⏎9⏎";
 
+/// Its cue 7 by a share.
+const SHARED: &str = "run,76923077,255,1⏎weights,500000000,500000000,200000000⏎7,1,2⏎7,1,3⏎";
+
 /// Records of cues behind the first two records.
 fn cues(text: &str, number: u64, count: u64) -> Figure {
     figure(&format!("run,1,2⏎weights,5⏎{text}"), number, count)
@@ -65,6 +68,7 @@ pub fn figures() -> Vec<(&'static str, Vec<Figure>)> {
         ("faults", faults()),
         ("quotes and other bytes", fields()),
         ("sizes", sizes()),
+        ("the third number", modes()),
         ("how many", many()),
     ]
 }
@@ -106,8 +110,6 @@ fn first_records() -> Vec<Figure> {
             "run,+1,2",
             "run,-1,2",
             "run,-0,2",
-            "run,1,2,0",
-            "run,1,2,1",
             "run,1,2,",
             "run,1",
             "run",
@@ -358,6 +360,65 @@ fn sizes() -> Vec<Figure> {
     ]
 }
 
+/// The third number of the first record: 1, bare or quoted, and nothing else.
+fn modes() -> Vec<Figure> {
+    let run = |run: &str, number, count| figure(&format!("{run}⏎weights,5⏎7⏎"), number, count);
+    let accepted = [
+        "run,0,0,1",
+        "run,1,2,1",
+        "run,1,2,\"1\"",
+        "run,1000000000,255,1",
+        "\"run\",\"1\",\"2\",\"1\"",
+    ];
+    let misread = [
+        "run,1,2,0",
+        "run,1,2,2",
+        "run,1,2,3",
+        "run,1,2,10",
+        "run,1,2,11",
+        "run,1,2,01",
+        "run,1,2,256",
+        "run,1,2,257",
+        "run,1,2,65535",
+        "run,1,2,65537",
+        "run,1,2,4294967297",
+        "run,1,2,9999999999",
+        "run,1,2,+1",
+        "run,1,2,-1",
+        "run,1,2, 1",
+        "run,1,2,1 ",
+        "run,1,2,1.0",
+        "run,1,2,\"\"",
+        "run,1,2,\"0\"",
+        "run,1,2,\"2\"",
+        "run,1,2,\"1",
+        "run,1,2,1\"",
+        "run,1,2,\"1\"1",
+        "run,1,2,\"1\"\"\"",
+        "run,1,2,share",
+        "run,1,2,1,",
+        "run,1,2,1,0",
+        "run,1,2,1,1",
+        "run,1,2,,1",
+        "run,1,,1",
+        "run,,2,1",
+        "run,1,1.0,1",
+        "1,2,1",
+    ];
+    let mut all: Vec<Figure> = accepted.iter().map(|text| run(text, 0, 24)).collect();
+    all.extend(misread.iter().map(|text| run(text, MISREAD, 1)));
+    all.extend([
+        run("run,1000000001,255,1", 14, 0),
+        run("run,1000000001,256,1", 14, 0),
+        run("run,1,256,1", 15, 0),
+        figure("run,1,2,1", MISREAD, 2),
+        figure("run,1,2,1⏎", MISREAD, 2),
+        figure("run,1,2,1⏎weights,5⏎", 2, 0),
+        figure("run,1,2,1⏎weights,5,1⏎7,3⏎", 12, 0),
+    ]);
+    all
+}
+
 /// How many weights, cues and ways there may be.
 fn many() -> Vec<Figure> {
     let record = |fields: &[&str]| fields.iter().map(|field| field.to_string()).collect();
@@ -463,6 +524,16 @@ pub fn taken() -> Vec<Taken> {
             "run,0,0⏎weights,0,1,1000000000,300⏎65535,-1,-2,3,4⏎",
         ),
         taken(
+            "\"run\",1,2,\"1\"⏎weights,5⏎7",
+            [
+                &[1, 0, 1, 0, 1, 0, 0, 0, 2, 0, 1, 0],
+                &[7, 0, 0, 0, 24, 0, 0, 0, 5, 0, 0, 0][..],
+            ]
+            .concat(),
+            "run,1,2,1⏎weights,5⏎7⏎",
+        ),
+        taken(SHARED, share_sheet(), SHARED),
+        taken(
             "run,1,2⏎weights,5,5,5⏎7,3,-1⏎",
             [
                 &[3, 0, 1, 0, 1, 0, 0, 0, 2, 0, 0, 0, 7, 0, 1, 0, 32, 0, 0, 0][..],
@@ -477,8 +548,21 @@ pub fn taken() -> Vec<Taken> {
 
 /// The rules' worked sheet, byte for byte.
 fn paper_sheet() -> Vec<u8> {
-    let mut sheet = vec![3, 0, 2, 0, 0x80, 0x96, 0x98, 0, 40, 0, 0, 0];
-    sheet.extend([7, 0, 2, 0, 40, 0, 0, 0, 9, 0, 0, 0, 72, 0, 0, 0]);
+    let head = [3, 0, 2, 0, 0x80, 0x96, 0x98, 0, 40, 0, 0, 0];
+    let contents = [7, 0, 2, 0, 40, 0, 0, 0, 9, 0, 0, 0, 72, 0, 0, 0];
+    [&head[..], &contents, &weights_and_body()].concat()
+}
+
+/// The sheet of `SHARED`, byte for byte.
+fn share_sheet() -> Vec<u8> {
+    let head = [3, 0, 1, 0, 0xc5, 0xc0, 0x95, 0x04, 0xff, 0, 1, 0];
+    let contents = [7, 0, 2, 0, 32, 0, 0, 0];
+    [&head[..], &contents, &weights_and_body()].concat()
+}
+
+/// The weights of both, and the ways of cue 7.
+fn weights_and_body() -> Vec<u8> {
+    let mut sheet = Vec::new();
     sheet.extend([
         0, 0x65, 0xcd, 0x1d, 0, 0x65, 0xcd, 0x1d, 0, 0xc2, 0xeb, 0x0b,
     ]);
@@ -489,7 +573,8 @@ fn paper_sheet() -> Vec<u8> {
     sheet
 }
 
-/// The sheet with the longest text: every number has as many digits as it may, and every way names all faults absent.
+/// The sheet with the longest text: every number has as many digits as it may, the mode is written, and every way names all
+/// faults absent.
 pub fn longest() -> Sheet {
     let ways = MOST_CUES * MOST_WAYS;
     Sheet {
@@ -500,5 +585,6 @@ pub fn longest() -> Sheet {
         absent: vec![u64::MAX; ways],
         allowance: S,
         budget: 255,
+        mode: SHARE,
     }
 }

@@ -7,14 +7,14 @@ pub mod random;
 pub mod stored;
 
 use crate::sheet::{decode, encode, lay, writing_number, Sheet};
-use crate::{Answer, MOST_FAULTS};
+use crate::{Answer, Limits, DISTANCE, MOST_FAULTS, SHARE};
 use std::mem::take;
 
 /// The number of a text that is not of the shapes.
 pub const MISREAD: u64 = 23;
 /// The longest text that export writes, and the longest that import accepts, all fields quoted.
-pub const LONGEST_TEXT: usize = 781_021;
-pub const LONGEST_QUOTED: usize = 1_180_517;
+pub const LONGEST_TEXT: usize = 781_023;
+pub const LONGEST_QUOTED: usize = 1_180_521;
 
 const HIGHEST_CUE: u64 = 65_535;
 const MOST_DIGITS: usize = 10;
@@ -89,8 +89,7 @@ struct Row {
 
 /// A text whose records are all of their shapes.
 struct Listed {
-    allowance: u64,
-    budget: u64,
+    limits: Limits,
     weights: Vec<u64>,
     rows: Vec<Row>,
 }
@@ -111,14 +110,20 @@ fn fault(field: &[u8]) -> Option<i64> {
     Some(sign * number as i64)
 }
 
-/// Allowance and budget.
-fn run(fields: Fields) -> Option<(u64, u64)> {
-    match &fields[..] {
-        [word, allowance, budget] if word == b"run" => {
-            Some((numeral(allowance)?, numeral(budget)?))
+/// Allowance and budget; the mode only where it is 1.
+fn run(fields: Fields) -> Option<Limits> {
+    let (allowance, budget, mode) = match &fields[..] {
+        [word, allowance, budget] if word == b"run" => (allowance, budget, DISTANCE),
+        [word, allowance, budget, mode] if word == b"run" && mode == b"1" => {
+            (allowance, budget, SHARE)
         }
-        _ => None,
-    }
+        _ => return None,
+    };
+    Some(Limits {
+        allowance: numeral(allowance)?,
+        budget: numeral(budget)?,
+        mode,
+    })
 }
 
 fn weights(fields: Fields) -> Option<Vec<u64>> {
@@ -158,7 +163,7 @@ fn follows(before: Option<&Row>, row: &Row) -> bool {
 /// What a text lists, or the number of its first record, from 1, that is missing or not of its shape.
 fn listed(text: &[u8]) -> Result<Listed, u64> {
     let mut records = records(text).into_iter();
-    let (allowance, budget) = records.next().flatten().and_then(run).ok_or(1u64)?;
+    let limits = records.next().flatten().and_then(run).ok_or(1u64)?;
     let weights = records.next().flatten().and_then(weights).ok_or(2u64)?;
     let mut rows: Vec<Row> = Vec::new();
     for (record, number) in records.zip(3..) {
@@ -169,8 +174,7 @@ fn listed(text: &[u8]) -> Result<Listed, u64> {
         rows.push(row);
     }
     Ok(Listed {
-        allowance,
-        budget,
+        limits,
         weights,
         rows,
     })
@@ -183,8 +187,9 @@ impl Listed {
         let weight = |&weight: &u64| u32::try_from(weight).unwrap_or(u32::MAX);
         let mut sheet = Sheet {
             weights: self.weights.iter().map(weight).collect(),
-            allowance: self.allowance,
-            budget: self.budget,
+            allowance: self.limits.allowance,
+            budget: self.limits.budget,
+            mode: self.limits.mode,
             ..Sheet::default()
         };
         for Row { cue, way } in &self.rows {
@@ -252,14 +257,15 @@ pub fn export(bytes: &[u8], space: &mut [u8]) -> Answer {
 pub fn table(sheet: &Sheet) -> Vec<Vec<String>> {
     let word = |word: &str| word.to_string();
     let weights = sheet.weights.iter().map(u32::to_string);
-    let mut records = vec![
-        vec![
-            word("run"),
-            sheet.allowance.to_string(),
-            sheet.budget.to_string(),
-        ],
-        [word("weights")].into_iter().chain(weights).collect(),
+    let mut run = vec![
+        word("run"),
+        sheet.allowance.to_string(),
+        sheet.budget.to_string(),
     ];
+    if sheet.mode == SHARE {
+        run.push(word("1"));
+    }
+    let mut records = vec![run, [word("weights")].into_iter().chain(weights).collect()];
     let mut ways = sheet.present.iter().zip(&sheet.absent);
     for (cue, &count) in sheet.cues.iter().zip(&sheet.counts) {
         if count == 0 {

@@ -3,7 +3,7 @@
 use Rattle.std.proofs.Common.{sym, ◌∙◌}
 use Rattle.rules.specs.Text.{bytes}
 use Rattle.csv_rows.proofs.Pieces.{fields-are, further, alone}
-use Rattle.csv_rows.proofs.Heading.{run-word, run-alone, run-first, run-one, run-second, run-more, run-all}
+use Rattle.csv_rows.proofs.Heading.{run-word, run-alone, run-first, run-one, run-second, run-mode, run-all}
 use Rattle.csv_rows.proofs.heads.run.Goals as goal
 
 pub returns-in_err-rest : goal.returns-in_err-rest
@@ -35,21 +35,22 @@ returns-in_err-budget c =
       fields-are c.in_ok-fields-2.field-0.now,
     ) (run-second _ _ _ _ c.in_err-budget.ensures)
 
-pub returns-in_err-lines : goal.returns-in_err-lines
-returns-in_err-lines c =
+pub returns-in_err-mode : goal.returns-in_err-mode
+returns-in_err-mode c =
     rw (
-      c.from_residual-in_err-lines.ensures,
+      c.from_residual-in_err-mode.ensures,
       (further _ c.in_ok-rest.ensures.1 c.in_ok-fields.ensures).0,
       (further _ c.in_ok-allowance.ensures.1 c.in_ok-fields-2.ensures).0,
       c.in_ok-budget.ensures.1.fields,
-    ) (run-more _ _ _ _ c.in_err-lines.ensures)
+    ) (run-mode _ _ _ _ c.in_err-mode.ensures)
 
 pub returns : goal.returns
 unfolding bytes
 returns c =
     let first = further _ c.in_ok-rest.ensures.1 c.in_ok-fields.ensures in
-    let second = further _ c.in_ok-allowance.ensures.1 c.in_ok-fields-2.ensures in (
-      rw (first.0, second.0, alone c.in_ok-budget.ensures.1 c.in_ok-lines.ensures.0)
-          (run-all _ _ _ c.in_ok-rest.ensures.0 c.in_ok-allowance.ensures.0 c.in_ok-budget.ensures.0),
-      sym (first.1 ∙ second.1 ∙ c.in_ok-budget.ensures.1.lines ∙ c.in_ok-lines.ensures.1),
+    let second = further _ c.in_ok-allowance.ensures.1 c.in_ok-fields-2.ensures in
+    let (mode, lines) = c.in_ok-mode.ensures in (
+      rw (first.0, second.0, c.in_ok-budget.ensures.1.fields)
+          (run-all _ _ _ _ c.in_ok-rest.ensures.0 c.in_ok-allowance.ensures.0 c.in_ok-budget.ensures.0 mode),
+      lines ∙ sym (first.1 ∙ second.1 ∙ c.in_ok-budget.ensures.1.lines),
     )

@@ -3,7 +3,6 @@
 use Rattle.std.proofs.Common.{rules, arith, ◌≡◌, sym, ap, ◌∙◌, subst, List, ℕ, ◌+◌, Result, Ok, Err, false}
 use Rattle.rules.specs.Table.{Table}
 use Rattle.rules.specs.Refusals.{Accepted}
-use Rattle.rules.specs.Calls.{by_hand}
 use Rattle.rules.specs.declared.Kind.{Kind}
 use Rattle.rules.specs.declared.Figures.{Figures}
 use Rattle.rules.specs.declared.Refusal.{Refusal}
@@ -17,7 +16,7 @@ use Rattle.find.proofs.ByHand.{tells_table}
 use Rattle.node.proofs.Words.{same_words}
 use Rattle.dtree.specs.Promises.{root_figures, Refining}
 use Rattle.dtree.proofs.Accepting.{table_refused}
-use Rattle.dtree.proofs.Refuses.{by-table, not-passed, passed-on, hand-bad, not-bad, good, may-room}
+use Rattle.dtree.proofs.Refuses.{hand-table, not-passed, passed-on, hand-bad, not-bad, good, may-room}
 use Rattle.dtree.proofs.ByHand.{by_leaf, made}
 use Rattle.dtree.proofs.One.{refining, refining-refused}
 use Rattle.dtree.proofs.refining.refine.Goals as goal
@@ -25,9 +24,8 @@ use Rattle.dtree.proofs.refining.refine.Goals as goal
 pub returns-in_err-table : goal.returns-in_err-table
 returns-in_err-table c =
     let r = c.in_err-table.field-0.0 in
-    let call = by_hand c.args.place.now c.args.kind in
     record {
-      promise = refining-refused _ _ _ _ _ r (search rules) (by-table _ c.args.tree.now call r (table_refused _ _ _ _ c.accept.ensures r (search rules)));
+      promise = refining-refused _ _ _ _ _ r (search rules) (hand-table _ c.args.tree.now _ _ r (table_refused _ _ _ _ c.accept.ensures r (search rules)));
     }
 
 -- The table that was accepted is the one that the lists make.

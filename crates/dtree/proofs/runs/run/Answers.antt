@@ -1,7 +1,8 @@
--- `run` meets its contract: refused by the table, by the limits or by 16, or made.
+-- `run` meets its contract: refused by the mode, by the table, by the limits or by 16, or made.
 -- Rests on Refuses.antt, Verdicts.antt, on `rules`, Answering, and on the contracts of the functions called.
 use Rattle.std.proofs.Common.{rules, ◌≡◌, sym, ap, ◌∙◌, subst, Result, Ok, Err}
 use Rattle.rules.specs.Table.{Table}
+use Rattle.rules.specs.Refusals.{mode_above}
 use Rattle.rules.specs.Calls.{by_run}
 use Rattle.rules.specs.declared.Limits.{Limits}
 use Rattle.rules.specs.declared.Ended.{Ended}
@@ -9,28 +10,38 @@ use Rattle.rules.specs.declared.Refusal.{Refusal}
 use Rattle.checks.specs.Tables.{table_of}
 use Rattle.records.specs.declared.Tree.{Tree}
 use Rattle.dtree.specs.Promises.{Running}
-use Rattle.dtree.proofs.Accepting.{judged, table_refused, task_refused, task_taken}
+use Rattle.dtree.proofs.Accepting.{judged, mode_refused, mode_taken, table_refused, task_refused, task_taken}
 use Rattle.dtree.proofs.Calling.{refusals_of}
-use Rattle.dtree.proofs.Refuses.{by-table, by-limits, not-passed, passed-on, run-bad, good}
+use Rattle.dtree.proofs.Refuses.{by-mode, run-table, by-limits, not-passed, passed-on, run-bad, good}
 use Rattle.dtree.proofs.Verdicts.{running-refused}
 use Rattle.dtree.proofs.runs.run.Goals as goal
+
+pub returns-in_err-check_mode : goal.returns-in_err-check_mode
+returns-in_err-check_mode c =
+    let r = c.in_err-check_mode.field-0.0 in
+    record {
+      promise = running-refused _ _ _ _ r (search rules)
+          (by-mode _ c.args.tree.now c.args.limits r (mode_refused _ _ c.check_mode.ensures r (search rules)));
+    }
 
 pub returns-in_err-table : goal.returns-in_err-table
 returns-in_err-table c =
     let r = c.in_err-table.field-0.0 in
+    let low = mode_taken _ _ c.check_mode.ensures tt (search rules) in
     record {
       promise = running-refused _ _ _ _ r (search rules)
-          (by-table _ c.args.tree.now (by_run c.args.limits) r (table_refused _ _ _ _ c.accept.ensures r (search rules)));
+          (run-table _ c.args.tree.now c.args.limits low r (table_refused _ _ _ _ c.accept.ensures r (search rules)));
     }
 
 pub returns-in_err-task : goal.returns-in_err-task
 returns-in_err-task c =
     let r = c.in_err-task.field-0.0 in
+    let low = mode_taken _ _ c.check_mode.ensures tt (search rules) in
     let x = c.args.tree.now in
     record {
       promise = subst (λ t. Running t x c.args.limits x c.from_residual-in_err-task.result) c.in_ok-table.ensures.same
           (running-refused (table_of c.in_ok-table.table) x _ _ r (search rules)
-          (by-limits _ c.in_ok-table.table.accepted x _ r (task_refused _ _ c.accept-2.ensures r (search rules))));
+          (by-limits _ c.in_ok-table.table.accepted x _ low r (task_refused _ _ c.accept-2.ensures r (search rules))));
     }
 
 -- The table and the limits that were accepted are those that were handed over.
@@ -45,9 +56,10 @@ pub returns-in_err-test : goal.returns-in_err-test
 returns-in_err-test c =
     let r = c.in_err-test.field-0.0 in
     let x = c.args.tree.now in
+    let low = ap mode_above c.in_ok-task.ensures.same ∙ mode_taken _ _ c.check_mode.ensures tt (search rules) in
     let free = task_taken _ _ c.accept-2.ensures c.in_ok-task.task (search rules) c.in_ok-task.ensures.same in
     let no = not-passed _ _ c.test.ensures r (search rules) in
-    let bad = run-bad _ x _ c.is_good-good.ensures.answer c.in_ok-table.table.accepted _ free no.0 in
+    let bad = run-bad _ x _ c.is_good-good.ensures.answer c.in_ok-table.table.accepted _ low free no.0 in
     record {
       promise = refused-so _ _ c.in_ok-table.ensures.same _ _ c.in_ok-task.ensures.same x _ r (search rules) (bad ∙ ap (λ s. Err s) (sym no.1));
     }
@@ -55,6 +67,7 @@ returns-in_err-test c =
 pub run_good-requires : goal.run_good-requires
 run_good-requires c =
     record {
+      mode = ap mode_above c.in_ok-task.ensures.same ∙ mode_taken _ _ c.check_mode.ensures tt (search rules);
       accepted = task_taken _ _ c.accept-2.ensures c.in_ok-task.task (search rules) c.in_ok-task.ensures.same;
       good = good _ _ _ c.is_good-good.ensures.answer (passed-on _ _ c.test.ensures tt (search rules));
     }

@@ -8,7 +8,8 @@ use Rattle.dtree.proofs.runs.run_good.Goals as goal
 pub returns : goal.returns
 returns c =
     let ran = c.run_on-stopped.ensures in
+    let figure = rw c.aim.ensures.aim at c.figure.ensures in
     record {
       promise = running _ _ _ _ _
-          (ran_so _ c.args.table.accepted _ c.requires.good _ c.requires.accepted _ _ ran _ c.figures.ensures _ refl _ c.figure.ensures);
+          (ran_so _ c.args.table.accepted _ c.requires.good _ c.requires.mode c.requires.accepted _ _ ran _ c.figures.ensures _ refl _ figure);
     }

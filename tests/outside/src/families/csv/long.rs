@@ -66,7 +66,7 @@ const fn text(first: Text, part: Text, last: Text, number: u64, record: (usize, 
 }
 
 /// Each is made as long as it takes. How a narrow word would count records, cues, ways and weights is among the figures.
-const REPEATED: [Repeated; 16] = [
+const REPEATED: [Repeated; 17] = [
     text("run,1,2⏎weights,5⏎", "7,1⏎", "", 6, (0, 0)),
     text("run,1,2⏎weights,5⏎", "7,1⏎", "7", MISREAD, (3, 1)),
     text("run,1,2⏎weights,5⏎", "7⏎8⏎", "", 2, (0, 0)),
@@ -76,6 +76,7 @@ const REPEATED: [Repeated; 16] = [
     text("run,1,2⏎weights", ",5", ",⏎7⏎", MISREAD, (2, 0)),
     text("run", ",1", "⏎weights,5⏎7⏎", MISREAD, (1, 0)),
     text("run,", "1", ",2⏎weights,5⏎7⏎", MISREAD, (1, 0)),
+    text("run,1,2,", "1", "⏎weights,5⏎7⏎", MISREAD, (1, 0)),
     text("run,1,2⏎weights,5⏎", "7", "⏎", MISREAD, (3, 0)),
     text("run,1,2⏎weights,5⏎7,", "-", "1⏎", MISREAD, (3, 0)),
     text("run,1,2⏎weights,5⏎7,\"", "7⏎", "\"⏎", MISREAD, (3, 0)),

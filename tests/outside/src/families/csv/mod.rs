@@ -113,11 +113,21 @@ fn text_length(sheet: &[u8]) -> usize {
     decode(sheet).map_or(0, |sheet| joined(&table(&sheet)).len())
 }
 
-/// A text cut at every length, and with every byte left out, changed to every other, and every byte put before it.
+/// Every byte of a text, and of the first record of texts with a third number.
 fn every_byte(session: &mut Session) -> Outcome {
+    let of = |run: &str| typed(&format!("{run}⏎weights,\"5\",6⏎7,-2,\"1\"⏎7,0⏎9"));
+    let text = of("\"run\",10,4");
+    changed(session, &text, text.len())?;
+    for run in ["run,10,4,1", "\"run\",10,4,\"1\""] {
+        changed(session, &of(run), run.len() + 2)?;
+    }
+    Ok(())
+}
+
+/// A text cut within its first so many bytes, and with each of them left out, changed to every other, and every byte put before it.
+fn changed(session: &mut Session, text: &[u8], front: usize) -> Outcome {
     const AMPLE: usize = 120;
-    let text = typed("\"run\",10,4⏎weights,\"5\",6⏎7,-2,\"1\"⏎7,0⏎9");
-    for at in 0..text.len() {
+    for at in 0..front {
         let (before, after) = (&text[..at], &text[at + 1..]);
         imported(session, before.to_vec(), AMPLE)?;
         imported(session, [before, after].concat(), AMPLE)?;

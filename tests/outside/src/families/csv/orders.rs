@@ -7,7 +7,7 @@ use crate::session::{Outcome, Session};
 use reference::csv::{joined, table, MISREAD};
 use reference::paper::whole_sheet;
 use reference::sheet::{encode, Sheet};
-use reference::S;
+use reference::{DISTANCE, S, SHARE};
 
 pub fn orders(bench: &mut Bench) -> Outcome {
     bench.case("two refusals of import", |session, _| imports(session))?;
@@ -24,8 +24,10 @@ fn record(fields: &str) -> Vec<String> {
 }
 
 /// What makes the text of the rules' sheet refused, with the number. None undoes another.
-const TEXTS: [Damage<Records>; 18] = [
+const TEXTS: [Damage<Records>; 20] = [
     (MISREAD, |records| records[0].push("0".into())),
+    (MISREAD, |records| records[0].push("2".into())),
+    (MISREAD, |records| records[0].extend(["1".into(), "1".into()])),
     (MISREAD, |records| records[1].push(String::new())),
     (MISREAD, |records| records.insert(3, record("7"))),
     (MISREAD, |records| records.insert(2, record("7,2,1,2"))),
@@ -53,16 +55,19 @@ fn earlier(one: u64, other: u64) -> u64 {
     }
 }
 
-/// With ample space, and with none, where 22 applies too. All pairs can be, 10 with 2 where there are too many weights.
+/// With ample space, and with none, where 22 applies too. All pairs can be, 10 with 2 where there are too many weights. In both
+/// modes, and 3 is never answered: no third number but 1 has the shape.
 fn imports(session: &mut Session) -> Outcome {
-    for (one, first) in TEXTS {
-        for (other, second) in TEXTS {
-            let mut records = table(&whole_sheet(40));
-            first(&mut records);
-            second(&mut records);
-            for space in [AMPLE, 0] {
-                imported(session, joined(&records), space)?;
-                told_number(session, earlier(one, other))?;
+    for mode in [DISTANCE, SHARE] {
+        for (one, first) in TEXTS {
+            for (other, second) in TEXTS {
+                let mut records = table(&Sheet { mode, ..whole_sheet(40) });
+                first(&mut records);
+                second(&mut records);
+                for space in [AMPLE, 0] {
+                    imported(session, joined(&records), space)?;
+                    told_number(session, earlier(one, other))?;
+                }
             }
         }
     }
@@ -77,7 +82,7 @@ type Changes = (u64, fn(&mut Sheet), fn(&mut Vec<u8>));
 /// These pairs cannot be: 1 with 5, 6, 7, 10, 12 or 13, whose numbers stand behind the first 11 bytes; 4 with 12 or 13,
 /// whose words stand behind the weights. Some can by one form of 2 only: 10 where there is a weight, 12 where there are no
 /// more than 64 faults, as no word names a higher one.
-const SHEETS: [Changes; 16] = [
+const SHEETS: [Changes; 17] = [
     (2, |lists| lists.weights.clear(), |_| {}),
     (2, |lists| lists.weights.resize(65, 5), |_| {}),
     (2, more_cues, |_| {}),
@@ -89,7 +94,8 @@ const SHEETS: [Changes; 16] = [
     (13, |lists| lists.absent[0] |= 1, |_| {}),
     (14, |lists| lists.allowance = S + 1, |_| {}),
     (15, |lists| lists.budget = 256, |_| {}),
-    (3, |_| {}, |bytes| bytes[10] = 1),
+    (3, |_| {}, |bytes| bytes[10] = 2),
+    (3, |_| {}, |bytes| bytes[11] = 1),
     (7, |_| {}, |bytes| bytes[16] += 1),
     (8, |_| {}, |bytes| bytes.push(0)),
     (4, |_| {}, |bytes| bytes.truncate(bodies(bytes) - 1)),
