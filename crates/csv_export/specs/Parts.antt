@@ -14,11 +14,6 @@ use Rattle.csv_text.specs.Texts.{fault_text, faults_from, or_zero, way_records, 
 abbrev pub Apart : Words → Type 0
 Apart w = bit_and w.present w.absent ≡ 0
 
--- What stands before the digits of a fault.
-abbrev pub before : Bool → List ℕ
-before true = 44 ∷ 45 ∷ []
-before false = 44 ∷ []
-
 -- What stands behind the cue in the record of a way.
 unfoldable pub faults_text : Words → List ℕ
 faults_text w = further_fields (or_zero (map fault_text (faults_from 0 64 w.present w.absent)))

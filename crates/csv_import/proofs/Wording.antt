@@ -1,6 +1,6 @@
 -- The words of one way more, behind those of the ways before it.
 -- Rests on specs, Gather, on `csv_rows`, Fronts, and on the laws of tests (`rules`, Booleans, and the library).
-use Rattle.std.proofs.Common.{◌≡◌, refl, sym, ap, ap₂, ◌∙◌, ℕ, Bool, true, false, ◌||◌, if◌then◌else◌, ltb, List, [], ◌∷◌, ◌++◌, take, Option, Some, None}
+use Rattle.std.proofs.Common.{◌≡◌, refl, sym, ap, ap₂, ◌∙◌, ℕ, Bool, true, false, ◌||◌, if◌then◌else◌, ltb, List, [], ◌∷◌, ◌++◌, take, Option, Some, None, is_some, true≢false}
 use mathlib.Core.Bool.{or-false, or-true, or_assoc}
 use Rattle.std.proofs.Math.Seq.{take-nil}
 use Rattle.rules.specs.Refusals.{some_above}
@@ -74,6 +74,11 @@ module _ (ps qs : List ℕ) (p q : ℕ) where
   -- and where one was.
   pub words-wide : Worded ps qs None → Worded (ps ++ p ∷ []) (qs ++ q ∷ []) None
   words-wide h = wide-more ps qs p q ∙ ap (λ (b : Bool). b || (wide p || wide q)) h
+
+  -- They stay let go.
+  pub words-gone : (o : Option Ways) → is_some o ≡ false → Worded ps qs o → Worded (ps ++ p ∷ []) (qs ++ q ∷ []) o
+  words-gone None e h = words-wide h
+  words-gone (Some w) e h = absurd (true≢false e)
 
   -- Of one with a far fault there are none.
   pub words-far : (o : Option Ways) → Worded ps qs o → Far ≡ named_by p q → Worded (ps ++ p ∷ []) (qs ++ q ∷ []) None

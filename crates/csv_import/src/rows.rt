@@ -42,7 +42,12 @@ impl Rows {
                     ways.add(words);
                 }
             }
-            Some(Named::Far) => self.ways = None,
+            Some(Named::Far) => {
+                // Once: where they are let go, all their words are cleared, as many as a sheet has.
+                if self.ways.is_some() {
+                    self.ways = None;
+                }
+            }
             None => {}
         }
         Ok(())

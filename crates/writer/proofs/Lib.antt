@@ -6,5 +6,6 @@ pub mod Accepted
 mod Little
 mod Sums
 pub mod Over
+mod Around
 pub mod Calls
 mod Writing

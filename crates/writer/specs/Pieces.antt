@@ -1,6 +1,6 @@
 -- Pieces written into an output, one behind the other: what a function that writes one asks for, and what it leaves.
 -- Rests on the lists of the library and on nothing of `rules`.
-use Rattle.std.specs.Prelude.{◌≡◌, List, [], ◌++◌, ℕ, ◌≤◌, length, take, drop}
+use Rattle.std.specs.Prelude.{◌≡◌, Bool, true, false, List, [], ◌∷◌, ◌++◌, ℕ, ◌≤◌, length, take, drop}
 use Rattle.std.specs.Borrow.{MutBor}
 use Rattle.writer.specs.declared.output.Out.{Out}
 
@@ -27,3 +27,8 @@ pub record Wrote (old : Out) (piece : List ℕ) (new : Out) : Type 0 where
   pub loan : new.space.ghost_name ≡ old.space.ghost_name
   pub written : written new ≡ written old ++ piece
   pub left : left new ≡ drop (length piece) (left old)
+
+-- A byte, if it is meant.
+abbrev pub if_meant : Bool → ℕ → List ℕ
+if_meant true b = b ∷ []
+if_meant false b = []

@@ -1,6 +1,6 @@
 //! A lent space that is written from its front, each piece behind the one before it.
 //! A clause sees it by `written` and `left`, and what a call adds by `Room` and `Wrote` (specs/Pieces.antt).
-ghost use Rattle.std.specs.Prelude.{◌≡◌, ◌∷◌, [], ◌≤◌, length};
+ghost use Rattle.std.specs.Prelude.{◌≡◌, ◌∷◌, ◌++◌, [], ◌≤◌, length};
 
 /// A space that the caller lends, since the library has no heap, and how many bytes of it are written.
 /// It has no `Model`, which would hide the loan: its owner would not learn what the space holds afterwards.
@@ -13,7 +13,7 @@ pub struct Out<'a> {
 
 impl<'a> Out<'a> {
     ghost use Rattle.rules.specs.Sheet.{little};
-    ghost use Rattle.writer.specs.Pieces.{Room, Wrote, Opened, written};
+    ghost use Rattle.writer.specs.Pieces.{Room, Wrote, Opened, written, if_meant};
 
     /// Nothing is written yet.
     pub fn new(space: &'a mut [u8]) -> Out<'a>
@@ -36,6 +36,18 @@ impl<'a> Out<'a> {
     {
         self.space[self.at] = byte;
         self.at += 1;
+    }
+
+    /// A byte, another one if it is meant, and a last one. No branch: one that is not meant is written over by the last.
+    pub fn push_around(&mut self, first: u8, middle: u8, meant: bool, last: u8)
+        requires { Room self.old (first ∷ (if_meant meant middle ++ last ∷ [])) }
+        ensures { Wrote self.old (first ∷ (if_meant meant middle ++ last ∷ [])) self.new }
+    {
+        let end = self.at + if meant { 2 } else { 1 };
+        self.space[self.at] = first;
+        self.space[self.at + 1] = middle;
+        self.space[end] = last;
+        self.at = end + 1;
     }
 
     /// Bytes as they are.

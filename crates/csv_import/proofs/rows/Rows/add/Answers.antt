@@ -1,9 +1,9 @@
 -- `add` meets its contract: the cue of the record, and its way, if it has one.
 -- Rests on Gathering.antt and Wording.antt.
-use Rattle.std.proofs.Common.{◌≡◌, subst, Some, Err, rules}
+use Rattle.std.proofs.Common.{◌≡◌, sym, ◌∙◌, subst, Some, Err, rules}
 use Rattle.csv_rows.specs.declared.Named.{Named}
 use Rattle.csv_import.proofs.Gathering.{number-said, way-said, adds-bare, adds-way}
-use Rattle.csv_import.proofs.Wording.{words-near, words-wide, words-far}
+use Rattle.csv_import.proofs.Wording.{words-near, words-wide, words-gone, words-far}
 use Rattle.csv_import.proofs.rows.Rows.add.Goals as goal
 
 pub returns-in_err-add : goal.returns-in_err-add
@@ -28,11 +28,18 @@ returns-in_default c = λ cs r h said.
           (λ ps qs p q w e. rw c.in_default.is (words-wide ps qs p q (rw c.in_default.is at w))),
     )
 
-pub returns-in-Some-Far : goal.returns-in-Some-Far
-returns-in-Some-Far c = λ cs r h said.
+pub returns-then-is_some : goal.returns-then-is_some
+returns-then-is_some c = λ cs r h said.
     let counts = c.in_ok-add.ensures cs _ h.cues (number-said h r _ said) (way-said h r _ said) in (
       counts.0,
       adds-way h r _ said _ (subst (λ (w : Named). c.args.row.way ≡ Some w) (rw c.in-Some-Far.is at c.in-Some-Far.field-0-is) c.in-Some-Far.is) counts.1 _ (λ ps qs p q w e. words-far ps qs p q _ w e),
+    )
+
+pub returns-else-is_some : goal.returns-else-is_some
+returns-else-is_some c = λ cs r h said.
+    let counts = c.in_ok-add.ensures cs _ h.cues (number-said h r _ said) (way-said h r _ said) in (
+      counts.0,
+      adds-way h r _ said _ (subst (λ (w : Named). c.args.row.way ≡ Some w) (rw c.in-Some-Far.is at c.in-Some-Far.field-0-is) c.in-Some-Far.is) counts.1 _ (λ ps qs p q w e. words-gone ps qs p q _ (sym c.is_some.ensures ∙ c.if-is_some.false) w),
     )
 
 pub returns-in-None : goal.returns-in-None
