@@ -4,20 +4,20 @@
 #![tactic(auto)]
 
 use csv_export::export;
-use std::io;
 use std::io::Write;
-use streams::{SHEET_READ, filled, read_up_to};
+use streams::{SHEET_READ, read_front};
 
 /// The length of the longest text.
 const LONGEST: usize = 781023;
 
-// As in cue_import: one function for both would be handed two lengths and the call, which is all that either says.
-/// Fails only for want of memory: a read that fails is taken for the end, and output that cannot be written is lost.
-fn main(rt: HostRuntime) -> io::Result<()> {
-    let sheet = read_up_to(rt.alloc(), rt.reader(), SHEET_READ)?;
-    let _ = match filled(rt.alloc(), LONGEST, |text| export(&sheet, text))? {
-        Ok(text) => rt.stdout().write_all(&text),
+// As in cue_import: one function for both would be handed two spaces and the call, which is all that either says.
+/// It has no way to fail: a read that fails is taken for the end, output that cannot be written is lost, and no memory is asked for.
+fn main(rt: HostRuntime) {
+    let mut sheet = [0; SHEET_READ];
+    let mut text = [0; LONGEST];
+    let read = read_front(&mut rt.stdin(), &mut sheet);
+    let _ = match export(&sheet[..read], &mut text) {
+        Ok(length) => rt.stdout().write_all(&text[..length as usize]),
         Err(refusal) => eprintln!(rt; "{refusal}"),
     };
-    Ok(())
 }

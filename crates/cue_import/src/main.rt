@@ -4,19 +4,19 @@
 #![tactic(auto)]
 
 use csv_import::import;
-use std::io;
 use std::io::Write;
-use streams::{LONGEST_SHEET, filled, read_up_to};
+use streams::{LONGEST_SHEET, read_front};
 
 /// The longest text that is taken has 1,180,521 bytes, every field quoted. One more is read, so that a longer one is not taken for its front.
 const MOST: usize = 1180522;
 
-/// Fails only for want of memory: a read that fails is taken for the end, and output that cannot be written is lost.
-fn main(rt: HostRuntime) -> io::Result<()> {
-    let text = read_up_to(rt.alloc(), rt.reader(), MOST)?;
-    let _ = match filled(rt.alloc(), LONGEST_SHEET, |sheet| import(&text, sheet))? {
-        Ok(sheet) => rt.stdout().write_all(&sheet),
+/// It has no way to fail: a read that fails is taken for the end, output that cannot be written is lost, and no memory is asked for.
+fn main(rt: HostRuntime) {
+    let mut text = [0; MOST];
+    let mut sheet = [0; LONGEST_SHEET];
+    let read = read_front(&mut rt.stdin(), &mut text);
+    let _ = match import(&text[..read], &mut sheet) {
+        Ok(length) => rt.stdout().write_all(&sheet[..length as usize]),
         Err(error) => eprintln!(rt; "{error}"),
     };
-    Ok(())
 }

@@ -18,12 +18,13 @@ use std::{fs, io, str};
 /// The longest name of a log, in bytes.
 const LONGEST_NAME: usize = 4096;
 
-/// Why there is no weight: a refusal; the line of a log that cannot be had; or no memory. Its two `From` are written by hand:
-/// `thiserror` would want a message for each case, and no case is printed by one.
+/// Why there is no weight: a refusal; the line of a log that cannot be had; a name that is too long, whose line needs no memory; or no memory. Its two
+/// `From` are written by hand: `thiserror` would want a message for each case, and no case is printed by one.
 #[derive(Drop)]
 enum Stop {
     Refused(Refusal),
     Lacking(String),
+    TooLong,
     Failed(AllocError),
 }
 
@@ -95,28 +96,23 @@ fn log_in(rt: &(impl Files + AllocGlobal), name: &str) -> Result<Log, Stop> {
     }
 }
 
-/// The name of a log as text, or the line that says that it is none.
-fn as_text(alloc: Global, name: &[u8]) -> Result<String, Stop> {
-    match str::from_utf8(name) {
-        Ok(text) => Ok(String::from_str(alloc, text)?),
-        Err(_) => {
-            let shown = String::from_utf8_lossy(alloc, name)?;
-            Err(Stop::Lacking(format!(in alloc; "{shown}: not in UTF-8")?))
-        }
-    }
+/// The line of a name that is no text.
+fn no_text(alloc: Global, name: &[u8]) -> Result<String, AllocError> {
+    let shown = String::from_utf8_lossy(alloc, name)?;
+    format!(in alloc; "{shown}: not in UTF-8")
 }
 
-/// The name that argument i gives, if there is such an argument. It is not taken from `env::args`, which does not say which name is not in UTF-8.
-/// `Env::arg` fills a lent buffer, and a longer name is told as one.
-fn name_at(rt: &(impl Env + AllocGlobal), i: usize) -> Result<Option<String>, Stop> {
+/// The log that argument i names, if there is such an argument. The name is not taken from `env::args`, which does not say which name is not in UTF-8,
+/// and asks for memory: `Env::arg` fills a lent buffer, and a longer name is told as one.
+fn log_at(rt: &(impl Env + Files + AllocGlobal), i: usize) -> Result<Option<Log>, Stop> {
     let mut name = [0u8; LONGEST_NAME];
     match rt.arg(i, &mut name) {
-        Ok(n) => Ok(Some(as_text(rt.alloc(), &name[..n])?)),
+        Ok(n) => match str::from_utf8(&name[..n]) {
+            Ok(text) => Ok(Some(log_in(rt, text)?)),
+            Err(_) => Err(Stop::Lacking(no_text(rt.alloc(), &name[..n])?)),
+        },
         Err(FillError::NotPresent) => Ok(None),
-        Err(FillError::TooLong) => {
-            let line = "the name of a log: File name too long";
-            Err(Stop::Lacking(String::from_str(rt.alloc(), line)?))
-        }
+        Err(FillError::TooLong) => Err(Stop::TooLong),
     }
 }
 
@@ -125,10 +121,9 @@ fn name_at(rt: &(impl Env + AllocGlobal), i: usize) -> Result<Option<String>, St
 fn weigh(rt: &(impl Env + Files + AllocGlobal)) -> Result<(Fraction, u32), Stop> {
     let mut sum = Fraction::default();
     for i in 1..usize::MAX {
-        let Some(name) = name_at(rt, i)? else {
+        let Some(log) = log_at(rt, i)? else {
             break;
         };
-        let log = log_in(rt, name.as_str())?;
         sum = sum.add(log.counted())?;
     }
     Ok((sum, sum.weight()?))
@@ -140,6 +135,7 @@ fn main(rt: HostRuntime) -> io::Result<()> {
         Ok((sum, weight)) => println!(rt; "{} {} {weight}", sum.discarded, sum.judged),
         Err(Stop::Refused(refusal)) => println!(rt; "{refusal}"),
         Err(Stop::Lacking(line)) => eprintln!(rt; "{line}"),
+        Err(Stop::TooLong) => eprintln!(rt; "the name of a log: File name too long"),
         Err(Stop::Failed(why)) => Err(io::Error::from(why)),
     }
 }

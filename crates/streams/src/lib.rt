@@ -1,8 +1,9 @@
 //! What the programs share: how an input is read, a space that a call fills, and how a program ends. Rests on std alone.
 #![tactic(auto)]
 
-ghost use Rattle.std.specs.Prelude.{◌≡◌, ◌≤◌, IfOk, IfErr, IfSome, take, vec_len};
+ghost use Rattle.std.specs.Prelude.{◌≡◌, ◌≤◌, IfOk, IfErr, IfSome, take, length, vec_len};
 ghost use Rattle.std.specs.Io.{StartsWith};
+ghost use Rattle.std.specs.Io.KnownBytes.{Consumes};
 ghost use Rattle.std.specs.IoError.{error_kind};
 ghost use Rattle.std.specs.declared.io.ErrorKind.{ErrorKind};
 
@@ -16,6 +17,29 @@ pub const LONGEST_SHEET: usize = 49612;
 
 /// As many bytes of a sheet are read, one more than the longest has, so that a longer input is refused as one.
 pub const SHEET_READ: usize = LONGEST_SHEET + 1;
+
+/// Puts what an input has to the front of a space, until it is full, and counts these bytes. A read that a signal interrupts is tried again; one that
+/// fails is taken for the end.
+pub fn read_front<R: Read>(reader: &mut R, space: &mut [u8]) -> usize
+    ensures within { result ≤ length space.new }
+    ensures taken { Consumes (R.remaining reader.old) (R.remaining reader.new) (take result space.new) }
+    ensures front { IfSome (R.remaining reader.old) (λ input. StartsWith (take (length space.old) input) (take result space.new)) }
+{
+    let mut count = 0;
+    // Nothing says that an input ends: the loop gives up as late as those of std do.
+    for _ in 0..u64::MAX {
+        if count >= space.len() {
+            break;
+        }
+        match reader.read(&mut space[count..]) {
+            Ok(0) => break,
+            Ok(n) => count += n,
+            Err(why) if why.kind() == ErrorKind::Interrupted => {}
+            Err(_) => break,
+        }
+    }
+    count
+}
 
 /// What an input has, at most so many bytes from its front on. A read that fails is taken for the end.
 pub fn read_up_to<R: Read + Drop>(
