@@ -1,6 +1,6 @@
 //! The numbers of each answer, and the refinement that numbers ask for.
 //! Rests on the definitions of specs/Numbers.antt, most of which go through `rules`, Answers.
-ghost use Rattle.std.specs.Prelude.{◌≡◌, ◌++◌, length, drop, replicate};
+ghost use Rattle.std.specs.Prelude.{◌≡◌};
 ghost use Rattle.rules.specs.Rounding.{S};
 ghost use Rattle.rules.specs.Refusals.{number};
 ghost use Rattle.rules.specs.Answers.{refused};
@@ -10,7 +10,6 @@ ghost use Rattle.cue_numbers.specs.Numbers.{flat_sheet, flat_entry, no_table, fl
 ghost use Rattle.cue_numbers.specs.Numbers.{flat_fraction, flat_weight, flat_order};
 
 use super::{CueAnswer, CueEntry, CueFraction, CueOrder, CueSheet, CueSpot, CueTable, CueWeight};
-use arrayvec::ArrayVec;
 use captures::Fraction;
 use csv_text::ImportError;
 use rules::{Ended, Entry, Figures, Head, Kind, MOST_FAULTS, MOST_WAYS, Refusal, S};
@@ -202,29 +201,22 @@ impl CueTable {
     }
 }
 
-/// The items of a list, and blanks behind them.
-fn told<T: Copy, const N: usize>(list: &ArrayVec<T, N>, blank: T) -> [T; N]
-    ensures { result ≡ list.now.items ++ drop (length list.now.items) (replicate N blank) }
-{
-    let mut told = [blank; N];
-    told[..list.len()].copy_from_slice(list);
-    told
-}
-
 /// A table that a sheet's reader hands over.
 impl From<TableArrays> for CueTable {
     ghost from_gives = { λ t c. c ≡ flat_table 0 0 (as_table t) };
 
-    #[tactic(auto, using(sheet::proofs::Sized::sizing))]
     fn from(table: TableArrays) -> CueTable {
+        let weights = table.weights;
+        let present = table.present;
+        let absent = table.absent;
         CueTable {
             number: 0,
             past: 0,
-            faults: table.weights.len() as u64,
-            ways: table.present.len() as u64,
-            weights: told(&table.weights, 0),
-            present: told(&table.present, 0),
-            absent: told(&table.absent, 0),
+            faults: table.faults as u64,
+            ways: table.ways as u64,
+            weights,
+            present,
+            absent,
         }
     }
 }

@@ -30,7 +30,7 @@ fn append_lines(text: &mut Report, sheet: Sheet<'_>)
     table.set_weights(raw.weights());
     for entry in sheet.entries() {
         table.set_ways(raw.ways(entry));
-        let answer = run_afresh(&table.weights, &table.present, &table.absent, limits);
+        let answer = run_afresh(table.weights(), table.present(), table.absent(), limits);
         text.append_line(entry.cue, answer);
     }
 }

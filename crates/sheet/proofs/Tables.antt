@@ -108,10 +108,10 @@ module _ (bs : List ℕ) (accepted : read_number bs ≡ 0) (i : ℕ) (inside : i
   unfolding decode sheet_of lists_in
   entry_table d = table_is bs (accepted-few bs accepted) i inside d
 
-  -- So the lists that are handed over are that cue's table.
-  pub entry_parts : (d : Cue) {t : TableArrays} → as_table t ≡ table_at bs (entry_in bs i)
+  -- So what is handed over is that cue's table.
+  pub entry_parts : (d : Cue) (t : TableArrays) → as_table t ≡ table_at bs (entry_in bs i)
       → as_table t ≡ table_of (decode bs).weights (get_or (decode bs).cues i d)
-  entry_parts d e = e ∙ entry_table d
+  entry_parts d t e = e ∙ entry_table d
 
   -- ITS BODY is handed over whole.
   pub entry_body : body_or bs (entry_in bs i) ≡ body_in bs (entry_in bs i)

@@ -1,6 +1,6 @@
--- What is handed over of a cue: its body as a part of the sheet's bytes, and its table as lists of limited length.
+-- What is handed over of a cue: its body as a part of the sheet's bytes, and its table as arrays of fixed length.
 -- Each is defined for every entry, also one that does not come from the bytes. Rests on `rules`, Sheet.
-use Rattle.std.specs.Prelude.{Bool, true, false, List, [], ◌∷◌, ℕ, zero, suc, ◌+◌, ◌*◌, length, leb, take}
+use Rattle.std.specs.Prelude.{◌≡◌, ◌≤◌, Bool, true, false, List, [], ◌∷◌, ℕ, zero, suc, ◌+◌, ◌*◌, length, leb, take}
 use Rattle.rules.specs.Sheet.{column, weights_in, body_in}
 use Rattle.rules.specs.Table.{Table}
 use Rattle.rules.specs.declared.Entry.{Entry}
@@ -29,6 +29,15 @@ table_at bs e =
       absent = take 128 (column 8 16 (e.start + 8) e.ways bs);
     }
 
--- The table that is handed over by value.
+-- The table that is handed over by value: the weights and the words in use.
 abbrev pub as_table : TableArrays → Table
-as_table t = record { weights = t.weights.items; present = t.present.items; absent = t.absent.items }
+as_table t = record { weights = take t.faults t.weights; present = take t.ways t.present; absent = take t.ways t.absent }
+
+-- A table handed over for an entry: which it is, and that its arrays have zeros behind it, so that they can be told whole.
+pub record HandedOver (bs : List ℕ) (e : Entry) (t : TableArrays) : Type 0 where
+  pub table : as_table t ≡ table_at bs e
+  pub faults : t.faults ≤ 64
+  pub ways : t.ways ≤ 128
+  pub weights : t.weights ≡ sized 64 (weights_in bs)
+  pub present : t.present ≡ sized 128 (column 8 16 e.start e.ways bs)
+  pub absent : t.absent ≡ sized 128 (column 8 16 (e.start + 8) e.ways bs)

@@ -1,55 +1,131 @@
-//! The table of a cue by value, for callers that take its lists as slices. Rests on the definitions of Parts and of Handed.
+//! The table of a cue by value, for callers that take its lists as slices. Rests on the definitions of Parts, Kept and Handed.
 //! Of an accepted sheet and one of its entries it is that cue's table (proofs/Tables.antt). Numbers for which there is no room are left out.
 #![tactic(auto, using(crate::proofs::Stated::reading))]
 
-ghost use Rattle.std.specs.Prelude.{◌≡◌, map, take};
-ghost use Rattle.rules.specs.Table.{table};
-ghost use Rattle.sheet.specs.Handed.{table_at, as_table};
+ghost use Rattle.std.specs.Prelude.{◌≡◌};
+ghost use Rattle.sheet.specs.Kept.{Kept};
 
 use super::fields::Raw;
 use super::parts::Parts;
-use arrayvec::ArrayVec;
 use rules::{Entry, MOST_FAULTS, MOST_WAYS, Words};
 
-/// A cue's table: a weight for each fault, a present and an absent word for each way.
-/// No `Copy`, which the kit's `ArrayVec` does not have. Two lists for the ways, as C and a run take them.
-#[derive(Clone, Default, Drop)]
+/// A cue's table: the first `faults` weights, the first `ways` words of each kind, and zeros behind them.
+/// No `ArrayVec`, for a table may be copied, and no list type of its own, which would be two: a generic struct has no array of a type parameter.
+/// Two lists for the ways, as C and a run take them.
+#[derive(Clone, Copy)]
 pub struct TableArrays {
-    pub weights: ArrayVec<u32, MOST_FAULTS>,
-    pub present: ArrayVec<u64, MOST_WAYS>,
-    pub absent: ArrayVec<u64, MOST_WAYS>,
+    pub weights: [u32; MOST_FAULTS],
+    pub faults: usize,
+    pub present: [u64; MOST_WAYS],
+    pub absent: [u64; MOST_WAYS],
+    pub ways: usize,
+    ghost weights_kept: { Kept 64 faults weights },
+    ghost present_kept: { Kept 128 ways present },
+    ghost absent_kept: { Kept 128 ways absent },
+}
+
+impl Default for TableArrays {
+    ghost use Rattle.std.specs.Prelude.{[]};
+    ghost use Rattle.rules.specs.Table.{table};
+    ghost use Rattle.sheet.specs.Handed.{as_table};
+
+    ghost is_default = { λ t. as_table t ≡ table [] [] [] };
+
+    /// No fault and no way.
+    fn default() -> TableArrays {
+        TableArrays {
+            weights: [0; MOST_FAULTS],
+            faults: 0,
+            present: [0; MOST_WAYS],
+            absent: [0; MOST_WAYS],
+            ways: 0,
+        }
+    }
 }
 
 impl TableArrays {
+    ghost use Rattle.std.specs.Prelude.{map, take};
+    ghost use Rattle.rules.specs.Table.{table};
+    ghost use Rattle.sheet.specs.Handed.{as_table};
+
+    /// Its weights.
+    pub fn weights(&self) -> &[u32]
+        ensures { result.now ≡ (as_table self.now).weights }
+    {
+        &self.weights[..self.faults]
+    }
+
+    /// The present words of its ways.
+    pub fn present(&self) -> &[u64]
+        ensures { result.now ≡ (as_table self.now).present }
+    {
+        &self.present[..self.ways]
+    }
+
+    /// The absent words of its ways.
+    pub fn absent(&self) -> &[u64]
+        ensures { result.now ≡ (as_table self.now).absent }
+    {
+        &self.absent[..self.ways]
+    }
+
+    /// It has no weight from now on.
+    fn clear_weights(&mut self)
+        ensures faults { self.new.faults ≡ 0 }
+        ensures present { (as_table self.new).present ≡ (as_table self.old).present }
+        ensures absent { (as_table self.new).absent ≡ (as_table self.old).absent }
+    {
+        while self.faults > 0 {
+            self.faults -= 1;
+            self.weights[self.faults] = 0;
+        }
+    }
+
+    /// It has no way from now on.
+    fn clear_ways(&mut self)
+        ensures ways { self.new.ways ≡ 0 }
+        ensures weights { (as_table self.new).weights ≡ (as_table self.old).weights }
+    {
+        while self.ways > 0 {
+            self.ways -= 1;
+            self.present[self.ways] = 0;
+            self.absent[self.ways] = 0;
+        }
+    }
+
     /// Its weights are these from now on.
     pub fn set_weights(&mut self, weights: Parts<'_, u32>)
-        ensures { as_table self.new ≡ table (take 64 weights.entry) self.old.present.items self.old.absent.items }
+        ensures { as_table self.new ≡ table (take 64 weights.entry) (as_table self.old).present (as_table self.old).absent }
     {
-        self.weights.clear();
+        self.clear_weights();
         for weight in weights.take(MOST_FAULTS) {
-            self.weights.push(weight);
+            self.weights[self.faults] = weight;
+            self.faults += 1;
         }
     }
 
     /// Its ways are these from now on.
     pub fn set_ways(&mut self, ways: Parts<'_, Words>)
-        ensures { as_table self.new ≡ table self.old.weights.items
+        ensures { as_table self.new ≡ table (as_table self.old).weights
             (take 128 (map (λ w. w.present) ways.entry)) (take 128 (map (λ w. w.absent) ways.entry)) }
     {
-        self.present.clear();
-        self.absent.clear();
+        self.clear_ways();
         for way in ways.take(MOST_WAYS) {
-            self.present.push(way.present);
-            self.absent.push(way.absent);
+            self.present[self.ways] = way.present;
+            self.absent[self.ways] = way.absent;
+            self.ways += 1;
         }
     }
 }
 
 impl Raw<'_> {
+    ghost use Rattle.sheet.specs.Handed.{table_at, as_table, HandedOver};
+
     /// The table of an entry, whether or not the entry comes from the sheet.
-    #[tactic(auto, using(crate::proofs::Stated::reading), unfolding(crate::specs::Handed::table_at))]
+    #[tactic(auto, using(crate::proofs::Kept::handing), unfolding(crate::specs::Handed::table_at))]
     pub fn table(self, entry: Entry) -> TableArrays
-        ensures { as_table result ≡ table_at self.entry.bytes.now entry }
+        ensures table { as_table result ≡ table_at self.entry.bytes.now entry }
+        ensures handed { HandedOver self.entry.bytes.now entry result }
     {
         let mut table = TableArrays::default();
         table.set_weights(self.weights());

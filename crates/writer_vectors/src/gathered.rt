@@ -68,11 +68,11 @@ impl Gathered {
     /// Prints a cue and adds it.
     fn add_cue<W: Write>(&mut self, sheet: Sheet, entry: Entry, out: &mut W) -> io::Result<()> {
         let table = sheet.raw().table(entry);
-        print_cue(entry, &table.present, &table.absent, out)?;
+        print_cue(entry, table.present(), table.absent(), out)?;
         self.numbers.push(entry.cue)?;
         self.counts.push(entry.ways)?;
-        self.present.extend_from_slice(&table.present)?;
-        self.absent.extend_from_slice(&table.absent)?;
+        self.present.extend_from_slice(table.present())?;
+        self.absent.extend_from_slice(table.absent())?;
         Ok(())
     }
 

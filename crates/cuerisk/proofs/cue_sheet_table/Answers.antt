@@ -11,7 +11,7 @@ returns-in-Ok-Some c =
     let cue : c.cue_at.result ≡ Ok (Some c.in-Ok-Some.entry) = search rules in
     record {
       promise = table-told bs (λ i. (c.type_inv.sheet i).fits) _ c.cue_at.ensures.answer
-          (c.from.ensures ∙ ap (flat_table 0 0) c.table.ensures ∙ sym (ap (table_for bs) cue));
+          (c.from.ensures ∙ ap (flat_table 0 0) c.table.ensures.table ∙ sym (ap (table_for bs) cue));
     }
 
 pub returns-in-Ok-None : goal.returns-in-Ok-None

@@ -9,6 +9,6 @@ use Rattle.report.proofs.append_lines.Given as goal
 
 abbrev pub invariant-loop-entry : goal.invariant-loop-entry
 invariant-loop-entry l = let bs = l.sheet.bytes.now in record {
-  weights : l.table.weights.items ≡ take 64 (weights_in bs);
+  weights : take l.table.faults l.table.weights ≡ take 64 (weights_in bs);
   lines : appended l.text (entries_text (limits_in bs) bs l.entry-iterator) ≡ appended l.initial.text (entries_text (limits_in bs) bs (entries_in bs));
 }
