@@ -8,6 +8,7 @@ mod reports;
 
 ghost use Rattle.std.specs.Prelude.{◌≡◌};
 ghost use Rattle.rules.specs.Table.{table};
+ghost use Rattle.records.specs.Lent.{tree_of};
 ghost use Rattle.cue_numbers.specs.Numbers.{version, kind_asked};
 ghost use Rattle.cuerisk.specs.Told.{OpeningTold, RefiningTold, RunningTold, SearchTold, ReadingTold, EntryTold, TableTold, lists, WritingTold, ReportingTold};
 ghost use Rattle.captures.specs.Logs.{logs_in};
@@ -19,10 +20,11 @@ use cue_numbers::numbers::kind_asked;
 use cue_numbers::{
     CueAnswer, CueEntry, CueFraction, CueOrder, CueSheet, CueSpot, CueTable, CueWeight,
 };
-use records::{Node, Tree};
+use records::Node;
 use reports::put_text;
 use rules::Limits;
 use sheet::fields::Raw;
+use store::Words;
 use writer::lists::Lists;
 
 /// The version of these structs and calls, to be compared with that of the header.
@@ -36,13 +38,13 @@ pub extern "C" fn cue_version() -> u64
 /// Opens a table. What the tree held before does not matter; refused, it is left without nodes.
 #[unsafe(no_mangle)]
 pub extern "C" fn cue_open(
-    tree: &mut Tree,
+    tree: &mut Words,
     weights: &[u32],
     present: &[u64],
     absent: &[u64],
 ) -> CueAnswer
     ensures promise { OpeningTold (table weights.now present.now absent.now)
-        tree.new result }
+        (tree_of tree.new) result }
 {
     CueAnswer::from(dtree::opening::open(weights, present, absent, tree))
 }
@@ -51,7 +53,7 @@ pub extern "C" fn cue_open(
 /// independence, 1 for the fault and 2 for the common part. Any other `what`, and any fault from 64 on, is refused by 20 where nothing before refuses.
 #[unsafe(no_mangle)]
 pub extern "C" fn cue_refine(
-    tree: &mut Tree,
+    tree: &mut Words,
     weights: &[u32],
     present: &[u64],
     absent: &[u64],
@@ -60,7 +62,7 @@ pub extern "C" fn cue_refine(
     fault: u64,
 ) -> CueAnswer
     ensures promise { RefiningTold (table weights.now present.now absent.now)
-        tree.old place.now (kind_asked what fault) tree.new result }
+        (tree_of tree.old) place.now (kind_asked what fault) (tree_of tree.new) result }
 {
     let kind = kind_asked(what, fault);
     CueAnswer::from(dtree::refining::refine(weights, present, absent, tree, place, kind))
@@ -69,7 +71,7 @@ pub extern "C" fn cue_refine(
 /// Makes a run on the tree. The mode says what the allowance is: 0 a distance, 1 a share of the chance.
 #[unsafe(no_mangle)]
 pub extern "C" fn cue_run(
-    tree: &mut Tree,
+    tree: &mut Words,
     weights: &[u32],
     present: &[u64],
     absent: &[u64],
@@ -78,7 +80,7 @@ pub extern "C" fn cue_run(
     mode: u64,
 ) -> CueAnswer
     ensures promise { RunningTold (table weights.now present.now absent.now)
-        tree.old (record { allowance = allowance; budget = budget; mode = mode }) tree.new result }
+        (tree_of tree.old) (record { allowance = allowance; budget = budget; mode = mode }) (tree_of tree.new) result }
 {
     let limits = Limits {
         allowance,

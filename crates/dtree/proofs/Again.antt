@@ -13,7 +13,7 @@ use Rattle.rules.specs.Tree.{possible}
 use Rattle.rules.specs.Refusals.{Accepted}
 use Rattle.rules.specs.declared.Kind.{Kind}
 use Rattle.rules.proofs.Booleans.{and-false}
-use Rattle.records.specs.Records.{tree_records, layout, children, record_in, is_live, places, record_ways, tree_count, same_nodes, is_good, Good}
+use Rattle.records.specs.Records.{tree_records, layout, children, kind_of, record_in, is_live, places, record_ways, tree_count, same_nodes, is_good, Good}
 use Rattle.records.specs.Growing.{grown_at, may_at, rebuild, same_as, is_good_rebuilt}
 use Rattle.records.specs.declared.Node.{Node}
 use Rattle.records.specs.declared.Tree.{Tree}
@@ -21,7 +21,7 @@ use Rattle.records.specs.Found.{is_full}
 use Rattle.records.specs.Safe.{Safe}
 use Rattle.records.proofs.Rebuilt.{rebuilt_is, good_next}
 use Rattle.records.proofs.SafeTrees.{good_safe}
-use Rattle.records.proofs.Sixteen.{good-sure}
+use Rattle.records.proofs.Sixteen.{good-sure, same-nodes}
 use Rattle.dtree.specs.Remade.{next_at, next_kind, may_next, Remade}
 use Rattle.dtree.proofs.Fresh.{alone-good}
 
@@ -94,6 +94,15 @@ module _ (t : Table) (x y : Tree) where
               ∙ ap (same_as x.nodes) (sym (turn_some t n x y (sym m.said ∙ f))) ∙ a.rest;
         }
 
+-- Nothing is to go, and the records are the same: x is the tree made.
+pub made-so : (t : Table) (x y : Tree) (left : ℕ) → left ≤ 0 → (x.used % 2 ≡ 0 → ⊥) → Answers t x y left → (r : Bool) → r ≡ same_nodes x.nodes y.nodes
+    → r ≡ true → y ≡ x
+unfolding tree_count
+made-so t x y left h odd a r e f =
+    let ns : x.nodes ≡ y.nodes = same-nodes x.nodes y.nodes (sym e ∙ f) in
+    let us : y.used ≡ x.used = omega (arith, a.to_go, h, odd) in
+    λ i. record { nodes = sym ns i; used = us i }
+
 -- ---- what the answer says besides
 
 -- A tree that 16 lets pass is safe.
@@ -152,3 +161,32 @@ module _ (t : Table) (x y z : Tree) where
         let so : z.nodes ≡ grown_at t y.nodes y.used (next_at x y) (next_kind x y) = grown ∙ ap (grown_at t y.nodes y.used (next_at x y)) e in
         let after = good_next t ok y before (next_at x y) (next_kind x y) yes z so more in
         record { said = sym yes; grown = λ _. so; two_more = λ _. more; safe = λ _. good_safe t ok z after; good = λ _. after }
+
+-- ---- the same of the place j that was read
+
+module _ (t : Table) (x y z : Tree) (j : ℕ) (s : j ≡ next_at x y) where
+  -- No such place is there yet.
+  pub beyond_at : y.used ≤ j → Remade t x y z false
+  beyond_at h = beyond t x y z (subst (λ i. y.used ≤ i) s h)
+
+  -- The leaf there is closed.
+  pub closed_at : is_live (record_in y.nodes j) ≡ false → Remade t x y z false
+  closed_at h = closed t x y z (subst (λ i. is_live (record_in y.nodes i) ≡ false) s h)
+
+  module _ (n : Node) (r : n ≡ record_in x.nodes j) (k : Kind) (e : k ≡ kind_of n) (b : Bool) (f : b ≡ possible k (record_ways t (record_in y.nodes j))) where
+    kind_is : k ≡ next_kind x y
+    kind_is = e ∙ ap kind_of r ∙ ap (λ i. kind_of (record_in x.nodes i)) s
+
+    may_is : b ≡ possible k (record_ways t (record_in y.nodes (next_at x y)))
+    may_is = subst (λ i. b ≡ possible k (record_ways t (record_in y.nodes i))) s f
+
+    -- What the record tells is not possible there.
+    pub impossible_at : b ≡ false → Remade t x y z false
+    impossible_at h = impossible t x y z k kind_is b may_is h
+
+    -- It can be made, and it is.
+    pub can_at : b ≡ true → is_full y ≡ false → j < y.used → is_live (record_in y.nodes j) ≡ true → Accepted t → Good t y
+        → z.nodes ≡ grown_at t y.nodes y.used j k → z.used ≡ y.used + 2 → Remade t x y z true
+    can_at o room inside live ok before grown more =
+        can t x y z k kind_is b may_is o room (subst (λ i. i < y.used) s inside) (subst (λ i. is_live (record_in y.nodes i) ≡ true) s live) ok before
+        (subst (λ i. z.nodes ≡ grown_at t y.nodes y.used i k) s grown) more

@@ -12,3 +12,4 @@ mod ByRun
 mod One
 mod Verdicts
 mod TwoRuns
+mod Back

@@ -1,5 +1,5 @@
 //! The opening: a table is accepted with its root leaf, or refused by the first number that applies.
-//! Rests on `checks` for the refusals, on `clauses` and `node` for the root leaf's record, and on `records` for the tree.
+//! Rests on `checks` for the refusals, on `clauses` and `node` for the root leaf's record, and on `store` for the lent tree.
 ghost use Rattle.std.specs.Prelude.{◌≡◌, []};
 ghost use Rattle.rules.specs.Table.{table};
 ghost use Rattle.checks.specs.Tables.{table_of};
@@ -10,8 +10,9 @@ use chances::weights::Weights;
 use checks::accepted::Table;
 use clauses::Clauses;
 use node::leaf_record;
-use records::{Node, Tree};
+use records::Node;
 use rules::{Figures, Refusal};
+use store::Lent;
 
 /// The record of the root leaf of an accepted table.
 pub fn root_leaf(table: Table) -> Node
@@ -21,19 +22,19 @@ pub fn root_leaf(table: Table) -> Node
 }
 
 /// Makes a tree without nodes one that is the root leaf alone: no refinement is made yet.
-pub fn put_root(table: Table, tree: &mut Tree)
-    requires { tree.old ≡ no_nodes }
-    ensures { tree.new ≡ layout (table_of table.entry) [] }
+pub fn put_root<T: Lent>(table: Table, tree: &mut T)
+    requires { T.tree tree.old ≡ no_nodes }
+    ensures { T.tree tree.new ≡ layout (table_of table.entry) [] }
 {
-    tree.nodes[0] = root_leaf(table);
-    tree.used = 1;
+    tree.put_record(0, root_leaf(table));
+    tree.put_used(1);
 }
 
 /// What an accepted call hands back that made so many refinements: the interval then at the root, and their number.
-pub fn figures(tree: &Tree, count: u64) -> Figures
-    ensures { result ≡ root_figures tree.now count }
+pub fn figures<T: Lent>(tree: &T, count: u64) -> Figures
+    ensures { result ≡ root_figures (T.tree tree.now) count }
 {
-    let root = &tree.nodes[0];
+    let root = tree.record(0);
     Figures {
         low: root.low,
         high: root.high,
@@ -43,13 +44,14 @@ pub fn figures(tree: &Tree, count: u64) -> Figures
 
 // The three lists come one by one, here and in the other calls, as C lends them: a struct would be made for one call and taken apart in it.
 /// Opens a table. What the tree held before does not matter.
-pub fn open(
+pub fn open<T: Lent>(
     weights: &[u32],
     present: &[u64],
     absent: &[u64],
-    tree: &mut Tree,
+    tree: &mut T,
 ) -> Result<Figures, Refusal>
-    ensures promise { Opening (table weights.now present.now absent.now) tree.new result }
+    ensures promise { Opening (table weights.now present.now absent.now)
+        (T.tree tree.new) result }
 {
     tree.clear();
     let table = Table::accept(weights, present, absent)?;

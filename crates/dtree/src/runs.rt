@@ -1,5 +1,5 @@
 //! A run: the refinements that its rule picks, at most as many as the budget, or the call is refused by the first number that applies.
-//! Rests on `checks` for 3 and 9 to 15, on the module `sixteen` for 16 and on `running` for the refinements.
+//! Rests on `checks` for 3 and 9 to 15, on the module `sixteen` for 16, on `running` for the refinements and on `store`, by which they are put back.
 ghost use Rattle.std.specs.Prelude.{◌≡◌, false, Ok};
 ghost use Rattle.rules.specs.Run;
 ghost use Rattle.rules.specs.Refusals.{first, mode_above, limit_refusals};
@@ -9,13 +9,14 @@ ghost use Rattle.records.specs.Records.{Good};
 ghost use Rattle.dtree.specs.Promises.{Running};
 
 use super::opening::figures;
-use super::sixteen::is_good;
+use super::sixteen::rebuild;
 use checks::accepted::Table;
 use checks::limits::check_mode;
-use records::{Node, Tree};
+use records::{NO_NODES, Node, Tree};
 use rules::{Aim, Ended, Limits, Refusal};
 use running::Task;
 use running::run::run_on;
+use store::{Lent, put_back};
 
 // The record by value. Tried lent: the proof does not close, for of a lent record it is not known that its ends fit a word.
 /// The figure of a record's interval: by distance low plus half the width, rounded down, and whatever the ends are at most the larger of them; by share 0.
@@ -48,20 +49,24 @@ pub fn run_good(table: Table, tree: &mut Tree, task: Task) -> Ended
 
 /// Refines the widest open leaf, again and again, until the root is narrow enough, nothing is open, or no more may be made. Refused, the
 /// tree is as it was.
-pub fn run(
+#[tactic(auto, unfolding(records::specs::Records::no_nodes))]
+pub fn run<T: Lent>(
     weights: &[u32],
     present: &[u64],
     absent: &[u64],
-    tree: &mut Tree,
+    tree: &mut T,
     limits: Limits,
 ) -> Result<Ended, Refusal>
     ensures promise { Running (table weights.now present.now absent.now)
-        tree.old limits tree.new result }
+        (T.tree tree.old) limits (T.tree tree.new) result }
 {
     check_mode(limits)?;
     let table = Table::accept(weights, present, absent)?;
     let task = Task::accept(limits)?;
-    let good = is_good(table, tree);
+    let mut made = NO_NODES;
+    let good = rebuild(table, tree, &mut made);
     Refusal::NotGood.test(!good)?;
-    Ok(run_good(table, tree, task))
+    let ended = run_good(table, &mut made, task);
+    put_back(tree, &made);
+    Ok(ended)
 }

@@ -1,4 +1,4 @@
-//! A tree's records, all of one layout, the root in record 0; and how many there are. A call is lent its tree and writes it where it is.
+//! A tree's records, all of one layout, the root in record 0; and how many there are.
 //! specs/ says which records a series of refinements gives and how to read the series back; proofs/ that these belong together.
 #![tactic(auto)]
 
@@ -49,7 +49,8 @@ pub struct Node {
 }
 
 /// The records and how many are in use; the others are blank. A tree without nodes has none in use.
-/// An array with a count, and nodes that name each other by index, for the C interface: it is lent in this form, and the library has no heap.
+/// An array with a count, and nodes that name each other by index: so a tree is told in the words that C lends (specs/Lent.antt), and the library has no
+/// heap.
 #[repr(C)]
 #[derive(Clone, Copy)]
 pub struct Tree {
@@ -130,7 +131,7 @@ impl Node {
     }
 
     /// The bits in which the fields of two records differ, all fields together.
-    fn unlike(&self, other: &Node) -> u64
+    pub fn unlike(&self, other: &Node) -> u64
         ensures { eqb result 0 ≡ same_node self.now other.now }
     {
         (self.kind ^ other.kind)

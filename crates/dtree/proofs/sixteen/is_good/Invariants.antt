@@ -1,9 +1,0 @@
--- `is_good` meets its contract. The loop's invariant: what is still to be built answers for the tree.
--- Rests on Again.antt.
-use Rattle.std.proofs.Common.{◌-◌, ◌/◌}
-use Rattle.checks.specs.Tables.{table_of}
-use Rattle.dtree.proofs.Again.{Answers}
-use Rattle.dtree.proofs.sixteen.is_good.Given as goal
-
-abbrev pub invariant-loop : goal.invariant-loop
-invariant-loop l = Answers (table_of l.table) l.tree l.again (l.tree.used / 2 - l.counter)
