@@ -3,14 +3,13 @@
 //! which only one to a `String` says what it writes, and the library has no heap.
 #![tactic(auto, using(crate::proofs::Appending::appending))]
 
-ghost use Rattle.std.specs.Prelude.{◌≡◌, [], ◌∷◌, ◌++◌};
+ghost use Rattle.std.specs.Prelude.{◌≡◌, ◌++◌};
 ghost use Rattle.rules.specs.Refusals.{number};
-ghost use Rattle.rules.specs.Text.{bytes, decimal, word};
+ghost use Rattle.rules.specs.Text.{bytes, word};
 ghost use Rattle.report.specs.Appended.{appended};
 ghost use Rattle.report.specs.Lines.{refused_text, ended_text, answer_text};
 
 use super::text::Report;
-use decimal::digits_of;
 use rules::{Ended, Refusal, Verdict};
 
 impl Report {
@@ -20,14 +19,6 @@ impl Report {
         ensures { self.new ≡ appended self.old (bytes "cue low high steps verdict\n") }
     {
         self.append(b"cue low high steps verdict\n");
-    }
-
-    /// A number in decimal, and a byte behind it.
-    pub fn append_decimal(&mut self, n: u64, end: u8)
-        ensures { self.new ≡ appended self.old (decimal n ++ end ∷ []) }
-    {
-        self.append(digits_of(n).as_slice());
-        self.append(&[end]);
     }
 
     /// The line of a refusal.

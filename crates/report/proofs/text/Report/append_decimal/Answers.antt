@@ -1,0 +1,24 @@
+-- `append_decimal` meets its contract: what fits is written behind the text, and behind that there are the zeros that were there.
+-- Rests on Appending.antt.
+use Rattle.std.proofs.Common.{◌≡◌, [], ◌∷◌, ◌++◌, length, ap, ◌∙◌, arith}
+use Rattle.rules.specs.Text.{decimal}
+use Rattle.report.specs.Appended.{appended}
+use Rattle.report.proofs.Appending.{fits_in, as_long, behind, grown}
+use Rattle.report.proofs.text.Report.append_decimal.Goals as goal
+
+pub invariant_of-self : goal.invariant_of-self
+invariant_of-self c =
+    let r = c.self.inside in
+    let room : length r.bytes ≡ 939 = omega arith in
+    rw (c.append_decimal-self-inside.ensures.count, c.append_decimal-self-inside.ensures.bytes) (
+      fits_in r.bytes r.used (decimal c.args.n ++ c.args.end ∷ []) room c.self.invariant.0,
+      as_long r.bytes r.used (decimal c.args.n ++ c.args.end ∷ []) room c.self.invariant.0,
+      behind r.bytes r.used (decimal c.args.n ++ c.args.end ∷ []) room c.self.invariant.0 c.self.invariant.2,
+    )
+
+pub returns : goal.returns
+returns c =
+    let r = c.self.inside in
+    let room : length r.bytes ≡ 939 = omega arith in
+    rw (c.append_decimal-self-inside.ensures.count, c.append_decimal-self-inside.ensures.bytes)
+    (grown r.bytes r.used (decimal c.args.n ++ c.args.end ∷ []) room c.self.invariant.0 ∙ ap (λ text. appended text (decimal c.args.n ++ c.args.end ∷ [])) c.self.view_is)
