@@ -15,7 +15,7 @@ use Rattle.csv_text.specs.Cut.{raw_fields, unquoted, fields_in}
 use Rattle.csv_text.specs.Shapes.{all_numerals, is_mode, is_run, limits_said, is_weights, weights_said}
 use Rattle.csv_rows.specs.declared.fields.Rest.{Rest}
 use Rattle.csv_rows.specs.Scan.{line_span, first_line, next_lines}
-use Rattle.csv_rows.specs.Fields.{numeral_said, word_said, first_field, fields_left, lines_left, Passed}
+use Rattle.csv_rows.specs.Fields.{numeral_said, word_said, first_field, fields_left, lines_left, bytes_left, Passed}
 use Rattle.csv_rows.specs.Told.{mode_said, run_said, cut_all, weights_kept}
 use Rattle.csv_rows.proofs.Fronts.{kept-next}
 use Rattle.csv_rows.proofs.Pieces.{fields-are, raw-count}
@@ -149,8 +149,8 @@ module _ {t : List ℕ} {n : ℕ} {list : ArrayVec ℕ} {k : ℕ} {rest : Rest} 
       said-not _ _ (sym f.all ∙ bad)
 
   -- One weight more.
-  pub filled-next : (s : List ℕ) (now : ArrayVec ℕ) (x : ℕ) (behind : Rest) → (fields_left rest ≡ fields_in (first_line s)) × (lines_left rest ≡ next_lines s)
-      → numeral_said (first_field s) ≡ Some x → Passed s behind → now.items ≡ take n (list.items ++ min x 4294967295 ∷ []) → Filled t n now (k + 1) behind
+  pub filled-next : (s : List ℕ) (now : ArrayVec ℕ) (x : ℕ) (behind : Rest)
+      → (fields_left rest ≡ fields_in (first_line s)) × (lines_left rest ≡ next_lines s) × (bytes_left rest ≡ s) → numeral_said (first_field s) ≡ Some x → Passed s behind → now.items ≡ take n (list.items ++ min x 4294967295 ∷ []) → Filled t n now (k + 1) behind
   unfolding all_numerals cut_all
   filled-next s now x behind e h p q =
       let is = said-true (is_numeral (first_field s)) (decimal_value (first_field s)) x h in

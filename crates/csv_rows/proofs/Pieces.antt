@@ -9,7 +9,7 @@ use Rattle.csv_text.proofs.Written.{unquoted-quotes}
 use Rattle.csv_rows.specs.declared.fields.Rest.{Rest}
 use Rattle.csv_rows.specs.declared.fields.Rest.TheVariants.{Fields, Lines}
 use Rattle.csv_rows.specs.Scan.{line_span, first_line, next_lines}
-use Rattle.csv_rows.specs.Fields.{Plain, SaysPlain, Longest, Ended, first_piece, first_field, fields_left, lines_left, Passed}
+use Rattle.csv_rows.specs.Fields.{Plain, SaysPlain, Longest, Ended, first_piece, first_field, fields_left, lines_left, bytes_left, Behind, Passed}
 use Rattle.csv_rows.proofs.Scanning.{NoBreak, span-break, line-on, lines-on}
 
 -- ---- the first piece and those behind it
@@ -117,6 +117,7 @@ unfolding first_piece later fields_in
 comma-ends t r h e f = rw (first-byte t 44 h e ∙ ap (λ (s : List ℕ). 44 ∷ s) (sym f)) (
   ap (λ (ls : List (List ℕ)). get_or ls 0 []) (raw-comma r.now),
   record {
+    left = ap (λ (ls : List (List ℕ)). get_or ls 0 [] ++ 44 ∷ r.now) (sym (raw-comma r.now));
     fields = fields-are (44 ∷ r.now) ∙ ap (λ (ls : List (List ℕ)). first_field (44 ∷ r.now) ∷ map unquoted (drop 1 ls)) (raw-comma r.now);
     lines = lines-on 44 r.now (no-break 44 r.now (λ q. omega arith));
   },
@@ -128,7 +129,7 @@ pub break-ends : (t : List ℕ) (r : Bor (List ℕ)) → 1 < length t → get_or
 unfolding raw_fields first_piece later fields_in first_line next_lines
 break-ends t r h e f g =
     rw (first-bytes t 13 10 h e f ∙ ap (λ (s : List ℕ). 13 ∷ 10 ∷ s) (sym g))
-    (rw span (refl, record { fields = fields-are (13 ∷ 10 ∷ r.now) ∙ rw span; lines = rw span }))
+    (rw span (refl, record { fields = fields-are (13 ∷ 10 ∷ r.now) ∙ rw span; lines = rw span; left = inl (rw span) }))
   where
     span : line_span (13 ∷ 10 ∷ r.now) ≡ 0
     span = span-break 13 10 r.now refl
@@ -136,7 +137,7 @@ break-ends t r h e f g =
 -- At the end of the text.
 pub over-ends : (t : List ℕ) (r : Bor (List ℕ)) → length t < 1 → r.now ≡ t → Ended t (Some (Lines r))
 unfolding raw_fields first_piece first_field fields_in first_line next_lines line_span
-over-ends [] r h e = (refl, record { fields = refl; lines = sym e })
+over-ends [] r h e = (refl, record { fields = refl; lines = sym e; left = inr (refl, e) })
 over-ends (b ∷ t) r h e = absurd (omega arith)
 
 -- Elsewhere it goes on.
@@ -276,6 +277,7 @@ module _ {A : Type 0} (says : List ℕ → Option A) (plain : SaysPlain says) wh
     pub broken : (first_piece rest ≡ [] → ⊥) → says (first_field t) ≡ None
     pub behind : later t ≡ later rest
     pub lines : next_lines t ≡ next_lines rest
+    pub front : first_piece rest ≡ [] → t ≡ first_piece t ++ rest
 
   module _ (t rest : List ℕ) (x : A) (l : Longest says t x rest) where
     -- The bytes of which it is said belong to the first field.
@@ -296,6 +298,7 @@ module _ {A : Type 0} (says : List ℕ → Option A) (plain : SaysPlain says) wh
               ap says (field ∙ ap (λ (p : List ℕ). l.front ++ p) f) ∙ l.longest b p s e;
           behind = ap later l.whole ∙ front-goes.behind;
           lines = ap next_lines l.whole ∙ front-goes.lines;
+          front = λ e. l.whole ∙ ap (λ (p : List ℕ). p ++ rest) (sym (piece-is ∙ ap (λ (p : List ℕ). l.front ++ p) e ∙ append-nil l.front));
         }
 
     -- One in quotes that no quote ends.
@@ -336,6 +339,9 @@ module _ {A : Type 0} (says : List ℕ → Option A) (plain : SaysPlain says) wh
             ∙ quoted-not (l.front ++ 34 ∷ b ∷ p) (λ m k. on b p s m e k);
         behind = first.behind ∙ ap later l.whole ∙ goes.behind ∙ quote.behind;
         lines = first.lines ∙ ap next_lines l.whole ∙ goes.lines ∙ quote.lines;
+        front = λ e.
+            ap (λ (p : List ℕ). 34 ∷ p) (l.whole ∙ sym (append_assoc l.front (34 ∷ []) rest))
+            ∙ ap (λ (p : List ℕ). p ++ rest) (sym (field ∙ ap (λ (p : List ℕ). 34 ∷ (l.front ++ 34 ∷ p)) e));
       }
     where
       on : (b : ℕ) (p s m : List ℕ) → rest ≡ b ∷ p ++ s → l.front ++ 34 ∷ b ∷ p ≡ m ++ 34 ∷ [] → says m ≡ None
@@ -344,6 +350,15 @@ module _ {A : Type 0} (says : List ℕ → Option A) (plain : SaysPlain says) wh
           (λ (_, c, _). absurd (omega (arith, ap length c)))
           (λ (q, g, k). ap says k ∙ l.longest 34 q (34 ∷ s) (ap (λ (z : List ℕ). 34 ∷ z) (e ∙ ap (λ (z : List ℕ). z ++ s) g ∙ append_assoc q (34 ∷ []) s)))
           (seam l.front (b ∷ p) m 34 f)
+
+  -- Bytes behind those of a field that ends there.
+  behind-field : (t rest : List ℕ) (r : Rest) → t ≡ first_piece t ++ rest → first_piece rest ≡ [] → Behind rest (first_piece rest) r
+      → Behind t (first_piece t) r
+  behind-field t rest (Fields s) f e b = f ∙ ap (λ (q : List ℕ). first_piece t ++ q) (b ∙ ap (λ (p : List ℕ). p ++ 44 ∷ s.now) e)
+  behind-field t rest (Lines s) f e (inl b) =
+      inl (f ∙ ap (λ (q : List ℕ). first_piece t ++ q) (b ∙ ap (λ (p : List ℕ). p ++ 13 ∷ 10 ∷ s.now) e))
+  behind-field t rest (Lines s) f e (inr (b, n)) =
+      inr (f ∙ ap (λ (q : List ℕ). first_piece t ++ q) (b ∙ e) ∙ append-nil (first_piece t), n)
 
   -- So the field is read.
   pub closed-reads : (t rest : List ℕ) (x : A) (r : Rest) → Closed t x rest → Ended rest (Some r) → (says (first_field t) ≡ Some x) × Passed t r
@@ -355,19 +370,38 @@ module _ {A : Type 0} (says : List ℕ → Option A) (plain : SaysPlain says) wh
           ∙ ap (λ (ls : List (List ℕ)). first_field t ∷ map unquoted ls) c.behind
           ∙ ap (λ (ls : List (List ℕ)). first_field t ∷ drop 1 ls) (sym (fields-are rest) ∙ passed.fields);
       lines = c.lines ∙ passed.lines;
+      left = behind-field t rest r (c.front ends) ends passed.left;
     },
   )
 
 -- ---- from field to field
 
 -- A further field is left,
-pub further : {t : List ℕ} {r : Rest} (s : List ℕ) → Passed t r → (fields_left r ≡ fields_in (first_line s)) × (lines_left r ≡ next_lines s)
-    → (fields_in (first_line t) ≡ first_field t ∷ fields_in (first_line s)) × (next_lines t ≡ next_lines s)
+pub further : {t : List ℕ} {r : Rest} (s : List ℕ) → Passed t r
+    → (fields_left r ≡ fields_in (first_line s)) × (lines_left r ≡ next_lines s) × (bytes_left r ≡ s) → (fields_in (first_line t) ≡ first_field t ∷ fields_in (first_line s)) × (next_lines t ≡ next_lines s)
 further {t} s p f = (p.fields ∙ ap (λ (fs : List (List ℕ)). first_field t ∷ fs) f.0, p.lines ∙ f.1)
 
 -- or that was the last.
 pub alone : {t : List ℕ} {r : Rest} → Passed t r → fields_left r ≡ [] → fields_in (first_line t) ≡ first_field t ∷ []
 alone {t} p f = p.fields ∙ ap (λ (fs : List (List ℕ)). first_field t ∷ fs) f
+
+-- What is left is the end of the text,
+pub suffix : {t : List ℕ} {r : Rest} → Passed t r → (front : List ℕ) × (t ≡ front ++ bytes_left r)
+suffix {t} {r} p = split r p.left
+  where
+    split : (r : Rest) → Behind t (first_piece t) r → (front : List ℕ) × (t ≡ front ++ bytes_left r)
+    split (Fields s) b = (first_piece t ++ 44 ∷ [], b ∙ sym (append_assoc (first_piece t) (44 ∷ []) s.now))
+    split (Lines s) (inl b) = (first_piece t ++ 13 ∷ 10 ∷ [], b ∙ sym (append_assoc (first_piece t) (13 ∷ 10 ∷ []) s.now))
+    split (Lines s) (inr (b, n)) = (t, sym (append-nil t) ∙ ap (λ (q : List ℕ). t ++ q) (sym n))
+
+-- and shorter, if there was a byte.
+pub shorter : {t : List ℕ} {r : Rest} → Passed t r → 0 < length t → length (bytes_left r) < length t
+shorter {t} {r} p h = split r p.left
+  where
+    split : (r : Rest) → Behind t (first_piece t) r → length (bytes_left r) < length t
+    split (Fields s) b = omega (arith, ap length b, length-append (first_piece t) (44 ∷ s.now))
+    split (Lines s) (inl b) = omega (arith, ap length b, length-append (first_piece t) (13 ∷ 10 ∷ s.now))
+    split (Lines s) (inr (b, n)) = omega (arith, h, ap length n)
 
 -- Where fields are left, not all lines behind the record are.
 pub some-left : (r : Rest) {t : Bor (List ℕ)} → r ≡ Fields t → fields_left r ≡ [] → ⊥

@@ -1,6 +1,6 @@
 -- The first field of a text: what the functions that read it tell of it, and of what is left behind it.
 -- Rests on Scan.antt and on `csv_text`, Cut and Shapes.
-use Rattle.std.specs.Prelude.{◌≡◌, ◌≢◌, List, [], ◌∷◌, ◌++◌, ℕ, Option, Some, None, get_or}
+use Rattle.std.specs.Prelude.{◌≡◌, ◌≢◌, ◌⊎◌, List, [], ◌∷◌, ◌++◌, ℕ, Option, Some, None, get_or}
 use Rattle.std.specs.Bool.{then_some}
 use Rattle.std.specs.Borrow.{Bor}
 use Rattle.rules.specs.Sheet.{same_numbers}
@@ -75,20 +75,31 @@ abbrev pub lines_left : Rest → List ℕ
 lines_left (Fields t) = next_lines t.now
 lines_left (Lines t) = t.now
 
+-- The bytes that are left.
+abbrev pub bytes_left : Rest → List ℕ
+bytes_left (Fields t) = t.now
+bytes_left (Lines t) = t.now
+
 -- Further fields are left, or none.
 abbrev pub FieldsIf : Rest → Option (Bor (List ℕ)) → Type 0
 FieldsIf r None = fields_left r ≡ []
-FieldsIf r (Some t) = (fields_left r ≡ fields_in (first_line t.now)) × (lines_left r ≡ next_lines t.now)
+FieldsIf r (Some t) = (fields_left r ≡ fields_in (first_line t.now)) × (lines_left r ≡ next_lines t.now) × (bytes_left r ≡ t.now)
 
 -- None is left, but the lines behind the record; or some is.
 abbrev pub LinesIf : Rest → Option (Bor (List ℕ)) → Type 0
 LinesIf r None = fields_left r ≢ []
 LinesIf r (Some t) = (fields_left r ≡ []) × (lines_left r ≡ t.now)
 
--- What is left behind the first field of a text.
+-- What is left of a text stands in it behind the bytes p and a comma, or behind them and CR LF; or the text ends with them, and no byte is left.
+abbrev pub Behind : List ℕ → List ℕ → Rest → Type 0
+Behind t p (Fields s) = t ≡ p ++ 44 ∷ s.now
+Behind t p (Lines s) = (t ≡ p ++ 13 ∷ 10 ∷ s.now) ⊎ ((t ≡ p) × (s.now ≡ []))
+
+-- What is left behind the first field of a text: which fields and lines, and which bytes of it.
 pub record Passed (t : List ℕ) (r : Rest) : Type 0 where
   pub fields : fields_in (first_line t) ≡ first_field t ∷ fields_left r
   pub lines : next_lines t ≡ lines_left r
+  pub left : Behind t (first_piece t) r
 
 -- A field ends at the front of a text, or goes on there.
 abbrev pub Ended : List ℕ → Option Rest → Type 0
