@@ -5,6 +5,7 @@ pub mod Fronts
 mod Pieces
 pub mod Reading
 mod Heading
+mod Storing
 mod Naming
 mod Faults
 mod Collecting

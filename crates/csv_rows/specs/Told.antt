@@ -1,6 +1,6 @@
 -- What the functions of this crate tell of the first line of a text, given by its fields.
 -- Rests on `csv_text`, Shapes, and on Scan.antt and Walks.antt.
-use Rattle.std.specs.Prelude.{◌≡◌, ◌||◌, if◌then◌else◌, List, [], ◌∷◌, map, take, length, get_or, ℕ, min, ltb, Option, Some, None}
+use Rattle.std.specs.Prelude.{◌≡◌, true, ◌||◌, if◌then◌else◌, List, [], ◌∷◌, ◌++◌, map, take, drop, length, get_or, ℕ, min, ltb, Option, Some, None}
 use Rattle.std.specs.Bool.{then_some}
 use Rattle.std.specs.Borrow.{Bor}
 use Rattle.rules.specs.Sheet.{Cue}
@@ -9,6 +9,7 @@ use Rattle.rules.specs.Text.{decimal_value}
 use Rattle.csv_text.specs.Cut.{fields_in}
 use Rattle.csv_text.specs.Shapes.{is_mode, is_run, limits_said, is_weights, weights_said, fault_in, is_empty_way, is_names, faults_named, is_row, row_in}
 use Rattle.csv_rows.specs.declared.heads.WeightsKept.{WeightsKept}
+use Rattle.csv_rows.specs.declared.heads.WeightsSaid.{WeightsSaid}
 use Rattle.csv_rows.specs.declared.Named.{Named}
 use Rattle.csv_rows.specs.declared.Named.TheVariants.{Near, Far}
 use Rattle.csv_rows.specs.declared.Row.{Row}
@@ -43,6 +44,19 @@ abbrev pub weights_kept : (n : ℕ) → List (List ℕ) → Option (WeightsKept 
 weights_kept n fs =
     then_some (is_weights fs)
     (record { first = record { items = take n (cut_all 4294967295 (weights_said fs)) }; count = length (weights_said fs) })
+
+-- How many weights there are.
+abbrev pub weights_counted : List (List ℕ) → Option WeightsSaid
+weights_counted fs = then_some (is_weights fs) (record { count = length (weights_said fs) })
+
+-- A list with numbers from its front on, as many as it has room for; behind them it is as it was.
+unfoldable pub stored : List ℕ → List ℕ → List ℕ
+stored list xs = take (length list) xs ++ drop (length xs) list
+
+-- A list with the weights of the first line, those above m as m, if that is the record of the weights.
+abbrev pub Stored : List ℕ → ℕ → List ℕ → List ℕ → Type 0
+Stored t m old new =
+    is_weights (fields_in (first_line t)) ≡ true → new ≡ stored old (cut_all m (weights_said (fields_in (first_line t))))
 
 -- ---- ways
 

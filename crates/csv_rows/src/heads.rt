@@ -1,6 +1,7 @@
 //! The first two records of a text: the limits and the weights. Rests on fields.rt and lists.rt.
+ghost use Rattle.std.specs.Prelude.{◌≡◌, length, set};
 ghost use Rattle.csv_rows.specs.Fields.{fields_left, lines_left};
-ghost use Rattle.csv_rows.specs.Told.{ReadsFields, ReadsLine, mode_said, run_said, weights_kept};
+ghost use Rattle.csv_rows.specs.Told.{ReadsFields, ReadsLine, Stored, mode_said, run_said, weights_kept, weights_counted};
 
 use super::fields::{Rest, number_field, word_field};
 use super::lists::keep;
@@ -12,6 +13,12 @@ use rules::Limits;
 #[derive(Drop)]
 pub struct WeightsKept<const N: usize> {
     pub first: ArrayVec<u32, N>,
+    pub count: usize,
+}
+
+/// What a record says of its weights beside those that a lent list takes: how many there are.
+#[derive(Clone, Copy)]
+pub struct WeightsSaid {
     pub count: usize,
 }
 
@@ -60,4 +67,39 @@ pub fn weights<const N: usize>(text: &[u8]) -> Option<(WeightsKept<N>, &[u8])>
         rest = behind;
     }
     Some((WeightsKept { first, count }, rest.lines()?))
+}
+
+/// Stores a weight at its place, if the list reaches that far.
+fn store(list: &mut [u32], place: usize, weight: u32)
+    ensures { list.new ≡ set list.old place weight }
+{
+    if place < list.len() {
+        list[place] = weight;
+    }
+}
+
+// No code here calls it: it stays for its contract (docs/CONTRACTS.md), since N of `weights` is known before the program runs.
+/// The record of the weights, in a list that is lent: as many as it has room for, those above `most` as `most`; all are counted.
+pub fn weights_into<'a>(
+    text: &'a [u8],
+    most: u32,
+    list: &mut [u32],
+) -> Option<(WeightsSaid, &'a [u8])>
+    ensures said { ReadsLine weights_counted text.now result }
+    ensures long { length list.new ≡ length list.old }
+    ensures stored { Stored text.now most list.old list.new }
+{
+    let ((), mut rest) = word_field(text, b"weights")?;
+    let mut place = 0;
+    while let Some(fields) = rest.fields() {
+        let (weight, behind) = number_field(fields)?;
+        store(
+            list,
+            place,
+            u32::try_from(weight).unwrap_or(u32::MAX).min(most),
+        );
+        place += 1;
+        rest = behind;
+    }
+    Some((WeightsSaid { count: place }, rest.lines()?))
 }
