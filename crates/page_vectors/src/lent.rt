@@ -1,10 +1,9 @@
 //! Records that no tree has, lent to the search. Rests on `page` and the records of `records`. Ends stand in figures, which a reader sets beside each
 //! other, row by row; a name would hide which is wider.
 use super::print;
+use output::Output;
 use page::widest;
 use records::{INDEPENDENT_AND, INDEPENDENT_OR, LEAF, NO_NODES, Node, RECORDS, SHANNON};
-use std::alloc::Global;
-use std::io;
 use std::io::Write;
 
 /// What a case says of a record: its kind, its mark, its low and its high. A tuple: no call may stand in a constant, and rows of field names are no
@@ -86,35 +85,33 @@ pub fn record((kind, live, low, high): Fields) -> Node {
 }
 
 /// Records that are all the same.
-pub fn alike<W: Write>(alloc: Global, out: &mut W) -> io::Result<()> {
+pub fn alike<W: Write>(out: &mut Output<W>) {
     for &(fields, count) in ALIKE {
-        let records = vec![in alloc; record(fields); count]?;
-        print(widest(&records), out)?;
+        let records = [record(fields); MANY];
+        print(widest(&records[..count]), out);
     }
-    Ok(())
 }
 
 /// Some of the records count; more and more of them are lent.
-pub fn mixed<W: Write>(out: &mut W) -> io::Result<()> {
+pub fn mixed<W: Write>(out: &mut Output<W>) {
     let mut records = [record((BLANK, CLOSED, 0, 0)); MANY];
     for &(at, fields) in MIXED {
         records[at] = record(fields);
     }
     for &count in FRONTS {
-        print(widest(&records[..count]), out)?;
+        print(widest(&records[..count]), out);
     }
-    Ok(())
 }
 
 /// As many records as a tree has.
-pub fn as_many_as_a_tree<W: Write>(out: &mut W) -> io::Result<()> {
+pub fn as_many_as_a_tree<W: Write>(out: &mut Output<W>) {
     let mut records = [record((BLANK, CLOSED, 0, 0)); RECORDS];
     // none: blanks.
-    print(widest(&records), out)?;
+    print(widest(&records), out);
     // 510: the one that counts.
     records[510] = record((LEAF, OPEN, 0, 1));
-    print(widest(&records), out)?;
+    print(widest(&records), out);
     // 0: as wide and earlier.
     records[0] = record((LEAF, OPEN, 999999999, 1000000000));
-    print(widest(&records), out)
+    print(widest(&records), out);
 }

@@ -7,9 +7,9 @@ mod lines;
 use cue_numbers::CueEntry;
 use cue_reader::Reader;
 use lines::Line;
+use output::Output;
 use std::io;
-use std::io::{BufWriter, Read, Write};
-use streams::only_for_memory;
+use std::io::{Read, Write};
 
 /// The length of the sheet.
 const WHOLE: usize = 72;
@@ -55,33 +55,26 @@ const CASES: &[Case] = &[
 ];
 
 /// Prints the answers of the first calls of a reader opened on the bytes.
-fn drive<W: Write>(sheet: &[u8], calls: usize, out: &mut W) -> io::Result<()> {
+fn drive<W: Write>(sheet: &[u8], calls: usize, out: &mut Output<W>) {
     let mut reader = Reader::open(sheet);
     for _ in 0..calls {
-        writeln!(out, "{}", Line(CueEntry::from(reader.next())))?;
+        writeln!(out, "{}", Line(CueEntry::from(reader.next())));
     }
-    Ok(())
 }
 
 /// Reads the sheet and drives readers over it and over the refused ones.
-fn sheets(rt: &(impl Input + Print + AllocGlobal)) -> io::Result<()> {
+fn main(rt: HostRuntime) {
     let mut sheet = [0; WHOLE];
     // A byte that cannot be read is 0.
     let _ = rt.reader().read_exact(&mut sheet);
-    let mut out = BufWriter::new(rt.alloc(), io::writer(rt))?;
+    let mut out = Output(io::writer(&rt));
     // Cue 7 with 2 ways at 40, cue 9 with none at 72; past the last, and past it again, cue 0 with 0 ways.
-    drive(&sheet, 4, &mut out)?;
+    drive(&sheet, 4, &mut out);
     for &(length, change) in CASES {
         let mut other = sheet;
         if let Some((at, byte)) = change {
             other[at] = byte;
         }
-        drive(&other[..length], 2, &mut out)?;
+        drive(&other[..length], 2, &mut out);
     }
-    out.flush()
-}
-
-/// Output that cannot be written is missed where it is compared.
-fn main(rt: HostRuntime) -> io::Result<()> {
-    only_for_memory(sheets(&rt))
 }

@@ -1,17 +1,12 @@
 //! A sheet of the longest kind: 64 faults, and 24 cues of 128 ways that share faults at random.
 //! The ways come from a xorshift generator, so that they are the same everywhere. Rests on `writer`.
 use rules::{Limits, MOST_CUES, MOST_FAULTS, MOST_WAYS};
-use std::alloc::{AllocError, Global};
-use std::iter::successors;
-use streams::LONGEST_SHEET;
+use std::array;
 use writer::lists::Lists;
 use writer::write;
 
-/// How many cues the sheet has.
-const CUES: u16 = MOST_CUES as u16;
-
-/// How many ways each cue has.
-const WAYS: u16 = MOST_WAYS as u16;
+/// How many ways all cues have together.
+const WAYS: usize = MOST_CUES * MOST_WAYS;
 
 /// The next state of the generator.
 fn next(x: u64) -> u64 {
@@ -35,18 +30,20 @@ fn absent(x: u64) -> u64 {
     bit(x / 262144) & !present(x)
 }
 
-/// The sheet and one zero behind it. The weights are three thousandths for fault 0, and three more for each fault; each way has a state of
-/// the generator.
-pub fn longest(alloc: Global) -> Result<Vec<u8>, AllocError> {
-    let weights: Vec<u32> = (1..=MOST_FAULTS as u32)
-        .map(|fault| 3000000 * fault)
-        .collect(alloc)?;
-    let numbers: Vec<u16> = (1..=CUES).collect(alloc)?;
-    let states: Vec<u64> = successors(Some(next(1)), |&x| Some(next(x)))
-        .take(usize::from(CUES * WAYS))
-        .collect(alloc)?;
-    let present: Vec<u64> = states.iter().map(|&x| present(x)).collect(alloc)?;
-    let absent: Vec<u64> = states.iter().map(|&x| absent(x)).collect(alloc)?;
+/// Puts the sheet to the front of a space. The weights are three thousandths for fault 0, and three more for each fault; each way has a state of
+/// the generator. Not inlined: its lists are to be off the stack when a report is made.
+#[inline(never)]
+pub fn put_longest(space: &mut [u8]) {
+    let weights: [u32; MOST_FAULTS] = array::from_fn(|fault| 3000000 * (fault as u32 + 1));
+    let numbers: [u16; MOST_CUES] = array::from_fn(|cue| cue as u16 + 1);
+    let mut presents = [0; WAYS];
+    let mut absents = [0; WAYS];
+    let mut state = 1;
+    for way in 0..WAYS {
+        state = next(state);
+        presents[way] = present(state);
+        absents[way] = absent(state);
+    }
     let lists = Lists {
         limits: Limits {
             allowance: 62500000,
@@ -55,11 +52,9 @@ pub fn longest(alloc: Global) -> Result<Vec<u8>, AllocError> {
         },
         weights: &weights,
         numbers: &numbers,
-        counts: &[WAYS; CUES as usize],
-        present: &present,
-        absent: &absent,
+        counts: &[MOST_WAYS as u16; MOST_CUES],
+        present: &presents,
+        absent: &absents,
     };
-    let mut sheet = vec![in alloc; 0; LONGEST_SHEET + 1]?;
-    let _ = write(lists, &mut sheet);
-    Ok(sheet)
+    let _ = write(lists, space);
 }

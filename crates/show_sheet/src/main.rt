@@ -1,34 +1,40 @@
-//! A sample: writes the risk sheet of a small show on standard output. Rests on `writer` and `streams`; the show itself stands in show.rt.
+//! A sample: writes the risk sheet of a small show on standard output. Rests on `writer` and `output`; the show itself stands in show.rt.
 //! samples/show.sheet is what it writes, and samples/README.md tells it in words.
 #![tactic(auto)]
 
 mod show;
 
-use rules::Limits;
+use arrayvec::ArrayVec;
+use output::Output;
+use rules::{Limits, MOST_CUES, MOST_WAYS};
 use show::{ALLOWANCE, BUDGET, CUES, Cue, MODE, WEIGHTS};
-use std::io;
-use std::io::Write;
-use streams::{LONGEST_SHEET, filled};
+use std::{array, io};
+use streams::LONGEST_SHEET;
 use writer::lists::Lists;
 use writer::write;
+
+/// How many cues the show has.
+const COUNT: usize = CUES.len();
+
+/// The most ways of all cues together. A show that has more is refused for its cues, whatever its ways are.
+const WAYS: usize = MOST_CUES * MOST_WAYS;
 
 /// How many ways a cue has. A cue that has more than can be counted is refused like one that has too many.
 fn count(cue: &Cue) -> u16 {
     u16::try_from(cue.ways.len()).unwrap_or(u16::MAX)
 }
 
-/// Writes the sheet, or the line of a refusal if the lists are not in order. Fails only for want of memory: output that cannot be written is lost.
-fn main(rt: HostRuntime) -> io::Result<()> {
-    let alloc = rt.alloc();
-    let numbers: Vec<u16> = CUES.iter().map(|cue| cue.number).collect(alloc)?;
-    let counts: Vec<u16> = CUES.iter().map(count).collect(alloc)?;
-    let mut present = Vec::new(alloc);
-    let mut absent = Vec::new(alloc);
+/// Writes the sheet, or the line of a refusal if the lists are not in order.
+fn main(rt: HostRuntime) {
+    let numbers: [u16; COUNT] = array::from_fn(|i| CUES[i].number);
+    let counts: [u16; COUNT] = array::from_fn(|i| count(&CUES[i]));
+    let mut present = ArrayVec::<u64, WAYS>::new();
+    let mut absent = ArrayVec::<u64, WAYS>::new();
     // Two loops. Tried as `flat_map`: the proof does not close, for the closure's answer names a lifetime of its own.
     for cue in CUES {
         for &(with, without) in cue.ways {
-            present.push(with)?;
-            absent.push(without)?;
+            let _ = present.try_push(with);
+            let _ = absent.try_push(without);
         }
     }
     let lists = Lists {
@@ -43,9 +49,10 @@ fn main(rt: HostRuntime) -> io::Result<()> {
         present: &present,
         absent: &absent,
     };
-    let _ = match filled(alloc, LONGEST_SHEET, |sheet| write(lists, sheet))? {
-        Ok(sheet) => rt.stdout().write_all(&sheet),
-        Err(refusal) => println!(rt; "{refusal}"),
-    };
-    Ok(())
+    let mut out = Output(io::writer(&rt));
+    let mut sheet = [0; LONGEST_SHEET];
+    match write(lists, &mut sheet) {
+        Ok(length) => out.write_all(sheet.get(..length as usize).unwrap_or(&sheet)),
+        Err(refusal) => writeln!(out, "{refusal}"),
+    }
 }

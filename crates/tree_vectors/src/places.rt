@@ -3,10 +3,14 @@
 ghost use Rattle.std.specs.Prelude.{◌+◌, ◌<◌, IfSome};
 ghost use Rattle.records.specs.Records.{tree_records};
 
+use arrayvec::ArrayVec;
+use output::Output;
 use records::{Node, RECORDS, Tree};
-use std::alloc::Global;
+use std::fmt;
 use std::io::Write;
-use std::{fmt, io};
+
+/// The most records that wait: one more than were printed.
+const WAITING: usize = RECORDS + 1;
 
 /// The line of a place: leaf, independence, fault or common part as 1, 2, 3, 4, the fault, 1 for an open leaf, and the interval.
 #[derive(Clone, Copy)]
@@ -34,21 +38,20 @@ fn left_child(n: Node) -> Option<usize>
 }
 
 /// Prints a line for each place, at most as many as there are records. The records that are still to be printed wait, the next one last.
-pub fn show<W: Write>(tree: &Tree, alloc: Global, out: &mut W) -> io::Result<()> {
-    let mut waiting = Vec::new(alloc);
+pub fn show<W: Write>(tree: &Tree, out: &mut Output<W>) {
+    let mut waiting = ArrayVec::<usize, WAITING>::new();
     if tree.used != 0 {
-        waiting.push(0)?;
+        waiting.push(0);
     }
-    for _ in 0..RECORDS {
+    'places: for _ in 0..RECORDS {
         let Some(at) = waiting.pop().filter(|&at| at < RECORDS) else {
             break;
         };
         let node = tree.nodes[at];
-        writeln!(out, "{}", Place(node))?;
+        writeln!(out, "{}", Place(node));
         if let Some(left) = left_child(node) {
-            waiting.push(left + 1)?;
-            waiting.push(left)?;
+            waiting.push(left + 1);
+            waiting.push(left);
         }
     }
-    Ok(())
 }

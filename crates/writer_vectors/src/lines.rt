@@ -1,6 +1,6 @@
 //! Printed lines: numbers, and a hash for what is too long to print. Rests on the answers of `rules`.
+use output::Output;
 use rules::{Entry, Head, Limits, MOST_FAULTS, MOST_WAYS, Refusal};
-use std::io;
 use std::io::Write;
 use std::iter::repeat;
 
@@ -22,7 +22,7 @@ fn hash<T: Copy + Into<u64>>(list: &[T], count: usize) -> u64 {
 }
 
 /// Prints what reading finds in the head, and the hash of the weights with zeros behind.
-pub fn print_head<W: Write>(head: Head, weights: &[u32], out: &mut W) -> io::Result<()> {
+pub fn print_head<W: Write>(head: Head, weights: &[u32], out: &mut Output<W>) {
     let Head {
         faults,
         cues,
@@ -33,39 +33,30 @@ pub fn print_head<W: Write>(head: Head, weights: &[u32], out: &mut W) -> io::Res
         budget,
         mode,
     } = limits;
+    let weights = hash(weights, MOST_FAULTS);
+    write!(out, "head");
     writeln!(
         out,
-        "head {faults} {cues} {allowance} {budget} {mode} {}",
-        hash(weights, MOST_FAULTS)
-    )
+        " {faults} {cues} {allowance} {budget} {mode} {weights}"
+    );
 }
 
 /// Prints what reading finds of a cue: number, ways, start of its body, and the hashes of its words with zeros behind.
-pub fn print_cue<W: Write>(
-    entry: Entry,
-    present: &[u64],
-    absent: &[u64],
-    out: &mut W,
-) -> io::Result<()> {
+pub fn print_cue<W: Write>(entry: Entry, present: &[u64], absent: &[u64], out: &mut Output<W>) {
     let Entry { cue, ways, start } = entry;
-    writeln!(
-        out,
-        "cue {cue} {ways} {start} {} {}",
-        hash(present, MOST_WAYS),
-        hash(absent, MOST_WAYS)
-    )
+    let present = hash(present, MOST_WAYS);
+    let absent = hash(absent, MOST_WAYS);
+    write!(out, "cue");
+    writeln!(out, " {cue} {ways} {start} {present} {absent}");
 }
 
 /// Prints what the writer answered, behind a name, and the hash of the whole space afterwards.
-pub fn print_written<W: Write>(
-    answer: Result<u64, Refusal>,
-    space: &[u8],
-    out: &mut W,
-) -> io::Result<()> {
+pub fn print_written<W: Write>(answer: Result<u64, Refusal>, space: &[u8], out: &mut Output<W>) {
     // By hand: `CueAnswer` would bring in the whole C interface for one line.
     let (number, count) = match answer {
         Ok(count) => (0, count),
         Err(refusal) => (u64::from(refusal), 0),
     };
-    writeln!(out, " {number} {count} {}", hash(space, space.len()))
+    let space = hash(space, space.len());
+    writeln!(out, " {number} {count} {space}");
 }

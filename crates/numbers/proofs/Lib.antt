@@ -1,2 +1,0 @@
--- The proofs of what test programs read.
-mod Whole
