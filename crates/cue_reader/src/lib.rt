@@ -39,7 +39,6 @@ impl<'a> Reader<'a> {
 }
 
 /// The answer of the call that follows so many calls of a reader opened on the sheet.
-/// No code here calls it: it stays for its contract (docs/CONTRACTS.md).
 pub fn call_after(sheet: &[u8], calls: usize) -> Result<Option<Entry>, Refusal>
     ensures answer { result ≡ call_answer sheet.now calls }
 {

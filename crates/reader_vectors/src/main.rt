@@ -5,7 +5,7 @@
 mod lines;
 
 use cue_numbers::CueEntry;
-use cue_reader::Reader;
+use cue_reader::call_after;
 use lines::Line;
 use output::Output;
 use std::io;
@@ -56,9 +56,8 @@ const CASES: &[Case] = &[
 
 /// Prints the answers of the first calls of a reader opened on the bytes.
 fn drive<W: Write>(sheet: &[u8], calls: usize, out: &mut Output<W>) {
-    let mut reader = Reader::open(sheet);
-    for _ in 0..calls {
-        writeln!(out, "{}", Line(CueEntry::from(reader.next())));
+    for made in 0..calls {
+        writeln!(out, "{}", Line(CueEntry::from(call_after(sheet, made))));
     }
 }
 
