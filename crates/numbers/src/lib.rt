@@ -2,31 +2,69 @@
 //! Past the end of the input, or where it cannot be read, every number is 0. Rests on std and on `arrayvec`.
 #![tactic(auto)]
 
-ghost use Rattle.std.specs.Prelude.{◌≡◌, ◌+◌, ◌-◌, ◌*◌, ◌^◌, ◌<◌, ◌≤◌, min};
+ghost use Rattle.std.specs.Prelude.{◌≡◌, ◌+◌, ◌-◌, ◌*◌, ◌^◌, ◌<◌, ◌≤◌, min, IfOk, vec_len};
 ghost use Rattle.std.specs.Io.Iter.{bytes_remaining};
+ghost use Rattle.std.specs.Io.Buffered.{reader_remaining};
 ghost use Rattle.arrayvec.specs.ArrayVec.{array_vec_len};
 
 use arrayvec::ArrayVec;
-use std::io::{Bytes, Read};
+use std::alloc::{AllocError, Global};
+use std::io;
+use std::io::{BufReader, Bytes, Read};
+
+#[cfg(test)]
+mod tests;
 
 /// The most digits of a number.
 const DIGITS: usize = 20;
 
-/// The numbers that are left of an input. It is read a byte at a time, so that what stands behind the last number is left to who reads next.
+/// The numbers that are left of an input, and the memory for lists of them: `()` where they take none.
 #[derive(Drop)]
-pub struct Numbers<R> {
+pub struct Numbers<R, A = Global> {
     bytes: Bytes<R>,
+    pub alloc: A,
 }
 
-impl<R: Read + Drop> Numbers<R> {
-    /// The numbers of an input.
-    pub fn new(reader: R) -> Self
+impl<R: Read + Drop> Numbers<BufReader<R>> {
+    /// The numbers of an input, which is read through a buffer.
+    #[tactic(auto, using(crate::proofs::Whole::whole))]
+    pub fn new(alloc: Global, reader: R) -> io::Result<Self>
+        ensures { IfOk result (λ numbers. bytes_remaining (reader_remaining R.remaining) numbers.bytes ≡ R.remaining reader) }
+    {
+        let bytes = BufReader::new(alloc, reader)?.bytes();
+        Ok(Numbers { bytes, alloc })
+    }
+}
+
+impl<R: Read + Drop> Numbers<R, ()> {
+    /// The numbers of an input, which is read a byte at a time, so that what stands behind the last number is left to who reads next.
+    pub fn unbuffered(reader: R) -> Self
         ensures { bytes_remaining R.remaining result.bytes ≡ R.remaining reader }
     {
         let bytes = reader.bytes();
-        Numbers { bytes }
+        Numbers { bytes, alloc: () }
     }
+}
 
+impl<R: Read + Drop> Numbers<R> {
+    /// The next numbers as a list; one that its type does not hold counts as `most`.
+    pub fn list<T: TryFrom<u64> + Copy>(
+        &mut self,
+        count: usize,
+        most: T,
+    ) -> Result<Vec<T>, AllocError>
+    where
+        T::Error: Drop,
+        ensures { IfOk result (λ list. vec_len list ≡ count) }
+    {
+        let alloc = self.alloc;
+        (0..count)
+            .map(|_| T::try_from(self.number()).unwrap_or(most))
+            .collect(alloc)
+    }
+}
+
+impl<R: Read + Drop, A: Drop> Numbers<R, A> {
     /// The next byte; 0 past the end, which both callers take for one that is no digit and no colon: by an `Option` they would be no plainer.
     pub fn byte(&mut self) -> u8 {
         match self.bytes.next() {
@@ -56,8 +94,8 @@ impl<R: Read + Drop> Numbers<R> {
         usize::try_from(self.number()).unwrap_or(most).min(most)
     }
 
-    /// The next numbers as a list, as many as are asked for and there is room for; one that its type does not hold counts as `most`.
-    pub fn list<T: TryFrom<u64> + Default + Copy, const N: usize>(
+    /// The next numbers as an array, as many as are asked for and there is room for; one that its type does not hold counts as `most`.
+    pub fn array<T: TryFrom<u64> + Default + Copy, const N: usize>(
         &mut self,
         count: usize,
         most: T,

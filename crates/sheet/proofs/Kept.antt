@@ -1,8 +1,8 @@
 -- An array of which the first numbers are meant, with zeros behind them: one number more, one less, and the array as the list that is meant.
 -- Rests on the kit's laws of `drop` and `set`, on Sized.antt, and on Stated.antt for the parts that are read.
-use Rattle.std.proofs.Common.{◌≡◌, ℕ, zero, suc, ◌+◌, ◌-◌, ◌<◌, ◌≤◌, List, [], ◌∷◌, ◌++◌, length, take, drop, set, replicate, refl, sym, ap, ◌∙◌, arith}
+use Rattle.std.proofs.Common.{◌≡◌, ℕ, zero, suc, ◌+◌, ◌-◌, ◌<◌, ◌≤◌, List, [], ◌∷◌, ◌++◌, length, take, drop, set, replicate, min, refl, sym, ap, ◌∙◌, arith}
 use Rattle.std.proofs.Common.{append-nil, length-take-le, length-set}
-use Rattle.std.proofs.lemmas.List.{drop-set, drop-set-lt, drop-drop, drop-replicate, take-append-drop}
+use Rattle.std.proofs.lemmas.List.{drop-set, drop-set-lt, drop-drop, drop-replicate, take-append-drop, length-take}
 use Rattle.rules.specs.Sheet.{column, weights_in}
 use Rattle.rules.specs.Table.{Table}
 use Rattle.rules.specs.declared.Entry.{Entry}
@@ -58,6 +58,10 @@ module _ {m n : ℕ} {xs : List ℕ} (kept : Kept m n xs) where
       ∙ ap (λ k. take n xs ++ drop k (replicate m 0)) in_use
       ∙ ap (λ zs. take n xs ++ zs) (drop-replicate n m 0 ∙ sym kept.behind)
       ∙ take-append-drop n xs)
+
+-- Where those that are meant are all that have room, as many are meant as there are numbers, up to the room.
+pub as_many : {m n : ℕ} {xs : List ℕ} (all : List ℕ) → Kept m n xs → take n xs ≡ take m all → n ≡ min m (length all)
+as_many {m} all kept same = sym (in_use kept) ∙ ap length same ∙ length-take m all
 
 -- A table that is that of an entry is handed over for it.
 pub handed : (bs : List ℕ) (e : Entry) (t : TableArrays) → as_table t ≡ table_at bs e → HandedOver bs e t

@@ -33,6 +33,14 @@ table_at bs e =
 abbrev pub as_table : TableArrays → Table
 as_table t = record { weights = take t.faults t.weights; present = take t.ways t.present; absent = take t.ways t.absent }
 
+-- The weights of the one are those of the other, to the last number of their arrays.
+abbrev pub SameWeights : TableArrays → TableArrays → Type 0
+SameWeights t u = (t.faults ≡ u.faults) × (t.weights ≡ u.weights)
+
+-- The ways of the one are those of the other, to the last word of their arrays.
+abbrev pub SameWays : TableArrays → TableArrays → Type 0
+SameWays t u = (t.ways ≡ u.ways) × (t.present ≡ u.present) × (t.absent ≡ u.absent)
+
 -- A table handed over for an entry: which it is, and that its arrays have zeros behind it, so that they can be told whole.
 pub record HandedOver (bs : List ℕ) (e : Entry) (t : TableArrays) : Type 0 where
   pub table : as_table t ≡ table_at bs e

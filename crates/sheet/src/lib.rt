@@ -12,3 +12,5 @@ pub mod reader;
 pub mod refusals;
 pub mod rows;
 pub mod table;
+#[cfg(test)]
+mod tests;

@@ -44,9 +44,9 @@ impl Default for TableArrays {
 }
 
 impl TableArrays {
-    ghost use Rattle.std.specs.Prelude.{map, take};
+    ghost use Rattle.std.specs.Prelude.{◌∷◌, [], ◌++◌, ◌+◌, ◌-◌, ◌<◌, ◌↔◌, IsSome, IfSome, IfNone, length, map, min, take};
     ghost use Rattle.rules.specs.Table.{table};
-    ghost use Rattle.sheet.specs.Handed.{as_table};
+    ghost use Rattle.sheet.specs.Handed.{as_table, SameWeights, SameWays};
 
     /// Its weights.
     pub fn weights(&self) -> &[u32]
@@ -72,48 +72,106 @@ impl TableArrays {
     /// It has no weight from now on.
     fn clear_weights(&mut self)
         ensures faults { self.new.faults ≡ 0 }
-        ensures present { (as_table self.new).present ≡ (as_table self.old).present }
-        ensures absent { (as_table self.new).absent ≡ (as_table self.old).absent }
+        ensures ways { SameWays self.new self.old }
     {
         while self.faults > 0 {
-            self.faults -= 1;
-            self.weights[self.faults] = 0;
+            let _ = self.pop_weight();
         }
     }
 
     /// It has no way from now on.
     fn clear_ways(&mut self)
         ensures ways { self.new.ways ≡ 0 }
-        ensures weights { (as_table self.new).weights ≡ (as_table self.old).weights }
+        ensures weights { SameWeights self.new self.old }
     {
         while self.ways > 0 {
-            self.ways -= 1;
-            self.present[self.ways] = 0;
-            self.absent[self.ways] = 0;
+            let _ = self.pop_way();
         }
+    }
+
+    /// Its last weight, if it has any, which is gone from now on.
+    pub fn pop_weight(&mut self) -> Option<u32>
+        ensures variant { IsSome result ↔ (0 < self.old.faults) }
+        ensures weights { IfSome result (λ w. (as_table self.old).weights ≡ (as_table self.new).weights ++ w ∷ []) }
+        ensures faults { self.new.faults ≡ self.old.faults - 1 }
+        ensures ways { SameWays self.new self.old }
+        ensures empty { IfNone result (self.new ≡ self.old) }
+    {
+        if self.faults == 0 {
+            return None;
+        }
+        self.faults -= 1;
+        let weight = self.weights[self.faults];
+        self.weights[self.faults] = 0;
+        Some(weight)
+    }
+
+    /// Its last way, if it has any, which is gone from now on.
+    pub fn pop_way(&mut self) -> Option<Words>
+        ensures variant { IsSome result ↔ (0 < self.old.ways) }
+        ensures present { IfSome result (λ w. (as_table self.old).present ≡ (as_table self.new).present ++ w.present ∷ []) }
+        ensures absent { IfSome result (λ w. (as_table self.old).absent ≡ (as_table self.new).absent ++ w.absent ∷ []) }
+        ensures ways { self.new.ways ≡ self.old.ways - 1 }
+        ensures weights { SameWeights self.new self.old }
+        ensures empty { IfNone result (self.new ≡ self.old) }
+    {
+        if self.ways == 0 {
+            return None;
+        }
+        self.ways -= 1;
+        let present = self.present[self.ways];
+        let absent = self.absent[self.ways];
+        self.present[self.ways] = 0;
+        self.absent[self.ways] = 0;
+        Some(Words { present, absent })
+    }
+
+    /// It has this weight too from now on, behind the others. There must be room.
+    pub fn push_weight(&mut self, weight: u32)
+        requires { self.old.faults < 64 }
+        ensures weights { (as_table self.new).weights ≡ (as_table self.old).weights ++ weight ∷ [] }
+        ensures faults { self.new.faults ≡ self.old.faults + 1 }
+        ensures ways { SameWays self.new self.old }
+    {
+        self.weights[self.faults] = weight;
+        self.faults += 1;
+    }
+
+    /// It has this way too from now on, behind the others. There must be room.
+    pub fn push_way(&mut self, way: Words)
+        requires { self.old.ways < 128 }
+        ensures present { (as_table self.new).present ≡ (as_table self.old).present ++ way.present ∷ [] }
+        ensures absent { (as_table self.new).absent ≡ (as_table self.old).absent ++ way.absent ∷ [] }
+        ensures ways { self.new.ways ≡ self.old.ways + 1 }
+        ensures weights { SameWeights self.new self.old }
+    {
+        self.present[self.ways] = way.present;
+        self.absent[self.ways] = way.absent;
+        self.ways += 1;
     }
 
     /// Its weights are these from now on.
     pub fn set_weights(&mut self, weights: Parts<'_, u32>)
-        ensures { as_table self.new ≡ table (take 64 weights.entry) (as_table self.old).present (as_table self.old).absent }
+        ensures table { as_table self.new ≡ table (take 64 weights.entry) (as_table self.old).present (as_table self.old).absent }
+        ensures faults { self.new.faults ≡ min 64 (length weights.entry) }
+        ensures ways { SameWays self.new self.old }
     {
         self.clear_weights();
         for weight in weights.take(MOST_FAULTS) {
-            self.weights[self.faults] = weight;
-            self.faults += 1;
+            self.push_weight(weight);
         }
     }
 
     /// Its ways are these from now on.
     pub fn set_ways(&mut self, ways: Parts<'_, Words>)
-        ensures { as_table self.new ≡ table (as_table self.old).weights
+        ensures table { as_table self.new ≡ table (as_table self.old).weights
             (take 128 (map (λ w. w.present) ways.entry)) (take 128 (map (λ w. w.absent) ways.entry)) }
+        ensures ways { self.new.ways ≡ min 128 (length ways.entry) }
+        ensures weights { SameWeights self.new self.old }
     {
         self.clear_ways();
         for way in ways.take(MOST_WAYS) {
-            self.present[self.ways] = way.present;
-            self.absent[self.ways] = way.absent;
-            self.ways += 1;
+            self.push_way(way);
         }
     }
 }

@@ -18,7 +18,7 @@ pub struct Damage {
 
 impl Damage {
     /// Reads a damage.
-    pub fn read<R: Read + Drop>(input: &mut Numbers<R>) -> Self {
+    pub fn read<R: Read + Drop>(input: &mut Numbers<R, ()>) -> Self {
         Damage {
             record: input.number() as usize,
             field: input.number() as usize,

@@ -37,7 +37,11 @@ fn answer<W: Write>(table: &Table, request: Request, tree: &mut Tree, out: &mut 
 
 /// Reads one script and makes it, each line with the tree that the one before left. It starts with 1 if its table is opened, with 0 if the
 /// tree of the script before is handed on.
-fn script<R: Read + Drop, W: Write>(input: &mut Numbers<R>, tree: &mut Tree, out: &mut Output<W>) {
+fn script<R: Read + Drop, W: Write>(
+    input: &mut Numbers<R, ()>,
+    tree: &mut Tree,
+    out: &mut Output<W>,
+) {
     let opens = input.number() != 0;
     let table = Table::read(input);
     if opens {
@@ -50,7 +54,7 @@ fn script<R: Read + Drop, W: Write>(input: &mut Numbers<R>, tree: &mut Tree, out
 
 /// Makes all scripts.
 fn main(rt: HostRuntime) {
-    let mut input = Numbers::new(rt.reader());
+    let mut input = Numbers::unbuffered(rt.reader());
     let mut out = Output(io::writer(&rt));
     let mut tree = NO_NODES;
     for _ in 0..input.number() {

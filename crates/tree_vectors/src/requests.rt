@@ -33,7 +33,7 @@ pub enum Request {
 
 /// Reads what a hand refinement does: 0 for independence, 2 for the common part, else for a fault, then the fault's number. Not by `kind_asked`, as C has
 /// it: there a number above 2 asks for a fault that no table has.
-fn kind_read<R: Read + Drop>(input: &mut Numbers<R>) -> Kind {
+fn kind_read<R: Read + Drop>(input: &mut Numbers<R, ()>) -> Kind {
     let what = input.number();
     let fault = input.number();
     match what {
@@ -45,12 +45,12 @@ fn kind_read<R: Read + Drop>(input: &mut Numbers<R>) -> Kind {
 
 impl Call {
     /// Reads the call of this code, 0 for a hand refinement and 1 for a run.
-    fn read<R: Read + Drop>(code: u64, input: &mut Numbers<R>) -> Self {
+    fn read<R: Read + Drop>(code: u64, input: &mut Numbers<R, ()>) -> Self {
         match code {
             0 => {
                 let steps = input.list_length(STEPS);
                 Call::Refine {
-                    place: input.list(steps, u8::MAX),
+                    place: input.array(steps, u8::MAX),
                     kind: kind_read(input),
                 }
             }
@@ -65,7 +65,7 @@ impl Call {
 
 impl Request {
     /// Reads a line: 0 or 1 for a call, 2 for a call on a damaged tree, 3 for the places, else for a call that is tried.
-    pub fn read<R: Read + Drop>(input: &mut Numbers<R>) -> Self {
+    pub fn read<R: Read + Drop>(input: &mut Numbers<R, ()>) -> Self {
         match input.number() {
             code if code < 2 => Request::Call(Call::read(code, input)),
             2 => {

@@ -29,14 +29,14 @@ pub struct Table {
 
 impl Table {
     /// Reads a table: the lengths of its lists, then the lists.
-    pub fn read<R: Read + Drop>(input: &mut Numbers<R>) -> Self {
+    pub fn read<R: Read + Drop>(input: &mut Numbers<R, ()>) -> Self {
         let faults = input.list_length(WEIGHTS);
         let presents = input.list_length(WAYS);
         let absents = input.list_length(WAYS);
         Table {
-            weights: input.list(faults, u32::MAX),
-            present: input.list(presents, u64::MAX),
-            absent: input.list(absents, u64::MAX),
+            weights: input.array(faults, u32::MAX),
+            present: input.array(presents, u64::MAX),
+            absent: input.array(absents, u64::MAX),
         }
     }
 

@@ -32,18 +32,18 @@ pub struct Gathered {
 
 impl Gathered {
     /// Reads a case's lists: the length of each, the lists, and the limits.
-    pub fn read<R: Read + Drop>(input: &mut Numbers<R>) -> Self {
+    pub fn read<R: Read + Drop>(input: &mut Numbers<R, ()>) -> Self {
         let faults = input.list_length(WEIGHTS);
         let cues = input.list_length(CUES);
         let counted = input.list_length(CUES);
         let presents = input.list_length(WAYS);
         let absents = input.list_length(WAYS);
         Gathered {
-            weights: input.list(faults, u32::MAX),
-            numbers: input.list(cues, u16::MAX),
-            counts: input.list(counted, u16::MAX),
-            present: input.list(presents, u64::MAX),
-            absent: input.list(absents, u64::MAX),
+            weights: input.array(faults, u32::MAX),
+            numbers: input.array(cues, u16::MAX),
+            counts: input.array(counted, u16::MAX),
+            present: input.array(presents, u64::MAX),
+            absent: input.array(absents, u64::MAX),
             limits: Limits {
                 allowance: input.number(),
                 budget: input.number(),

@@ -25,7 +25,7 @@ const SPACE: usize = LONGEST_SHEET + 8;
 const BLANK: u8 = 170;
 
 /// Prints the name that stands before the next colon, and the colon.
-fn print_name<R: Read + Drop, W: Write>(input: &mut Numbers<R>, out: &mut Output<W>) {
+fn print_name<R: Read + Drop, W: Write>(input: &mut Numbers<R, ()>, out: &mut Output<W>) {
     for _ in 0..NAME {
         let byte = input.byte();
         out.write_all(&[byte]);
@@ -55,7 +55,7 @@ fn back<W: Write>(sheet: &[u8], out: &mut Output<W>) {
 
 /// Makes a case: its name, its lists, and the length lent of a space. Prints what is in the space after writing, and reads back an accepted
 /// sheet.
-fn case<R: Read + Drop, W: Write>(input: &mut Numbers<R>, out: &mut Output<W>) {
+fn case<R: Read + Drop, W: Write>(input: &mut Numbers<R, ()>, out: &mut Output<W>) {
     print_name(input, out);
     let gathered = Gathered::read(input);
     let lent = input.list_length(SPACE);
@@ -71,7 +71,7 @@ fn case<R: Read + Drop, W: Write>(input: &mut Numbers<R>, out: &mut Output<W>) {
 
 /// Makes all cases.
 fn main(rt: HostRuntime) {
-    let mut input = Numbers::new(rt.reader());
+    let mut input = Numbers::unbuffered(rt.reader());
     let mut out = Output(io::writer(&rt));
     for _ in 0..input.number() {
         case(&mut input, &mut out);

@@ -1,0 +1,2 @@
+-- The proofs of what test programs read.
+mod Whole
